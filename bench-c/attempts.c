@@ -17,12 +17,10 @@ static void break_at_event(const struct bench *b);
 /* One time in two a few turns, and one time in 64 another thread's turn; by steps, a step. Nobody is met in a look. */
 static void pause_sometimes(tmwatch_attempt *a, unsigned pauses)
 {
-    uint64_t most = a->looks ? 0 : a->bench->plan->pause;
-    if (by_steps(a->bench)) {
+    uint64_t most = a->looks ? 0 : a->bench->plan.pause;
+    if (by_steps(a->bench))
         step(a, pauses);
-        return;
-    }
-    if (most == 0)
+    if (by_steps(a->bench) || most == 0)
         return;
     bool waits = draw(&a->pauses, 2) == 0;
     for (volatile uint64_t turns = waits ? draw(&a->pauses, most) : 0; turns > 0; turns--)
@@ -31,17 +29,17 @@ static void pause_sometimes(tmwatch_attempt *a, unsigned pauses)
         sched_yield();
 }
 
-void tmwatch_step_at(const void *caller)
+void tmwatch_step_at(const void *caller, unsigned pauses)
 {
     if (!this_thread)
         return;
     this_thread->caller = caller;
-    pause_sometimes(this_thread, 1);
+    pause_sometimes(this_thread, pauses);
 }
 
 void tmwatch_pause(void)
 {
-    tmwatch_step_at(__builtin_return_address(0));
+    tmwatch_step_at(TMWATCH_CALLER, 1);
 }
 
 unsigned tmwatch_thread(void)
@@ -107,26 +105,19 @@ static void note_answer(tmwatch_attempt *a, char letter, uint64_t value)
         stop(a->bench, status);
 }
 
-/* Counts the commits of others that were recorded within the attempt, at least. */
-static void count_foreign(tmwatch_attempt *a)
-{
-    uint64_t committed = a->bench->committed;
-    if (committed > a->before && committed - a->before > a->foreign)
-        a->foreign = committed - a->before;
-}
-
 /* Records that the attempt has ended. None follows one that has committed, or was asked to abort. */
 static void end_attempt(tmwatch_attempt *a, bool has_committed)
 {
     struct bench *b = a->bench;
-    count_foreign(a);
+    uint64_t committed = b->committed; /* with those of others that were recorded within the attempt, at least */
+    if (committed > a->before && committed - a->before > a->foreign)
+        a->foreign = committed - a->before;
     b->asked += has_committed;
     note_answer(a, has_committed ? 'C' : 'A', 0);
     b->committed += has_committed;
     if (b->orders)
         tmwatch_orders_ends(b->orders, a->thread);
-    a->is_done = has_committed || a->has_asked;
-    if (a->is_done)
+    if (has_committed || a->has_asked)
         a->made = a->most;
     if (a->writes && (has_committed || !a->has_asked))
         atomic_fetch_or(has_committed ? &b->stored : &b->refused, a->writes);
@@ -136,8 +127,12 @@ static void end_attempt(tmwatch_attempt *a, bool has_committed)
 }
 
 static bool may_look(tmwatch_attempt *a);
-static bool is_look_due(const struct bench *b);
 static bool take_permit(tmwatch_attempt *a);
+
+static bool is_look_due(const struct bench *b)
+{
+    return b->attempted >= b->next_look;
+}
 
 /* Whether a further attempt may begin. By permits it is put off if a look is due, which then comes between two attempts. */
 static bool may_begin(tmwatch_attempt *a)
@@ -159,7 +154,7 @@ bool tmwatch_begins(tmwatch_attempt *a)
     a->made++;
     a->tried++;
     a->is_live = true;
-    a->has_called = a->is_done = false;
+    a->has_called = false;
     a->writes = 0;
     a->turn = (tmwatch_turn)TMWATCH_FIRST_TURN;
     draw_values(a);
@@ -170,7 +165,7 @@ bool tmwatch_begins(tmwatch_attempt *a)
 /* Has the memory make a call that is recorded: false if the memory has aborted. */
 static bool make_call(tmwatch_attempt *a, const tmwatch_call *call)
 {
-    const tmwatch_memory *m = a->bench->memory;
+    const tmwatch_memory *m = &a->bench->memory;
     unsigned reg = (unsigned)call->register_number;
     uint64_t value = 0;
     bool is_done;
@@ -226,28 +221,20 @@ static bool run_once(const tmwatch_memory *m, tmwatch_attempt *a)
     return false;
 }
 
-/* Has the memory make an attempt, or several by itself: whether the last one has committed. */
-static bool run_some(const tmwatch_memory *m, tmwatch_attempt *a)
-{
-    if (m->run)
-        set_place(a, IN_RUN, 0);
-    bool has_committed = m->run ? m->run(m->memory, a->tx, a) : run_once(m, a);
-    set_place(a, OUTSIDE, 0);
-    return has_committed;
-}
-
 static void look_within(tmwatch_attempt *a);
 
 /* Makes the thread's transaction, until it has ended or no attempt is left. A `run` that begins none makes none. */
 static void make_transaction(tmwatch_attempt *a)
 {
-    const tmwatch_memory *m = a->bench->memory;
+    const tmwatch_memory *m = &a->bench->memory;
     bool goes_on = true;
     a->made = 0;
     a->has_asked = a->is_put_off = false;
     while (goes_on && a->made < a->most) {
         uint64_t before = a->tried;
-        bool has_committed = run_some(m, a);
+        set_place(a, m->run ? IN_RUN : OUTSIDE, 0);
+        bool has_committed = m->run ? m->run(m->memory, a->tx, a) : run_once(m, a);
+        set_place(a, OUTSIDE, 0);
         pause_sometimes(a, 0);
         if (a->is_live)
             end_attempt(a, has_committed);
@@ -278,10 +265,7 @@ static void wait_for_room(tmwatch_attempt *a)
     struct bench *b = a->bench;
     uint32_t status = TMWATCH_FULL;
     while (!b->stops && (status = tmwatch_room(a->recorder, b->room)) == TMWATCH_FULL)
-        if (by_steps(b))
-            nap(50);
-        else
-            sched_yield();
+        rest(b);
     /* The watch's 2^40 places come to their end: so do the rounds. */
     if (status == TMWATCH_SPENT)
         b->stops = true;

@@ -24,6 +24,7 @@ enum {
     MOST_USES = 16,
     MOST_CALLS = 2 * MOST_USES + 1,
     MOST_REGISTERS = 8,
+    APART = 128, /* bytes */
     KEPT = 1 << 17,
     MOST_LOOKED = KEPT / 2, /* events of one look */
     LOOK = 64,
@@ -56,7 +57,7 @@ struct tmwatch_attempt {
     tmwatch_turn turn;
     atomic_uint inside;                  /* in which function of the memory it is, and with which register (a `place`, and 256 times it) */
     bool is_live, has_called, has_asked; /* an attempt is recorded and not ended; its calls are made; it has asked to abort */
-    bool is_done, is_put_off; /* it has committed or aborted as asked; by permits, a look comes before its next attempt */
+    bool is_put_off;          /* by permits, a look comes before its next attempt */
     unsigned writes;          /* which registers the attempt has asked to write */
     uint64_t made, most;  /* how many attempts were begun, or all, since none is to follow; and how many there may be */
     uint64_t tried;       /* how many attempts were begun, of all transactions */
@@ -110,12 +111,6 @@ struct steps {
     uint64_t inner;          /* how many steps were the memory's own */
 };
 
-/* What the watchdog of the steps has seen last. */
-struct watchdog {
-    uint64_t looked, steps, used, sleeps;
-    int runner;
-};
-
 /* Where a thread is: in none of the memory's functions, or in one. */
 enum place { OUTSIDE, IN_BEGIN, IN_READ, IN_WRITE, IN_ADD, IN_COMMIT, IN_ABORT, IN_RUN };
 
@@ -124,7 +119,7 @@ struct worker {
     pthread_t thread;
     sem_t goes;
     tmwatch_attempt *attempt; /* of the next leg, or null, where none follows */
-    void *tx;
+    _Alignas(max_align_t) char tx[];
 };
 
 /* What goes on from one leg to the next. */
@@ -142,10 +137,8 @@ struct session {
 
 struct bench {
     struct session *session; /* of the judge alone: threads that are stuck outlive it */
-    tmwatch_memory own_memory;
-    tmwatch_plan own_plan;
-    const tmwatch_memory *memory; /* these two */
-    const tmwatch_plan *plan;
+    tmwatch_memory memory;
+    tmwatch_plan plan;
     uint64_t attempts, room;
     uint64_t most_time; /* how many microseconds the leg may take; 0: any time */
     tmwatch watch;
@@ -159,13 +152,16 @@ struct bench {
     struct steps steps;
     tmwatch_simulation *orders; /* by the orders of C++20: the memory that is simulated; or null */
     atomic_bool is_told;        /* of that memory is told: no access is simulated any more */
-    struct watchdog watchdog;
+    struct watchdog {
+        uint64_t looked, steps, used, sleeps;
+        int runner;
+    } watchdog; /* what the watchdog of the steps has seen last */
     atomic_uint_least32_t fault; /* the first status of the watch that wasn't to be */
     atomic_bool stops, is_late;  /* no round is to follow, since something is wrong, or since the time is up */
     atomic_bool has_no_time;     /* no leg is to follow, since the time of all is up */
     atomic_bool is_over;         /* no round follows */
     bool is_stuck;               /* no event has come for too long */
-    uint64_t idle;               /* for how many microseconds */
+    uint64_t idle, moved;        /* for how many microseconds; and how far the rounds were at the judge's last look */
     atomic_uint_least64_t asked, committed; /* how many commits are recorded, or about to be; and how many are recorded */
     atomic_uint refused, stored; /* since the last look, which registers were written by attempts that were rolled back, or committed */
     uint64_t looked;             /* how many values looks have written */

@@ -12,14 +12,6 @@ static uint64_t draw(uint64_t *draws, uint64_t below)
     return (word ^ word >> 31) % below;
 }
 
-/* Sets what a thread draws from. */
-static void set_draws(tmwatch_attempt *a)
-{
-    a->draws = a->bench->plan->seed * MOST_THREADS + a->thread;
-    a->addends = ~a->draws;
-    a->pauses = a->draws ^ apart_rounds;
-}
-
 static bool is_start(const tmwatch_plan *plan, uint64_t value)
 {
     for (unsigned reg = 0; reg < plan->registers; reg++)
@@ -34,7 +26,7 @@ static uint64_t fresh_value(tmwatch_attempt *a)
     uint64_t value;
     do
         value = (++a->written * MOST_THREADS + a->thread) * apart_values;
-    while (is_start(a->bench->plan, value));
+    while (is_start(&a->bench->plan, value));
     return value;
 }
 
@@ -44,8 +36,7 @@ static uint64_t look_value(struct bench *b)
     return ((UINT64_C(1) << 63) + ++b->looked) * apart_values;
 }
 
-/* Draws what an attempt writes and adds: other values than the one before. An addend is any number below 2^64 - 1, so that no sum is likely
-   to come twice. */
+/* Draws what an attempt writes and adds: other values than the one before. With addends below 2^64 - 1, hardly a sum comes twice. */
 static void draw_values(tmwatch_attempt *a)
 {
     for (tmwatch_call *call = a->calls; call < a->calls + a->count; call++)
@@ -63,7 +54,7 @@ static void add_call(tmwatch_attempt *a, char letter, uint64_t reg)
 /* A transaction uses registers, one after another: it adds to one, or reads it, and then may write it. A blind one writes each. */
 static void draw_transaction(tmwatch_attempt *a)
 {
-    const tmwatch_plan *plan = a->bench->plan;
+    const tmwatch_plan *plan = &a->bench->plan;
     a->looks = false;
     a->most = plan->attempts > 0 && plan->attempts < a->left ? plan->attempts : a->left;
     a->count = 0;
@@ -71,7 +62,7 @@ static void draw_transaction(tmwatch_attempt *a)
     bool is_blind = draw(&a->draws, 100) < plan->blinds && plan->writes > 0;
     for (uint64_t used = 0; used < a->uses; used++) {
         uint64_t reg = draw(&a->draws, plan->registers);
-        bool adds = draw(&a->draws, 100) < plan->adds && a->bench->memory->add;
+        bool adds = draw(&a->draws, 100) < plan->adds && a->bench->memory.add;
         bool writes = draw(&a->draws, 100) < plan->writes && !adds;
         if (!is_blind)
             add_call(a, adds ? 'N' : 'R', reg);
@@ -81,12 +72,11 @@ static void draw_transaction(tmwatch_attempt *a)
     add_call(a, asks_abort ? 'X' : 'T', 0);
 }
 
-/* Draws whether the round is mixed: one thread makes one long transaction, and some others several short ones. All threads draw the same,
-   and go on from *draws. */
+/* Draws whether the round is mixed: one thread makes a long transaction, others several short ones. All draw the same, from *draws on. */
 static bool draw_mix(const struct bench *b, uint64_t *draws)
 {
-    *draws = b->plan->seed * apart_rounds + b->round;
-    return !by_permits(b) && b->plan->threads > 1 && draw(draws, 100) < b->plan->mixes;
+    *draws = b->plan.seed * apart_rounds + b->round;
+    return !by_permits(b) && b->plan.threads > 1 && draw(draws, 100) < b->plan.mixes;
 }
 
 /* How many registers the long transaction of a mixed round uses. */
@@ -95,11 +85,10 @@ static uint64_t long_uses(const tmwatch_plan *plan)
     return 2 * plan->calls < MOST_USES ? 2 * plan->calls : MOST_USES;
 }
 
-/* Draws the thread's share of a round: whether that is mixed. Then all have eight attempts together, of which the long transaction has
-   one. */
+/* Draws the thread's share of a round: whether that is mixed. Then all have eight attempts, of which the long transaction has one. */
 static bool draw_share(tmwatch_attempt *a)
 {
-    const tmwatch_plan *plan = a->bench->plan;
+    const tmwatch_plan *plan = &a->bench->plan;
     uint64_t draws, threads = plan->threads;
     a->uses = plan->calls;
     a->left = a->bench->attempts;

@@ -23,34 +23,16 @@ static uint64_t judge_some(struct bench *b)
     return judged;
 }
 
-/* Lets others run, since nothing is to be judged. */
-static void rest(const struct bench *b)
-{
-    if (by_steps(b))
-        nap(100);
-    else
-        sched_yield();
-}
-
-/* How the judge waits: since when, how far the rounds and the judge were at its last look, and how long nothing has come. */
-struct waiting {
-    uint64_t looked, moved, idle;
-};
-
-/* A look at the time counts for no more than this, so that what stops the whole process, as a debugger, isn't taken for a wait. */
+/* A look at the time counts for no more than MOST_WAITED, so that what stops the whole process, as a debugger, isn't taken for a wait. */
 enum { MOST_WAITED = SECOND / 10, SHOWN_EACH = SECOND / 2, INTERRUPTED_WAIT = SECOND / 2 };
 
-/* Looks at the time: whether nothing has come for too long. An interrupt waits for no more than half a second. */
-static bool is_idle(struct bench *b, struct waiting *w, uint64_t judged)
+/* Whether nothing has come for too long, after so much more time. An interrupt waits for no more than half a second. */
+static bool is_idle(struct bench *b, uint64_t passed, uint64_t judged)
 {
-    uint64_t now = microseconds_of(CLOCK_MONOTONIC), passed = now - w->looked, moved = b->round + b->attempted + b->ended;
-    w->idle = judged > 0 || moved != w->moved ? 0 : w->idle + (passed < MOST_WAITED ? passed : MOST_WAITED);
-    w->looked = now;
-    w->moved = moved;
-    b->idle = w->idle;
-    if (is_interrupted && w->idle >= INTERRUPTED_WAIT)
-        return true;
-    return b->plan->patience > 0 && w->idle / SECOND >= b->plan->patience;
+    uint64_t moved = b->round + b->attempted + b->ended;
+    b->idle = judged > 0 || moved != b->moved ? 0 : b->idle + (passed < MOST_WAITED ? passed : MOST_WAITED);
+    b->moved = moved;
+    return (is_interrupted && b->idle >= INTERRUPTED_WAIT) || (b->plan.patience > 0 && b->idle / SECOND >= b->plan.patience);
 }
 
 /* Shows how far all legs are. */
@@ -59,22 +41,22 @@ static void show_progress(struct bench *b, uint64_t now)
     const tmwatch_benched *all = &b->session->all;
     tmwatch_counts counts;
     tmwatch_told told;
-    if (!b->plan->progress || now - b->session->shown < SHOWN_EACH)
+    if (!b->plan.progress || now - b->session->shown < SHOWN_EACH)
         return;
     b->session->shown = now;
     if (tmwatch_summary(&b->watch, &counts) != TMWATCH_DONE || tmwatch_report(&b->watch, &told) != TMWATCH_DONE)
         return;
     uint64_t rounds = all->rounds + (by_permits(b) || b->round == 0 ? 0 : b->round - 1);
-    fprintf(b->plan->progress, "\r\033[K%llu rounds, %llu events, %llu unasked aborts", (unsigned long long)rounds,
+    fprintf(b->plan.progress, "\r\033[K%llu rounds, %llu events, %llu unasked aborts", (unsigned long long)rounds,
             (unsigned long long)(all->told.events + told.events), (unsigned long long)(all->counts.unasked + counts.unasked));
-    fflush(b->plan->progress);
+    fflush(b->plan.progress);
 }
 
 /* Looks whether the leg's time is up, or that of all. */
 static void look_for_end(struct bench *b, uint64_t leg_began, uint64_t now)
 {
     struct session *session = b->session;
-    if (is_interrupted || (b->plan->seconds > 0 && (now - session->began) / SECOND >= b->plan->seconds))
+    if (is_interrupted || (b->plan.seconds > 0 && (now - session->began) / SECOND >= b->plan.seconds))
         b->has_no_time = session->is_late = true;
     if (session->is_late || (b->most_time > 0 && now - leg_began >= b->most_time))
         b->is_late = true;
@@ -83,17 +65,18 @@ static void look_for_end(struct bench *b, uint64_t leg_began, uint64_t now)
 /* Judges until all threads have ended, and then what is left; or until nothing has come for too long. */
 static void judge(struct bench *b)
 {
-    uint64_t began = microseconds_of(CLOCK_MONOTONIC);
-    struct waiting w = {began, 0, 0};
-    while (b->ended < b->plan->threads && !b->is_stuck) {
+    uint64_t began = microseconds_of(CLOCK_MONOTONIC), looked = began;
+    while (b->ended < b->plan.threads && !b->is_stuck) {
         uint64_t judged = judge_some(b);
         if (judged == 0)
             rest(b);
+        uint64_t now = microseconds_of(CLOCK_MONOTONIC);
         if (by_steps(b))
-            watch_steps(b);
-        b->is_stuck = is_idle(b, &w, judged);
-        show_progress(b, w.looked);
-        look_for_end(b, began, w.looked);
+            watch_steps(b, now);
+        b->is_stuck = is_idle(b, now - looked, judged);
+        looked = now;
+        show_progress(b, now);
+        look_for_end(b, began, now);
     }
     /* What is stuck may come back: then it ends. */
     if (b->is_stuck)
@@ -110,7 +93,7 @@ static void tell_places(struct bench *b)
         fputs("interrupted, and no event for half a second\n", stderr);
     else
         fprintf(stderr, "no event for %llu seconds\n", (unsigned long long)(b->idle / SECOND));
-    for (unsigned i = 0; i < b->plan->threads; i++) {
+    for (unsigned i = 0; i < b->plan.threads; i++) {
         unsigned inside = b->parts[i].inside, place = inside % 256;
         /* What the trace is written from is kept. */
         (void)b->parts[i].keeps;
@@ -126,8 +109,8 @@ static void tell_places(struct bench *b)
 /* Tells how the memory has lost progress. */
 static void tell_lost(struct bench *b)
 {
-    if (b->plan->progress)
-        fputs("\r\033[K", b->plan->progress);
+    if (b->plan.progress)
+        fputs("\r\033[K", b->plan.progress);
     if (b->is_stuck) {
         tell_places(b);
         return;

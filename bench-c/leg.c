@@ -1,7 +1,6 @@
 /* A leg: threads run by one plan, what they record is judged, and what came out is counted. */
 
-/* How many rounds were run, up to the one of a violation by steps; or transactions begun by each thread. In rounds, the threads meet once
-   more than there are rounds. */
+/* How many rounds were run, by steps up to a violation's; or transactions begun by each thread. The threads meet once more in rounds. */
 static uint64_t count_rounds(const struct bench *b, const tmwatch_told *told)
 {
     uint64_t rounds = UINT64_MAX;
@@ -9,7 +8,7 @@ static uint64_t count_rounds(const struct bench *b, const tmwatch_told *told)
         return told->at > 0 ? round_of(b, told->at) : b->round;
     if (!by_permits(b))
         return b->round > 0 ? b->round - 1 : 0;
-    for (unsigned i = 0; i < b->plan->threads; i++) {
+    for (unsigned i = 0; i < b->plan.threads; i++) {
         uint64_t begun = b->parts[i].begun;
         rounds = begun < rounds ? begun : rounds;
     }
@@ -22,21 +21,20 @@ static uint32_t close_watch(struct bench *b, tmwatch_benched *out)
     uint32_t status = b->fault;
     if (status == TMWATCH_DONE)
         status = tmwatch_summary(&b->watch, &out->counts);
-    if (status == TMWATCH_DONE && b->is_stuck)
-        return tmwatch_report(&b->watch, &out->told);
+    if (b->is_stuck)
+        return status == TMWATCH_DONE ? tmwatch_report(&b->watch, &out->told) : status;
     if (status == TMWATCH_DONE)
-        status = tmwatch_close(&b->watch, b->recorders, b->plan->threads, &out->told);
-    for (unsigned i = 0; i < b->plan->threads && !b->is_stuck; i++)
+        status = tmwatch_close(&b->watch, b->recorders, b->plan.threads, &out->told);
+    for (unsigned i = 0; i < b->plan.threads; i++)
         tmwatch_discard_recorder(&b->recorders[i]);
-    if (!b->is_stuck)
-        tmwatch_discard(&b->watch);
+    tmwatch_discard(&b->watch);
     return status;
 }
 
 /* Adds up what the threads have counted. */
 static void count_threads(struct bench *b, tmwatch_benched *out)
 {
-    for (unsigned i = 0; i < b->plan->threads; i++) {
+    for (unsigned i = 0; i < b->plan.threads; i++) {
         const tmwatch_attempt *a = &b->parts[i];
         out->stores += a->stores;
         out->foreign = a->foreign > out->foreign ? a->foreign : out->foreign;
@@ -96,13 +94,12 @@ static uint32_t run_watched(struct bench *b, tmwatch_benched *out)
 /* Sets how many attempts a transaction has at most, and for how many events room is asked for. */
 static void set_bounds(struct bench *b)
 {
-    const tmwatch_plan *plan = b->plan;
+    const tmwatch_plan *plan = &b->plan;
     uint64_t uses = plan->mixes > 0 && !by_permits(b) ? long_uses(plan) : plan->calls;
     uint64_t events = 4 * uses + 2, look_events = 2 * plan->registers + 2;
     uint64_t all = by_permits(b) ? UINT64_MAX : MOST_ATTEMPTS / plan->threads;
     b->attempts = plan->attempts > 0 ? plan->attempts : all;
-    /* By permits, those of eight attempts. Else a round's, those of the round before, which other threads may still be recording, and a
-       look's. */
+    /* By permits, those of eight attempts. Else those of this round, of the one before, which others may still record, and of a look. */
     if (by_permits(b))
         b->room = MOST_ATTEMPTS * (events > look_events ? events : look_events);
     else
@@ -114,10 +111,8 @@ static uint32_t run_leg(struct bench *b, struct session *session, const tmwatch_
 {
     memset(out, 0, sizeof *out);
     b->session = session;
-    b->own_memory = *session->memory;
-    b->own_plan = *plan;
-    b->memory = &b->own_memory;
-    b->plan = &b->own_plan;
+    b->memory = *session->memory;
+    b->plan = *plan;
     b->looked = session->looked;
     set_bounds(b);
     if (plan->orders == TMWATCH_CXX && by_steps(b) && !(b->orders = tmwatch_orders_new(plan->seed, &b->steps.recorded)))

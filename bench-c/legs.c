@@ -24,9 +24,7 @@ static void draw_plan(tmwatch_plan *plan, uint64_t *draws)
     uint64_t drawn_orders = draw(draws, ORDERED_LEGS);
     bool has_plain = draw(draws, PLAIN_LEGS) == 0, draws_orders = plan->orders == TMWATCH_DRAWN;
     const uint64_t numbers[DRAWN] = {threads, registers, calls, writes, adds, aborts, pause, 50, 10, TMWATCH_SEQUENTIAL};
-    if (is_usual)
-        *plan = usual_plan(plan);
-    fill_in(plan, numbers);
+    *plan = filled_plan(plan, is_usual ? NULL : numbers);
     if (tmwatch_step_drain && plan->schedule == TMWATCH_STEPS) {
         if (draws_orders && drawn_orders <= TMWATCH_CXX)
             plan->orders = drawn_orders;
@@ -54,7 +52,7 @@ static tmwatch_plan plan_of_leg(const struct session *session, uint64_t leg, uin
     if (leg > 0)
         draw_plan(&it, draws);
     else
-        it = usual_plan(&it);
+        it = filled_plan(&it, NULL);
     it.rounds = left < LEG_ROUNDS ? left : LEG_ROUNDS;
     it.round = it.round > session->all.rounds && it.round - session->all.rounds <= LEG_ROUNDS ? it.round - session->all.rounds : 0;
     if (it.schedule != TMWATCH_PERMITS && it.attempts > MOST_ATTEMPTS / it.threads)
@@ -64,35 +62,27 @@ static tmwatch_plan plan_of_leg(const struct session *session, uint64_t leg, uin
     return it;
 }
 
+/* The numbers of what came out that are added up over the legs. */
+#define OF(field) offsetof(tmwatch_benched, field)
+static const size_t summed[] = {
+    OF(told.events),         OF(counts.aborted), OF(counts.committed), OF(counts.cuts), OF(counts.live), OF(counts.overlapping),
+    OF(counts.transactions), OF(counts.unasked), OF(rounds),           OF(steps),       OF(switches),    OF(rescues),
+    OF(stores)};
+
 /* Adds what came out of a leg to what came out of those before. */
 static void add_leg(tmwatch_benched *all, const tmwatch_benched *leg)
 {
-    uint64_t before = all->told.events;
-    tmwatch_counts *to = &all->counts;
-    const tmwatch_counts *of = &leg->counts;
-    all->told = leg->told;
-    all->told.events += before;
-    all->told.at += leg->told.at > 0 ? before : 0;
-    to->none_overlapped = (before == 0 || to->none_overlapped) && of->none_overlapped;
-    to->aborted += of->aborted;
-    to->committed += of->committed;
-    to->cuts += of->cuts;
-    to->live += of->live;
-    to->overlapping += of->overlapping;
-    to->transactions += of->transactions;
-    to->unasked += of->unasked;
-    to->widest = of->widest > to->widest ? of->widest : to->widest;
-    if (leg->shown[0])
-        memcpy(all->shown, leg->shown, sizeof all->shown);
-    all->rounds += leg->rounds;
-    all->steps += leg->steps;
-    all->switches += leg->switches;
-    all->rescues += leg->rescues;
-    all->stores += leg->stores;
-    all->foreign = leg->foreign > all->foreign ? leg->foreign : all->foreign;
-    all->event = leg->event;
-    all->is_undelayed = all->is_undelayed || leg->is_undelayed;
-    all->rejected = leg->rejected;
+    tmwatch_benched before = *all;
+    *all = *leg;
+    for (unsigned i = 0; i < sizeof summed / sizeof summed[0]; i++)
+        *number_of(all, summed[i]) += *number_of(&before, summed[i]);
+    all->foreign = leg->foreign > before.foreign ? leg->foreign : before.foreign;
+    all->counts.widest = leg->counts.widest > before.counts.widest ? leg->counts.widest : before.counts.widest;
+    all->told.at += leg->told.at > 0 ? before.told.events : 0;
+    all->counts.none_overlapped &= before.told.events == 0 || before.counts.none_overlapped;
+    all->is_undelayed |= before.is_undelayed;
+    if (!leg->shown[0])
+        memcpy(all->shown, before.shown, sizeof all->shown);
 }
 
 /* Keeps what the registers hold after a leg: whether that is known, by its last look. */
@@ -100,7 +90,7 @@ static bool keep_start(const struct bench *b, uint64_t events)
 {
     if (events > 0 && !b->kept[(events - 1) % KEPT].looks)
         return false;
-    for (unsigned reg = 0; reg < b->plan->registers && events > 0; reg++)
+    for (unsigned reg = 0; reg < b->plan.registers && events > 0; reg++)
         b->session->start[reg] = value_after(b, events, reg);
     return true;
 }
@@ -153,23 +143,24 @@ static uint32_t run_legs(struct session *session)
     uint64_t draws = plan->seed, leg = 0;
     bool goes_on = true;
     uint32_t status = TMWATCH_DONE;
-    while (goes_on && status == TMWATCH_DONE) {
+    while (goes_on) {
         struct bench *b = calloc(1, sizeof *b);
         if (!b)
             return TMWATCH_MEMORY;
-        tmwatch_plan it = plan->schedule == TMWATCH_ALL ? plan_of_leg(session, leg, &draws) : usual_plan(plan);
+        tmwatch_plan it = plan->schedule == TMWATCH_ALL ? plan_of_leg(session, leg, &draws) : filled_plan(plan, NULL);
         b->most_time = plan->schedule == TMWATCH_ALL && it.schedule != TMWATCH_STEPS ? LEG_MICROSECONDS : 0;
         print_leg(plan->legs, leg + 1, &it);
         status = run_leg(b, session, &it, &out);
         uint64_t before = all->told.events;
         add_leg(all, &out);
         set_again(session, &it, leg++, &out);
-        goes_on = plan->schedule == TMWATCH_ALL && out.told.verdict == TMWATCH_OPAQUE_SO_FAR && !session->is_late &&
-                  !session->is_stuck && out.rejected == 0 && all->rounds < plan->rounds && keep_start(b, out.told.events);
-        if (!goes_on && status == TMWATCH_DONE)
+        goes_on = status == TMWATCH_DONE && plan->schedule == TMWATCH_ALL && out.told.verdict == TMWATCH_OPAQUE_SO_FAR &&
+                  !session->is_late && !session->is_stuck && out.rejected == 0 && all->rounds < plan->rounds &&
+                  keep_start(b, out.told.events);
+        if (!goes_on && status == TMWATCH_DONE) {
             write_end(session, b, &out, before);
-        if (status == TMWATCH_DONE && !goes_on)
             status = session->is_stuck ? TMWATCH_STUCK : out.rejected > 0 ? TMWATCH_NO_PROGRESS : TMWATCH_DONE;
+        }
         /* What is stuck still uses it. */
         if (!session->is_stuck)
             free(b);
@@ -179,14 +170,11 @@ static uint32_t run_legs(struct session *session)
 
 uint32_t tmwatch_bench(const tmwatch_memory *memory, const tmwatch_plan *plan, tmwatch_benched *benched)
 {
-    struct session session;
+    uint64_t now = microseconds_of(CLOCK_MONOTONIC);
     uint32_t status = check(memory, plan);
     if (status != TMWATCH_DONE)
         return status;
-    memset(&session, 0, sizeof session);
-    session.memory = memory;
-    session.plan = plan;
-    session.began = session.shown = microseconds_of(CLOCK_MONOTONIC);
+    struct session session = {.memory = memory, .plan = plan, .began = now, .shown = now};
     memcpy(session.start, plan->start, sizeof session.start);
     status = run_legs(&session);
     if (plan->progress)

@@ -52,14 +52,14 @@ static void look(tmwatch_attempt *a)
     struct bench *b = a->bench;
     unsigned refused = atomic_exchange(&b->refused, 0), stored = atomic_exchange(&b->stored, 0);
     a->looks = true;
-    for (uint64_t reg = 0; reg < b->plan->registers && !b->stops; reg++) {
+    for (uint64_t reg = 0; reg < b->plan.registers && !b->stops; reg++) {
         a->count = 0;
         add_call(a, 'W', reg);
         if (refused & ~stored & 1u << reg)
             make_alone(a);
     }
     a->count = 0;
-    for (uint64_t reg = 0; reg < b->plan->registers; reg++)
+    for (uint64_t reg = 0; reg < b->plan.registers; reg++)
         add_call(a, 'R', reg);
     if (!b->stops)
         make_alone(a);

@@ -4,38 +4,43 @@
 #define TMWATCH_VERSION "(no release)"
 #endif
 
+/* The exit status, once standard output is written. */
+static int end_output(int status)
+{
+    if (fflush(stdout) == 0 && !ferror(stdout))
+        return status;
+    fputs("standard output failed\n", stderr);
+    return 4;
+}
+
 static int tell_help(const char *program)
 {
     printf("usage: %s [OPTION VALUE]..\nRuns random transactions on a memory, and judges whether it is opaque.\n", program);
     for (const struct option *option = options; option->name; option++)
         printf("  %-11s %-10s %s\n", option->name, option->takes, option->text);
     puts("  --help, --version      alone\nStatus: 0 opaque so far, 1 violated, 2 undecided, 3 malformed, 4 a fault");
-    return fflush(stdout) != 0 || ferror(stdout) ? 4 : 0;
+    return end_output(0);
 }
 
-static int tell_version(void)
+/* What is wrong with a plan that can't be run. */
+static const char *wrong_of(const tmwatch_plan *plan)
 {
-    puts("tmwatch_bench " TMWATCH_VERSION);
-    return fflush(stdout) != 0 || ferror(stdout) ? 4 : 0;
+    if (plan->orders == TMWATCH_DRAWN || has_orders(plan))
+        return "a number is out of its range";
+    if (tmwatch_step_drain)
+        return "--orders c++: by steps alone";
+    return "--orders: the memory isn't compiled with -fsanitize=thread and linked with libtmwatch_steps.a";
 }
 
 /* Tells what is wrong with the words, or with the memory. */
 static int tell_usage(const char *wrong, const tmwatch_memory *memory, const tmwatch_plan *plan)
 {
-    puts("{\"fault\":\"usage\"}");
     const char *missing = missing_function(memory);
+    puts("{\"fault\":\"usage\"}");
     if (missing)
         fprintf(stderr, "the memory's function `%s` is null\n", missing);
-    else if (wrong)
-        fprintf(stderr, "wrong, or without its value: %s\n", wrong);
-    else if (plan->orders != TMWATCH_DRAWN && !tmwatch_step_drain && !has_orders(plan))
-        fputs("--orders: the memory isn't compiled with -fsanitize=thread and linked with libtmwatch_steps.a\n", stderr);
-    else if (plan->orders == TMWATCH_CXX && !has_orders(plan))
-        fputs("--orders c++: by steps alone\n", stderr);
     else
-        fputs("a number is out of its range\n", stderr);
-    if (!missing)
-        fputs("--help tells the options\n", stderr);
+        fprintf(stderr, "%s%s\n--help tells the options\n", wrong ? "wrong, or without its value: " : "", wrong ? wrong : wrong_of(plan));
     return 4;
 }
 
@@ -87,8 +92,7 @@ static bool write_run(const char *name, const tmwatch_benched *benched)
     FILE *file = open_beside(name, ".run");
     if (!file)
         return false;
-    print_lines(file, benched);
-    print_again(file, benched);
+    print_lines(file, benched, true);
     return close_file(file);
 }
 
@@ -140,10 +144,8 @@ static bool write_junit(const char *name, const char *program, uint32_t status, 
     if (is_wrong || is_error) {
         fprintf(file, "<%s message=\"%s\">\n", is_wrong ? "failure" : "error",
                 is_wrong ? verdicts[benched->told.verdict] : has_run(status) ? "stuck" : "no verdict");
-        if (has_run(status)) {
-            print_lines(file, benched);
-            print_again(file, benched);
-        }
+        if (has_run(status))
+            print_lines(file, benched, true);
         fprintf(file, "</%s>\n", is_wrong ? "failure" : "error");
     }
     fputs("</testcase>\n</testsuite>\n", file);
@@ -159,10 +161,7 @@ static void end_by_signal(int signal)
 /* An interrupt ends the rounds, and a second one the program. What was ignored stays so. */
 static void catch_signal(int signal, struct sigaction *before)
 {
-    struct sigaction action;
-    memset(&action, 0, sizeof action);
-    action.sa_handler = end_by_signal;
-    action.sa_flags = (int)SA_RESETHAND | SA_RESTART;
+    const struct sigaction action = {.sa_handler = end_by_signal, .sa_flags = (int)SA_RESETHAND | SA_RESTART};
     sigaction(signal, NULL, before);
     if (before->sa_handler != SIG_IGN)
         sigaction(signal, &action, NULL);
@@ -176,10 +175,7 @@ static int tell_result(uint32_t status, const tmwatch_benched *benched)
         return 4;
     }
     tmwatch_bench_print(stdout, benched);
-    if (fflush(stdout) == 0 && !ferror(stdout))
-        return (int)benched->told.verdict;
-    fputs("standard output failed\n", stderr);
-    return 4;
+    return end_output((int)benched->told.verdict);
 }
 
 /* Runs the bench as the words say, and answers with the exit status. */
@@ -216,8 +212,10 @@ int tmwatch_bench_main(const tmwatch_memory *memory, int count, char **words)
     struct given given = {TMWATCH_PLAN, NULL, NULL};
     if (count == 2 && strcmp(words[1], "--help") == 0)
         return tell_help(words[0]);
-    if (count == 2 && strcmp(words[1], "--version") == 0)
-        return tell_version();
+    if (count == 2 && strcmp(words[1], "--version") == 0) {
+        puts("tmwatch_bench " TMWATCH_VERSION);
+        return end_output(0);
+    }
     given.plan.progress = isatty(fileno(stderr)) ? stderr : NULL;
     const char *wrong = read_words(&given, count > 0 ? words + 1 : words);
     if (wrong || check(memory, &given.plan) != TMWATCH_DONE)

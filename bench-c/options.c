@@ -101,8 +101,7 @@ static const char *read_option(struct given *given, const struct option *option,
     return NULL;
 }
 
-/* Reads the words: the first one that is wrong, or none. With a time and without a number of rounds, the time alone counts; with a round to
-   end with, that alone. */
+/* Reads the words: the first one that is wrong, or none. A time counts alone, without --rounds; and so does a round to end with. */
 static const char *read_words(struct given *given, char **words)
 {
     tmwatch_plan *plan = &given->plan;

@@ -1,7 +1,6 @@
 /* By permits: threads run freely, each attempt by one of eight permits. */
 
-/* Takes a permit: whether the attempt may begin. The room is asked for with the permit, since only then the other threads record no more
-   than seven attempts until it is given. */
+/* Takes a permit, and then asks for room: whether the attempt may begin. Until the permit is given, others record seven attempts at most. */
 static bool take_permit(tmwatch_attempt *a)
 {
     struct bench *b = a->bench;
@@ -13,11 +12,6 @@ static bool take_permit(tmwatch_attempt *a)
     }
     b->attempted++;
     return true;
-}
-
-static bool is_look_due(const struct bench *b)
-{
-    return b->attempted >= b->next_look;
 }
 
 /* Looks if no other thread has begun to since that was due. */
@@ -48,8 +42,8 @@ static void look_within(tmwatch_attempt *a)
 static bool go_on(tmwatch_attempt *a)
 {
     struct bench *b = a->bench;
-    if (b->stops || b->is_late || a->begun == b->plan->rounds) {
-        if (atomic_fetch_add(&b->here, 1) + 1 == b->plan->threads)
+    if (b->stops || b->is_late || a->begun == b->plan.rounds) {
+        if (atomic_fetch_add(&b->here, 1) + 1 == b->plan.threads)
             look(a);
         return false;
     }

@@ -2,20 +2,29 @@
 
 static const uint64_t most_pause = 1 << 20;
 
-/* The plan's number that stands there. */
-static uint64_t *number_of(tmwatch_plan *plan, size_t to)
+/* The number that stands there in a plan, or in what came out. */
+static uint64_t *number_of(void *it, size_t at)
 {
-    return (uint64_t *)(void *)((char *)plan + to);
+    return (uint64_t *)(void *)((char *)it + at);
 }
 
 static bool by_permits(const struct bench *b)
 {
-    return b->plan->schedule == TMWATCH_PERMITS;
+    return b->plan.schedule == TMWATCH_PERMITS;
 }
 
 static bool by_steps(const struct bench *b)
 {
-    return b->plan->schedule == TMWATCH_STEPS;
+    return b->plan.schedule == TMWATCH_STEPS;
+}
+
+/* Lets others run. */
+static void rest(const struct bench *b)
+{
+    if (by_steps(b))
+        nap(50);
+    else
+        sched_yield();
 }
 
 /* What a plan may leave to be drawn: where it stands, and what it is where nothing is drawn. */
@@ -27,23 +36,13 @@ static const struct drawn {
              {TO(blinds), 10}, {TO(orders), TMWATCH_SEQUENTIAL}};
 enum { DRAWN = sizeof drawn / sizeof drawn[0] };
 
-/* Fills in what the plan leaves to be drawn, with these numbers. */
-static void fill_in(tmwatch_plan *plan, const uint64_t numbers[DRAWN])
-{
-    for (unsigned i = 0; i < DRAWN; i++) {
-        uint64_t *number = number_of(plan, drawn[i].to);
-        if (*number == TMWATCH_DRAWN)
-            *number = numbers[i];
-    }
-}
-
-static tmwatch_plan usual_plan(const tmwatch_plan *plan)
+/* The plan with what it leaves to be drawn: these numbers, or the usual ones. */
+static tmwatch_plan filled_plan(const tmwatch_plan *plan, const uint64_t *numbers)
 {
     tmwatch_plan it = *plan;
-    uint64_t numbers[DRAWN];
     for (unsigned i = 0; i < DRAWN; i++)
-        numbers[i] = drawn[i].usual;
-    fill_in(&it, numbers);
+        if (*number_of(&it, drawn[i].to) == TMWATCH_DRAWN)
+            *number_of(&it, drawn[i].to) = numbers ? numbers[i] : drawn[i].usual;
     return it;
 }
 
@@ -82,7 +81,7 @@ static bool is_out_of_range(const tmwatch_plan *plan)
 /* Looks at what no watch looks at. */
 static uint32_t check(const tmwatch_memory *memory, const tmwatch_plan *given)
 {
-    const tmwatch_plan plan = usual_plan(given);
+    const tmwatch_plan plan = filled_plan(given, NULL);
     if (missing_function(memory))
         return TMWATCH_MISSING;
     if (plan.threads < 1 || plan.threads > MOST_THREADS)

@@ -22,20 +22,18 @@ static void print_report(FILE *file, const tmwatch_told *told)
     fprintf(file, ",\"verdict\":\"%s\"%s}\n", verdicts[told->verdict], whys[told->why]);
 }
 
-/* Why a run can't show much, if nothing is wrong: a word, whether it is so, and what standard error says. */
-struct lack {
-    const char *name;
-    bool is_so;
-    const char *text;
-};
-
 /* Of so many attempts, one commits at least where the memory makes progress. */
-enum { LACKS = 6, FEW_COMMITS = 20 };
+enum { FEW_COMMITS = 20 };
 
-static void find_lacks(const tmwatch_benched *benched, struct lack lacks[LACKS])
+/* Tells why a run can't show much, if nothing is wrong: in the line of the rounds by names, or by sentences. */
+static void tell_lacks(FILE *file, const tmwatch_benched *benched, bool by_names)
 {
     const tmwatch_counts *counts = &benched->counts;
-    const struct lack all[LACKS] = {
+    const struct {
+        const char *name;
+        bool is_so;
+        const char *text;
+    } lacks[] = {
         {"threads", benched->again.threads == 1, "one thread ran: no two transactions can overlap"},
         {"overlap", counts->none_overlapped, "no two transactions overlapped: this run shows nothing"},
         {"stores", benched->stores == 0, "nothing was written: this run shows nothing"},
@@ -44,35 +42,16 @@ static void find_lacks(const tmwatch_benched *benched, struct lack lacks[LACKS])
         {"progress", benched->rejected > 0 || (counts->committed > 0 && counts->transactions / FEW_COMMITS > counts->committed),
          "nearly all transactions were rolled back: this run shows little"},
     };
-    bool is_wrong = benched->told.verdict != TMWATCH_OPAQUE_SO_FAR;
-    for (unsigned i = 0; i < LACKS; i++) {
-        lacks[i] = all[i];
-        lacks[i].is_so = all[i].is_so && !is_wrong;
-    }
-}
-
-static void print_lacks(FILE *file, const tmwatch_benched *benched)
-{
-    struct lack lacks[LACKS];
     const char *before = ",\"lacks\":[";
-    find_lacks(benched, lacks);
-    for (unsigned i = 0; i < LACKS; i++)
-        if (lacks[i].is_so) {
-            fprintf(file, "%s\"%s\"", before, lacks[i].name);
+    for (unsigned i = 0; i < sizeof lacks / sizeof lacks[0]; i++)
+        if (lacks[i].is_so && benched->told.verdict == TMWATCH_OPAQUE_SO_FAR) {
+            if (by_names)
+                fprintf(file, "%s\"%s\"", before, lacks[i].name);
+            else
+                fprintf(file, "%s\n", lacks[i].text);
             before = ",";
         }
-    if (before[1])
-        return;
-    fputc(']', file);
-}
-
-static void warn_of_lacks(const tmwatch_benched *benched)
-{
-    struct lack lacks[LACKS];
-    find_lacks(benched, lacks);
-    for (unsigned i = 0; i < LACKS; i++)
-        if (lacks[i].is_so)
-            fprintf(stderr, "%s\n", lacks[i].text);
+    fputs(by_names && !before[1] ? "]" : "", file);
 }
 
 /* Prints how the rounds went. */
@@ -81,7 +60,7 @@ static void print_rounds(FILE *file, const tmwatch_benched *benched)
     print_number(file, "{", "foreign", benched->foreign);
     if (benched->from > 0)
         print_number(file, ",", "from", benched->from);
-    print_lacks(file, benched);
+    tell_lacks(file, benched, true);
     if (benched->steps > 0)
         print_number(file, ",", "rescues", benched->rescues);
     print_number(file, ",", "rounds", benched->rounds);
@@ -94,24 +73,19 @@ static void print_rounds(FILE *file, const tmwatch_benched *benched)
 
 static void print_counts(FILE *file, const tmwatch_counts *counts)
 {
-    print_number(file, "{", "aborted", counts->aborted);
-    print_number(file, ",", "committed", counts->committed);
-    print_number(file, ",", "cuts", counts->cuts);
-    print_number(file, ",", "live", counts->live);
-    print_number(file, ",", "overlapping", counts->overlapping);
-    print_number(file, ",", "transactions", counts->transactions);
-    print_number(file, ",", "unasked", counts->unasked);
-    print_number(file, ",", "widest", counts->widest);
+    const uint64_t numbers[] = {counts->aborted,     counts->committed,    counts->cuts,    counts->live,
+                                counts->overlapping, counts->transactions, counts->unasked, counts->widest};
+    static const char *const names[] = {"aborted", "committed", "cuts", "live", "overlapping", "transactions", "unasked", "widest"};
+    for (unsigned i = 0; i < sizeof names / sizeof names[0]; i++)
+        print_number(file, i == 0 ? "{" : ",", names[i], numbers[i]);
     fputs("}\n", file);
 }
 
 /* Whether the words make the same run: there are none for the start. */
 static bool are_certain(const tmwatch_benched *benched)
 {
-    bool is_certain = benched->is_certain;
-    for (unsigned reg = 0; reg < MOST_REGISTERS; reg++)
-        is_certain = is_certain && benched->again.start[reg] == 0;
-    return is_certain;
+    static const uint64_t none[MOST_REGISTERS];
+    return benched->is_certain && memcmp(benched->again.start, none, sizeof none) == 0;
 }
 
 /* Prints by which words the run is made again, and whether it is the same then. */
@@ -122,11 +96,14 @@ static void print_again(FILE *file, const tmwatch_benched *benched)
     fprintf(file, "\",\"certain\":%s}\n", are_certain(benched) ? "true" : "false");
 }
 
-static void print_lines(FILE *file, const tmwatch_benched *benched)
+/* Prints all lines, maybe without the words that make the run again. */
+static void print_lines(FILE *file, const tmwatch_benched *benched, bool has_words)
 {
     print_report(file, &benched->told);
     print_rounds(file, benched);
     print_counts(file, &benched->counts);
+    if (has_words)
+        print_again(file, benched);
 }
 
 /* Says how what is wrong is met again. */
@@ -161,12 +138,10 @@ static void warn_of_unseen(const tmwatch_benched *benched, bool is_wrong)
 void tmwatch_bench_print(FILE *file, const tmwatch_benched *benched)
 {
     bool is_wrong = benched->told.verdict != TMWATCH_OPAQUE_SO_FAR;
-    print_lines(file, benched);
-    if (is_wrong)
-        print_again(file, benched);
+    print_lines(file, benched, is_wrong);
     /* So that what is said of it comes after it. */
     fflush(file);
-    warn_of_lacks(benched);
+    tell_lacks(stderr, benched, false);
     if (benched->told.verdict == TMWATCH_VIOLATED && benched->counts.transactions == 1)
         fputs("the first reading is wrong: does the memory hold plan.start?\n", stderr);
     if (is_wrong)

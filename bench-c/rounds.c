@@ -1,9 +1,15 @@
 /* In rounds: each thread makes its share, and waits for all others. */
 
-/* Whether no round follows this one: for the last thread of it to decide. */
-static bool is_last(struct bench *b, uint64_t round)
+/* Decides whether another round follows this one, and looks if that is due: for the last thread of it. */
+static void end_round(tmwatch_attempt *a, uint64_t round)
 {
-    return b->stops || b->is_late || round == b->plan->rounds;
+    struct bench *b = a->bench;
+    b->is_over = b->stops || b->is_late || round == b->plan.rounds;
+    if (!b->is_over && round + 1 == b->plan.round && b->plan.event == 0)
+        tmwatch_break();
+    if (!b->stops && (b->is_over || round % LOOK == 0))
+        look(a);
+    b->is_over = b->is_over || b->rejected > 0;
 }
 
 /* Waits for all threads: whether another round follows, as the last of them to come has decided. */
@@ -12,11 +18,8 @@ static bool meet(tmwatch_attempt *a)
     struct bench *b = a->bench;
     uint64_t round = b->round;
     wait_for_room(a);
-    if (atomic_fetch_add(&b->here, 1) + 1 == b->plan->threads) {
-        b->is_over = is_last(b, round);
-        if (!b->stops && (b->is_over || round % LOOK == 0))
-            look(a);
-        b->is_over = b->is_over || b->rejected > 0;
+    if (atomic_fetch_add(&b->here, 1) + 1 == b->plan.threads) {
+        end_round(a, round);
         b->here = 0;
         b->round = round + 1;
     } else {

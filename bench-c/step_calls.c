@@ -1,12 +1,9 @@
 /* What the objects call that are linked with the memory (instrumented/step.h). */
 
-/* How many pauses a yield counts as. */
-enum { YIELD_PAUSES = 16 };
-
 /* Sets how the accesses of this thread are made. */
 static void set_accesses(tmwatch_attempt *a)
 {
-    const tmwatch_plan *plan = a->bench->plan;
+    const tmwatch_plan *plan = &a->bench->plan;
     tmwatch_step_how *how = &a->how;
     pthread_attr_t of;
     void *stack;
@@ -16,7 +13,7 @@ static void set_accesses(tmwatch_attempt *a)
     how->has_plain = plan->plain > 0;
     how->draws = ~a->pauses;
     how->own[1] = (uintptr_t)a->tx;
-    how->own_end[1] = how->own[1] + a->bench->memory->tx_size;
+    how->own_end[1] = how->own[1] + a->bench->memory.tx_size;
     if (pthread_getattr_np(pthread_self(), &of) != 0) {
         stop(a->bench, TMWATCH_MEMORY);
         return;
@@ -66,35 +63,13 @@ enum tmwatch_step_waited tmwatch_step_wait(const void *lock)
     return is_free ? TMWATCH_STEP_FREED : TMWATCH_STEP_OTHERS;
 }
 
-/* Which threads wait for this lock or condition. */
-static unsigned waiting_for(const struct steps *s, const void *lock)
+void tmwatch_step_free(const void *lock, bool is_for_one)
 {
-    unsigned found = 0;
+    struct steps *s = &this_thread->bench->steps;
+    unsigned freed = 0;
+    lock_as_runner(this_thread);
     for (unsigned i = 0; i < MOST_THREADS; i++)
-        found |= s->lock[i] == lock ? s->waiting & 1u << i : 0;
-    return found;
-}
-
-void tmwatch_step_free(const void *lock)
-{
-    struct steps *s = &this_thread->bench->steps;
-    lock_as_runner(this_thread);
-    s->waiting &= ~waiting_for(s, lock);
+        freed |= s->lock[i] == lock ? s->waiting & 1u << i : 0;
+    s->waiting &= ~(is_for_one && freed ? 1u << any_of(s, freed) : freed);
     unlock_steps(s);
-}
-
-void tmwatch_step_wake(const void *condition)
-{
-    struct steps *s = &this_thread->bench->steps;
-    lock_as_runner(this_thread);
-    unsigned able = waiting_for(s, condition);
-    if (able)
-        s->waiting &= ~(1u << any_of(s, able));
-    unlock_steps(s);
-}
-
-void tmwatch_step_yield(const void *caller)
-{
-    this_thread->caller = caller;
-    pause_sometimes(this_thread, YIELD_PAUSES);
 }

@@ -2,10 +2,8 @@
    alone. A round goes by walk, which hands over often, or by priorities, which starve a thread for long (Burckhardt, Kothari, Musuvathi
    and Nagarakatte, ASPLOS 2010). */
 
-/* After so many pauses without a call, a thread is held for one that waits for another. */
-enum { MOST_SPIN = 128 };
-/* What a round's length is taken for at first. */
-enum { FIRST_LENGTH = 64 };
+/* After so many pauses without a call, a thread is held for one that waits; and what a round's length is taken for at first. */
+enum { MOST_SPIN = 128, FIRST_LENGTH = 64 };
 
 /* The C library's semaphores, also in a program that wraps them. */
 extern int __real_sem_wait(sem_t *semaphore) __attribute__((weak));
@@ -13,7 +11,8 @@ extern int __real_sem_post(sem_t *semaphore) __attribute__((weak));
 
 static void await(sem_t *semaphore)
 {
-    (__real_sem_wait ? __real_sem_wait : sem_wait)(semaphore);
+    while ((__real_sem_wait ? __real_sem_wait : sem_wait)(semaphore) != 0)
+        ;
 }
 
 static void post(sem_t *semaphore)
@@ -40,8 +39,8 @@ static int any_of(struct steps *s, unsigned threads)
     return __builtin_ctz(threads);
 }
 
-/* Who of these threads runs next: by walk any, by priorities the highest; nobody if none is able to. One that waits is only if no other
-   is, since a thread that isn't the bench's may have freed what it waits for. The steps are locked. */
+/* Who of these threads runs next: by walk any, by priorities the highest; nobody if none is able to. One that waits is if no other is, since
+   a thread that isn't the bench's may have freed what it waits for. The steps are locked. */
 static int choose(struct steps *s, unsigned threads)
 {
     unsigned able = s->ready & threads & ~s->stuck;
@@ -149,7 +148,7 @@ static void draw_round(struct bench *b)
     struct steps *s = &b->steps;
     uint64_t draws;
     s->is_mixed = draw_mix(b, &draws);
-    s->ready = (1u << b->plan->threads) - 1;
+    s->ready = (1u << b->plan.threads) - 1;
     s->waiting = s->stuck = 0;
     s->step = s->spin = s->changes = 0;
     bool walks = draw(&s->draws, 2) == 0;
@@ -176,13 +175,8 @@ static void turn_round(tmwatch_attempt *a)
     if (round > 0)
         s->length[s->is_mixed] += s->step - s->length[s->is_mixed] / 16;
     wait_for_room(a);
-    b->is_over = is_last(b, round);
     b->round = round + 1;
-    if (!b->is_over && b->round == b->plan->round && b->plan->event == 0)
-        tmwatch_break();
-    if (!b->stops && (b->is_over || round % LOOK == 0))
-        look(a);
-    b->is_over = b->is_over || b->rejected > 0;
+    end_round(a, round);
     s->starts[b->round % STARTS] = s->recorded;
     s->begun = b->round;
 }
@@ -192,7 +186,7 @@ static void break_at_event(const struct bench *b)
 {
     const struct steps *s = &b->steps;
     uint64_t round = s->begun > 0 ? s->begun : 1;
-    if (b->plan->event > 0 && round == b->plan->round && s->recorded + 1 - s->starts[s->begun % STARTS] == b->plan->event)
+    if (b->plan.event > 0 && round == b->plan.round && s->recorded + 1 - s->starts[s->begun % STARTS] == b->plan.event)
         tmwatch_break();
 }
 
@@ -206,7 +200,7 @@ static void begin_round(struct bench *b)
     draw_round(b);
     s->is_over = b->is_over;
     let_go(s, choose(s, ~0u));
-    for (unsigned i = 0; i < b->plan->threads && s->is_over; i++)
+    for (unsigned i = 0; i < b->plan.threads && s->is_over; i++)
         post(&s->go[i]);
 }
 
@@ -229,21 +223,12 @@ static bool meet_by_steps(tmwatch_attempt *a)
     return !b->is_over;
 }
 
-/* Waits for the thread's turn in the first round, which thread 0 begins. */
-static bool meet_first(tmwatch_attempt *a)
-{
-    if (a->thread == 0)
-        return meet_by_steps(a);
-    wait_turn(a);
-    return !a->bench->is_over;
-}
-
 /* Thread 0 is the first to run, and alone. Returns false where the system refuses. */
 static bool set_steps(struct bench *b)
 {
     bool is_done = true;
     struct steps *s = &b->steps;
-    s->draws = ~b->plan->seed * apart_values;
+    s->draws = ~b->plan.seed * apart_values;
     s->ready = 1;
     s->runner = 0;
     s->awake = NOBODY;

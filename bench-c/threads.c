@@ -16,27 +16,22 @@ static void make_part(tmwatch_attempt *a)
     show_watchdog(a);
     set_accesses(a);
     b->come++;
-    while (b->come < b->plan->threads)
+    while (b->come < b->plan.threads)
         sched_yield();
-    bool has_share = by_steps(b) ? meet_first(a) : has_more(a);
-    while (has_share) {
+    /* (by steps, thread 0 begins the first round) */
+    bool waits = by_steps(b) && a->thread > 0;
+    if (waits)
+        wait_turn(a);
+    for (bool goes_on = waits ? !b->is_over : has_more(a); goes_on; goes_on = has_more(a))
         make_share(a);
-        has_share = has_more(a);
-    }
     this_thread = NULL;
     b->ended++;
-}
-
-static void wait_for(sem_t *semaphore)
-{
-    while (sem_wait(semaphore) != 0)
-        ;
 }
 
 static void *work(void *argument)
 {
     struct worker *worker = argument;
-    for (wait_for(&worker->goes); worker->attempt; wait_for(&worker->goes))
+    for (await(&worker->goes); worker->attempt; await(&worker->goes))
         make_part(worker->attempt);
     return NULL;
 }
@@ -44,15 +39,12 @@ static void *work(void *argument)
 /* Starts a thread, with bytes of its own for the memory: two threads' bytes lie apart, so that neither slows the other. */
 static struct worker *start_thread(size_t tx_size)
 {
-    struct worker *it = calloc(1, sizeof *it);
-    void *tx = calloc(1, tx_size + 128);
-    if (it && tx && sem_init(&it->goes, 0, 0) == 0) {
-        it->tx = tx;
+    struct worker *it = calloc(1, sizeof *it + tx_size + APART);
+    if (it && sem_init(&it->goes, 0, 0) == 0) {
         if (pthread_create(&it->thread, NULL, work, it) == 0)
             return it;
         sem_destroy(&it->goes);
     }
-    free(tx);
     free(it);
     return NULL;
 }
@@ -61,8 +53,8 @@ static struct worker *start_thread(size_t tx_size)
 static bool start_threads(const struct bench *b)
 {
     struct worker **workers = b->session->workers;
-    for (unsigned i = 0; i < b->plan->threads; i++)
-        if (!workers[i] && !(workers[i] = start_thread(b->memory->tx_size)))
+    for (unsigned i = 0; i < b->plan.threads; i++)
+        if (!workers[i] && !(workers[i] = start_thread(b->memory.tx_size)))
             return false;
     return true;
 }
@@ -70,18 +62,19 @@ static bool start_threads(const struct bench *b)
 /* Has each thread of the leg make its part. */
 static void run_parts(struct bench *b)
 {
-    for (unsigned i = 0; i < b->plan->threads; i++) {
+    for (unsigned i = 0; i < b->plan.threads; i++) {
+        struct worker *it = b->session->workers[i];
         tmwatch_attempt *a = &b->parts[i];
         a->bench = b;
         a->recorder = &b->recorders[i];
         a->thread = i;
         a->written = b->session->written[i];
-        a->tx = b->session->workers[i]->tx;
-        set_draws(a);
-    }
-    for (unsigned i = 0; i < b->plan->threads; i++) {
-        b->session->workers[i]->attempt = &b->parts[i];
-        sem_post(&b->session->workers[i]->goes);
+        a->tx = it->tx;
+        a->draws = b->plan.seed * MOST_THREADS + a->thread;
+        a->addends = ~a->draws;
+        a->pauses = a->draws ^ apart_rounds;
+        it->attempt = a;
+        post(&it->goes);
     }
 }
 
@@ -95,10 +88,9 @@ static void end_threads(const struct session *session, bool are_stuck)
             continue;
         }
         it->attempt = NULL;
-        sem_post(&it->goes);
+        post(&it->goes);
         pthread_join(it->thread, NULL);
         sem_destroy(&it->goes);
-        free(it->tx);
         free(it);
     }
 }

@@ -49,10 +49,10 @@ static bool is_blocked(struct bench *b, int runner, uint64_t steps)
 }
 
 /* Looks at the runner, and rescues the others from one that is blocked. */
-static void watch_steps(struct bench *b)
+static void watch_steps(struct bench *b, uint64_t now)
 {
     struct steps *s = &b->steps;
-    uint64_t now = microseconds_of(CLOCK_MONOTONIC), steps = s->steps;
+    uint64_t steps = s->steps;
     int runner = s->runner;
     if (s->is_over || now - b->watchdog.looked < LOOK_MICROSECONDS)
         return;
@@ -61,11 +61,10 @@ static void watch_steps(struct bench *b)
         return;
     lock_steps(s);
     int next = s->runner == runner && s->steps == steps && s->awake == runner ? choose(s, ~(1u << runner)) : NOBODY;
-    if (next == NOBODY) {
+    if (next != NOBODY) {
+        s->stuck |= 1u << runner;
+        s->rescues++;
+        let_go(s, next);
+    } else
         unlock_steps(s);
-        return;
-    }
-    s->stuck |= 1u << runner;
-    s->rescues++;
-    let_go(s, next);
 }

@@ -5,14 +5,15 @@
 
 A window has eight transactions that overlap, over eight registers. Each writes some of them, may read some first, and is
 committed, aborted, left commit-pending or left live at the end, or reads at the end what nobody has written. Before it come windows
-of blind writers, after which the history has 64 outcomes. What is measured is the program's peak memory: it is the same in each run,
-as the time is not, and what takes the time of a slow window is the pairs that it holds. Only runs in which nothing is wrong before
-the window's last event count; or, with OPAQUE set, at no event. Each one that is the worst so far is written and told.
+of blind writers, after which the history has 64 outcomes. What is measured is the program's processor time, the least of three runs.
+Only runs in which nothing is wrong before the window's last event count; or, with OPAQUE set, at no event. Each one that is the worst
+so far is written and told.
 Environment: PROGRAM, OPAQUE.
 """
 import json
 import os
 import random
+import resource
 import subprocess
 import sys
 import time
@@ -67,13 +68,17 @@ def trace(starts, transactions):
     return "\n".join(lines + window(transactions)) + "\n"
 
 
-def peak_of(text):
-    """The peak memory of the program on the trace, in KiB, where nothing is wrong before its last event; else 0."""
-    words = ["/usr/bin/time", "-q", "-f", "%M", PROGRAM, "judge"]
-    run = subprocess.run(words, input=text, capture_output=True, text=True)
+def time_of(text):
+    """The processor time of the program on the trace, in microseconds, where nothing is wrong before its last event; else 0."""
+    times = []
+    for _ in range(3):
+        before = resource.getrusage(resource.RUSAGE_CHILDREN)
+        run = subprocess.run([PROGRAM, "judge"], input=text, capture_output=True, text=True)
+        after = resource.getrusage(resource.RUSAGE_CHILDREN)
+        times.append(after.ru_utime + after.ru_stime - before.ru_utime - before.ru_stime)
     report = json.loads(run.stdout)
     allowed = text.count("\n") if OPAQUE else text.count("\n") - 1
-    return int(run.stderr) if report.get("at", allowed) >= allowed else 0
+    return round(min(times) * 1e6) if report.get("at", allowed) >= allowed else 0
 
 
 def changed(rng, transactions):
@@ -102,13 +107,13 @@ def climb(rng, limit, tell):
         while stale < 200 and time.monotonic() - began < limit:
             candidate = changed(rng, transactions)
             text = trace(starts, candidate)
-            peak = peak_of(text)
-            stale = 0 if peak > 1.01 * best else stale + 1
-            if peak >= best:
-                transactions, best = candidate, peak
-            if peak > worst:
-                worst = peak
-                tell(text, f"{peak} KiB after {time.monotonic() - began:.0f} s")
+            cost = time_of(text)
+            stale = 0 if cost > 1.05 * best else stale + 1
+            if cost >= best:
+                transactions, best = candidate, cost
+            if cost > worst:
+                worst = cost
+                tell(text, f"{cost} us after {time.monotonic() - began:.0f} s")
 
 
 def main():

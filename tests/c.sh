@@ -131,6 +131,10 @@ on_bench() {
     done
 }
 
+for compiler in gcc clang; do
+    has $compiler "the bench by $compiler" || continue
+    ends "the bench by $compiler, and no conversion that may change a value" 0 build_bench $compiler -std=c11 "${strict[@]}" -Wconversion
+done
 ends 'the bench compiles' 0 build_bench "$cc" -std=c11 "${strict[@]}"
 ends 'a replay compiles' 0 "$cc" -std=c11 "${strict[@]}" -o "$folder/bench_replay" "$top/tests/c/bench_replay.c" "${bench[@]}"
 program bench_plans "$top/tests/c/bench_plans.c" 0 '' "${bench[@]}"

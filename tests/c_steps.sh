@@ -7,11 +7,11 @@
 #
 # A line for each row. The last one is 'N passed, M failed', and the exit status is 1 if a row failed. Without a C compiler nothing is
 # tested: a line says so, and the status is 0. What a missing tool would show is skipped, and a line says so.
-# Environment: CC (cc), BUILT (tests/common.sh), FLAGS (further flags of the compiler: no memory then runs without its pauses or under gdb).
+# Environment: CC (cc), CXX (c++), BUILT (tests/common.sh), FLAGS (further flags of the compiler: no memory then runs without its pauses or under gdb).
 set -eu
 # shellcheck source=tests/common.sh
 . "$(dirname "${BASH_SOURCE[0]}")/common.sh"
-cc=${CC:-cc}
+cc=${CC:-cc} cxx=${CXX:-c++}
 has "$cc" tests/c_steps.sh || exit 0
 use_library
 read -r -a flags <<<"${FLAGS:-}"
@@ -136,7 +136,11 @@ ends 'a violation after a rescue' 1 until_rescued
 has_told 'a violation after a rescue is not certain' '"certain":false}$'
 # What a later leg finds is told by that leg's plan: without a mark, only threads that run at once find it.
 ends 'a memory without a mark compiles' 0 "$cc" "${strict[@]}" -DFAULT=MEETS -o "$folder/unmarked" "$top/tests/c/bench_stuck.c" "${bench[@]}"
-repeats unmarked 1 false '--writes 0 --adds 0 --seconds 60'
+# (ThreadSanitizer makes the twenty legs by steps before that take longer than a minute, unless they are short. This memory races where it
+# rolls back.)
+short=
+[ "${FLAGS:-}" != -fsanitize=thread ] || short=' --aborts 0 --threads 2 --registers 1 --calls 1 --mixes 0'
+repeats unmarked 1 false "--writes 0 --adds 0 --seconds 60$short"
 ends 'a memory without a mark: by which schedule' 0 grep -q '"again":"--schedule [rp]' "$folder/told"
 
 # The round of the words is that of the wrong event: without it all is well. A right run ends with its round.
@@ -470,32 +474,48 @@ lost() {
     "$folder/$1" --schedule "$2" --trace "$folder/one" || status=$?
     since "$began" | awk '{ exit !($1 < 10) }' && return $status
 }
-for file in tl2:LEAK tl2:WRAP readers:LEAK; do
-    name=${file/:/_}
-    paused "$name" "tests/c/bench_${file%:*}.c" "${file#*:}"
+# The rows of a program: by each schedule it loses progress, or runs so many rounds.
+loses_progress() {
+    local schedule
     for schedule in rounds permits steps all; do
-        ends "lost progress, $file, $schedule" 4 lost "$name" $schedule
+        ends "lost progress, $1, $schedule" 4 lost "$1" $schedule
         cp "$folder/output" "$folder/told"
-        ends "lost progress, $file, $schedule: the fault" 0 grep -qx '{"fault":"stuck"}' "$folder/told"
-        ends "lost progress, $file, $schedule: why" 0 grep -q '^a transaction that ran alone was rolled back [0-9]* times: ' "$folder/told"
-        ends "lost progress, $file, $schedule: its trace" 0 sh -c 'test "$(grep -c "A$" "$1")" -ge 8' sh "$folder/one"
-        ends "lost progress, $file, $schedule: its trace, judged" 0 sh -c '"$1" <"$2"' sh "$folder/replay" "$folder/one"
-        ends "lost progress, $file, $schedule: what lacks" 0 grep -q '"lacks":\[.*"progress"' "$folder/one.run"
+        ends "lost progress, $1, $schedule: the fault" 0 grep -qx '{"fault":"stuck"}' "$folder/told"
+        ends "lost progress, $1, $schedule: why" 0 grep -q '^a transaction that ran alone was rolled back [0-9]* times: ' "$folder/told"
+        ends "lost progress, $1, $schedule: its trace" 0 sh -c 'test "$(grep -c "A$" "$1")" -ge 8' sh "$folder/one"
+        ends "lost progress, $1, $schedule: its trace, judged" 0 sh -c '"$1" <"$2"' sh "$folder/replay" "$folder/one"
+        ends "lost progress, $1, $schedule: what lacks" 0 grep -q '"lacks":\[.*"progress"' "$folder/one.run"
     done
-    repeats "$name" 4 true '--schedule steps --seed 2'
-    repeats "$name" 4 true '--seed 2'
-    repeats "$name" 4 false '--schedule rounds'
+    repeats "$1" 4 true '--schedule steps --seed 2'
+    repeats "$1" 4 true '--seed 2'
+    repeats "$1" 4 false '--schedule rounds'
+}
+keeps_progress() {
+    local schedule
+    for schedule in rounds permits steps all; do
+        ends "rolled back by chance, $1, $schedule" 0 "$folder/$1" --schedule $schedule --rounds "$2" --registers 8 --trace "$folder/one"
+        has_told "rolled back by chance, $1, $schedule: all rounds" "\"rounds\":$2[,}]"
+        ends "rolled back by chance, $1, $schedule: its trace, judged" 0 sh -c '"$1" <"$2"' sh "$folder/replay" "$folder/one"
+    done
+}
+for file in tl2:LEAK tl2:WRAP readers:LEAK; do
+    paused "${file/:/_}" "tests/c/bench_${file%:*}.c" "${file#*:}"
+    loses_progress "${file/:/_}"
 done
 for each in 0 50; do
-    most=$((each > 0 ? 300 : 3000))
     paused "spurious_$each" tests/c/bench_spurious.c NONE -DPERCENT=50 -DEACH=$each
-    for schedule in rounds permits steps all; do
-        ends "rolled back by chance, $each, $schedule" 0 "$folder/spurious_$each" --schedule $schedule --rounds $most --registers 8 \
-            --trace "$folder/one"
-        has_told "rolled back by chance, $each, $schedule: all rounds" "\"rounds\":$most[,}]"
-        ends "rolled back by chance, $each, $schedule: its trace, judged" 0 sh -c '"$1" <"$2"' sh "$folder/replay" "$folder/one"
-    done
+    keeps_progress "spurious_$each" $((each > 0 ? 300 : 3000))
 done
+if has "$cxx" 'a class that loses progress'; then
+    for fault in NONE CHANCE LOCK MARK WRAP; do
+        ends "a class, $fault, compiles" 0 "$cxx" -std=c++17 "${strict[@]:1}" -DTMWATCH_PAUSES "-DFAULT=$fault" -o "$folder/lost_$fault" \
+            "$top/tests/c/bench_lost.cpp" "${bench[@]}"
+        case $fault in
+        NONE | CHANCE) keeps_progress "lost_$fault" 3000 ;;
+        *) loses_progress "lost_$fault" ;;
+        esac
+    done
+fi
 paused spurious_99 tests/c/bench_spurious.c NONE -DPERCENT=99
 ends 'nearly all are rolled back' 0 "$folder/spurious_99" --rounds 500
 has_told 'nearly all are rolled back: it is told' '"lacks":\[.*"progress"'
@@ -517,6 +537,9 @@ unwritten norec_READS violated "$folder/three" ''
 unwritten norec_READS violated "$folder/four" ''
 unwritten norec_READS violated "$folder/one" '--junit /dev/full'
 unwritten stuck_SPIN stuck "$folder/three" '--patience 1'
+# An error while a file is written counts, though it is closed well.
+paused heals tests/c/bench_heals.c NONE -Wl,--wrap=fclose
+unwritten heals 'opaque so far' /dev/full '--rounds 3000'
 
 # On a terminal, and there alone, a line says twice a second how far all legs are. Each is cleared, also before other words.
 on_terminal() {

@@ -13,8 +13,9 @@
 
 enum { BUFFERED = 8, SEQUENTIAL = __ATOMIC_SEQ_CST };
 
-/* What is stored and not out yet. */
+/* What is stored and not out yet, and the store of its size. */
 struct stored {
+    void (*put)(void *to, uint64_t value);
     void *to;
     uint64_t value;
     unsigned bytes;
@@ -23,26 +24,9 @@ struct stored {
 static _Thread_local struct stored buffer[BUFFERED];
 static _Thread_local unsigned buffered;
 
-static void put(const struct stored *it)
-{
-    switch (it->bytes) {
-    case 1:
-        __atomic_store_n((uint8_t *)it->to, (uint8_t)it->value, SEQUENTIAL);
-        break;
-    case 2:
-        __atomic_store_n((uint16_t *)it->to, (uint16_t)it->value, SEQUENTIAL);
-        break;
-    case 4:
-        __atomic_store_n((uint32_t *)it->to, (uint32_t)it->value, SEQUENTIAL);
-        break;
-    default:
-        __atomic_store_n((uint64_t *)it->to, it->value, SEQUENTIAL);
-    }
-}
-
 static void drain_one(void)
 {
-    put(&buffer[0]);
+    buffer[0].put(buffer[0].to, buffer[0].value);
     memmove(buffer, buffer + 1, --buffered * sizeof buffer[0]);
 }
 
@@ -56,7 +40,7 @@ void tmwatch_step_drain(void)
 TMWATCH_PART void at_step(void)
 {
     tmwatch_step_how *how = tmwatch_step_accesses();
-    tmwatch_step_at(TMWATCH_CALLER);
+    tmwatch_step_at(TMWATCH_CALLER, 1);
     if (buffered == 0 || !how)
         return;
     how->draws = how->draws * UINT64_C(6364136223846793005) + UINT64_C(1442695040888963407);
@@ -89,11 +73,11 @@ static bool is_buffered(const volatile void *at, int order)
     return is_lasting(at);
 }
 
-static void store_later(void *to, uint64_t value, unsigned bytes)
+static void store_later(struct stored it)
 {
     if (buffered == BUFFERED)
         drain_one();
-    buffer[buffered++] = (struct stored){to, value, bytes};
+    buffer[buffered++] = it;
 }
 
 /* Whether the thread's newest store to these bytes is not out, and then its value. If another one overlaps them, all comes out. */
@@ -154,61 +138,41 @@ TMWATCH_PART void before_store(const void *at, size_t bytes, bool is_volatile)
         tmwatch_step_drain();
 }
 
-#define UNUSED __attribute__((unused))
-#define NOTHING(name, ...)   \
-    void name(__VA_ARGS__);  \
-    void name(__VA_ARGS__) {}
-NOTHING(__tsan_init, void)
-NOTHING(__tsan_func_entry, void *caller UNUSED)
-NOTHING(__tsan_func_exit, void)
-NOTHING(__tsan_vptr_update, void **at UNUSED, void *to UNUSED)
-NOTHING(__tsan_vptr_read, void **at UNUSED)
-NOTHING(__tsan_atomic_signal_fence, int order UNUSED)
+MARK(void, __tsan_init, void) {}
+MARK(void, __tsan_func_entry, void *caller UNUSED) {}
+MARK(void, __tsan_func_exit, void) {}
+MARK(void, __tsan_vptr_update, void **at UNUSED, void *to UNUSED) {}
+MARK(void, __tsan_vptr_read, void **at UNUSED) {}
+MARK(void, __tsan_atomic_signal_fence, int order UNUSED) {}
 
-#define CALLED(name, does, ...)  \
-    void name(__VA_ARGS__);      \
-    void name(__VA_ARGS__)       \
-    {                            \
-        does;                    \
-    }
-#define PLAIN(infix, bytes, is_volatile)                                                       \
-    CALLED(__tsan_##infix##read##bytes, before_load(at, bytes, is_volatile), const void *at)   \
-    CALLED(__tsan_##infix##write##bytes, before_store(at, bytes, is_volatile), const void *at)
-#define READ_WRITE(infix, bytes) CALLED(__tsan_##infix##read_write##bytes, before_store(at, bytes, false), const void *at)
-#define PLAINS(bytes)                    \
-    PLAIN(, bytes, false)                \
-    PLAIN(unaligned_, bytes, false)      \
-    PLAIN(volatile_, bytes, true)        \
-    PLAIN(unaligned_volatile_, bytes, true) \
-    READ_WRITE(, bytes)                  \
-    READ_WRITE(unaligned_, bytes)
+#define PLAIN(infix, bytes, is_volatile)                                                               \
+    MARK(void, __tsan_##infix##read##bytes, const void *at) { before_load(at, bytes, is_volatile); }   \
+    MARK(void, __tsan_##infix##write##bytes, const void *at) { before_store(at, bytes, is_volatile); } \
+    MARK(void, __tsan_##infix##read_write##bytes, const void *at) { before_store(at, bytes, is_volatile); }
+#define PLAINS(bytes)               \
+    PLAIN(, bytes, false)           \
+    PLAIN(unaligned_, bytes, false) \
+    PLAIN(volatile_, bytes, true)   \
+    PLAIN(unaligned_volatile_, bytes, true)
 PLAINS(1)
 PLAINS(2)
 PLAINS(4)
 PLAINS(8)
 PLAINS(16)
-CALLED(__tsan_read_range, before_load(at, bytes, false), const void *at, unsigned long bytes)
-CALLED(__tsan_write_range, before_store(at, bytes, false), const void *at, unsigned long bytes)
+MARK(void, __tsan_read_range, const void *at, unsigned long bytes) { before_load(at, bytes, false); }
+MARK(void, __tsan_write_range, const void *at, unsigned long bytes) { before_store(at, bytes, false); }
 
-void *__tsan_memcpy(void *to, const void *from, size_t bytes);
-void *__tsan_memmove(void *to, const void *from, size_t bytes);
-void *__tsan_memset(void *to, int byte, size_t bytes);
+#define COPY(name)                                                        \
+    MARK(void *, __tsan_##name, void *to, const void *from, size_t bytes) \
+    {                                                                     \
+        before_load(from, bytes, false);                                  \
+        before_store(to, bytes, false);                                   \
+        return name(to, from, bytes);                                     \
+    }
+COPY(memcpy)
+COPY(memmove)
 
-void *__tsan_memcpy(void *to, const void *from, size_t bytes)
-{
-    before_load(from, bytes, false);
-    before_store(to, bytes, false);
-    return memcpy(to, from, bytes);
-}
-
-void *__tsan_memmove(void *to, const void *from, size_t bytes)
-{
-    before_load(from, bytes, false);
-    before_store(to, bytes, false);
-    return memmove(to, from, bytes);
-}
-
-void *__tsan_memset(void *to, int byte, size_t bytes)
+MARK(void *, __tsan_memset, void *to, int byte, size_t bytes)
 {
     before_store(to, bytes, false);
     return memset(to, byte, bytes);
@@ -221,89 +185,89 @@ TMWATCH_PART void at_change(void)
     tmwatch_step_drain();
 }
 
-/* An atomic access, as declared for the compiler: its type, what it is called, its parameters, and what it does. One that isn't simulated is
-   sequentially consistent; one that is, and changes an older store than the newest, leaves memory alone. */
-#define ATOMIC(type, name, ...) \
-    type name(__VA_ARGS__);     \
-    type name(__VA_ARGS__)
-#define CHANGE(bits, type, name, op)                                                              \
-    ATOMIC(type, __tsan_atomic##bits##_##name, volatile type *at, type value, int order)          \
-    {                                                                                             \
-        tmwatch_access access;                                                                    \
-        uint64_t held;                                                                            \
-        volatile type older, *to = at;                                                            \
-        at_change();                                                                              \
-        bool has_orders = is_simulated(&access, at, sizeof(type), order);                 \
-        if (has_orders && !tmwatch_orders_take(&access, &held)) {                                 \
-            older = (type)held;                                                                   \
-            to = &older;                                                                          \
-        }                                                                                         \
-        type read = op(to, value, SEQUENTIAL);                                                    \
-        if (has_orders)                                                                           \
-            tmwatch_orders_change(&access, *to);                                                  \
-        return read;                                                                              \
+/* What isn't simulated is sequentially consistent. What is, and changes an older store than the newest, leaves memory alone. */
+#define CHANGE(bits, type, name, op)                                                   \
+    MARK(type, __tsan_atomic##bits##_##name, volatile type *at, type value, int order) \
+    {                                                                                  \
+        tmwatch_access access;                                                         \
+        uint64_t held;                                                                 \
+        volatile type older, *to = at;                                                 \
+        at_change();                                                                   \
+        bool has_orders = is_simulated(&access, at, sizeof(type), order);              \
+        if (has_orders && !tmwatch_orders_take(&access, &held)) {                      \
+            older = (type)held;                                                        \
+            to = &older;                                                               \
+        }                                                                              \
+        type read = op(to, value, SEQUENTIAL);                                         \
+        if (has_orders)                                                                \
+            tmwatch_orders_change(&access, *to);                                       \
+        return read;                                                                   \
     }
-#define COMPARES(bits, type)                                                                                                   \
-    TMWATCH_PART bool compare_##bits(volatile type *at, type *held, type value, int order, int failed, bool is_weak)           \
-    {                                                                                                                          \
-        tmwatch_access access;                                                                                                 \
-        uint64_t loaded = *held;                                                                                               \
-        enum tmwatch_compared how = TMWATCH_TAKES_NEWEST;                                                                      \
-        at_change();                                                                                                           \
-        bool has_orders = is_simulated(&access, at, sizeof(type), order);                                                      \
-        if (has_orders)                                                                                                        \
-            how = tmwatch_orders_compare(&access, &loaded, failed, is_weak);                                                   \
-        bool is_done = how != TMWATCH_FAILS;                                                                                   \
-        if (how == TMWATCH_TAKES_NEWEST)                                                                                       \
-            is_done = __atomic_compare_exchange_n(at, held, value, 0, SEQUENTIAL, SEQUENTIAL);                                 \
-        else                                                                                                                   \
-            *held = (type)loaded;                                                                                              \
-        if (has_orders && is_done)                                                                                             \
-            tmwatch_orders_change(&access, value);                                                                             \
-        return is_done;                                                                                                        \
-    }                                                                                                                          \
-    ATOMIC(type, __tsan_atomic##bits##_compare_exchange_val, volatile type *at, type held, type value, int order, int failed)  \
-    {                                                                                                                          \
-        compare_##bits(at, &held, value, order, failed, false);                                                                \
-        return held;                                                                                                           \
+#define COMPARES(bits, type)                                                                                                \
+    TMWATCH_PART bool compare_##bits(volatile type *at, type *held, type value, int order, int failed, bool is_weak)        \
+    {                                                                                                                       \
+        tmwatch_access access;                                                                                              \
+        uint64_t loaded = *held;                                                                                            \
+        enum tmwatch_compared how = TMWATCH_TAKES_NEWEST;                                                                   \
+        at_change();                                                                                                        \
+        bool has_orders = is_simulated(&access, at, sizeof(type), order);                                                   \
+        if (has_orders)                                                                                                     \
+            how = tmwatch_orders_compare(&access, &loaded, failed, is_weak);                                                \
+        bool is_done = how != TMWATCH_FAILS;                                                                                \
+        if (how == TMWATCH_TAKES_NEWEST)                                                                                    \
+            is_done = __atomic_compare_exchange_n(at, held, value, 0, SEQUENTIAL, SEQUENTIAL);                              \
+        else                                                                                                                \
+            *held = (type)loaded;                                                                                           \
+        if (has_orders && is_done)                                                                                          \
+            tmwatch_orders_change(&access, value);                                                                          \
+        return is_done;                                                                                                     \
+    }                                                                                                                       \
+    MARK(type, __tsan_atomic##bits##_compare_exchange_val, volatile type *at, type held, type value, int order, int failed) \
+    {                                                                                                                       \
+        compare_##bits(at, &held, value, order, failed, false);                                                             \
+        return held;                                                                                                        \
     }
 #define COMPARE(bits, type, name, is_weak)                                                                                     \
-    ATOMIC(int, __tsan_atomic##bits##_compare_exchange_##name, volatile type *at, type *held, type value, int order, int failed) \
+    MARK(int, __tsan_atomic##bits##_compare_exchange_##name, volatile type *at, type *held, type value, int order, int failed) \
     {                                                                                                                          \
         return compare_##bits(at, held, value, order, failed, is_weak);                                                        \
     }
-#define ATOMICS(bits, type)                                                                                                    \
-    ATOMIC(type, __tsan_atomic##bits##_load, const volatile type *at, int order)                                               \
-    {                                                                                                                          \
-        uint64_t value;                                                                                                        \
-        tmwatch_access access;                                                                                                 \
-        at_step();                                                                                                             \
-        if (is_simulated(&access, at, sizeof(type), order))                                                            \
-            return (type)tmwatch_orders_load(&access);                                                                         \
-        return is_forwarded(at, sizeof(type), &value) ? (type)value : __atomic_load_n(at, SEQUENTIAL);                         \
-    }                                                                                                                          \
-    ATOMIC(void, __tsan_atomic##bits##_store, volatile type *at, type value, int order)                                        \
-    {                                                                                                                          \
-        tmwatch_access access;                                                                                                 \
-        at_step();                                                                                                             \
-        if (is_simulated(&access, at, sizeof(type), order) && !tmwatch_orders_store(&access, value))                   \
-            return;                                                                                                            \
-        if (is_buffered(at, order)) {                                                                                          \
-            store_later((void *)(uintptr_t)at, value, sizeof(type));                                                           \
-            return;                                                                                                            \
-        }                                                                                                                      \
-        tmwatch_step_drain();                                                                                                  \
-        __atomic_store_n(at, value, SEQUENTIAL);                                                                               \
-    }                                                                                                                          \
-    CHANGE(bits, type, exchange, __atomic_exchange_n)                                                                          \
-    CHANGE(bits, type, fetch_add, __atomic_fetch_add)                                                                          \
-    CHANGE(bits, type, fetch_sub, __atomic_fetch_sub)                                                                          \
-    CHANGE(bits, type, fetch_and, __atomic_fetch_and)                                                                          \
-    CHANGE(bits, type, fetch_or, __atomic_fetch_or)                                                                            \
-    CHANGE(bits, type, fetch_xor, __atomic_fetch_xor)                                                                          \
-    CHANGE(bits, type, fetch_nand, __atomic_fetch_nand)                                                                        \
-    COMPARES(bits, type)                                                                                                       \
-    COMPARE(bits, type, strong, false)                                                                                         \
+#define ATOMICS(bits, type)                                                                            \
+    static void put_##bits(void *to, uint64_t value)                                                   \
+    {                                                                                                  \
+        __atomic_store_n((type *)to, (type)value, SEQUENTIAL);                                         \
+    }                                                                                                  \
+    MARK(type, __tsan_atomic##bits##_load, const volatile type *at, int order)                         \
+    {                                                                                                  \
+        uint64_t value;                                                                                \
+        tmwatch_access access;                                                                         \
+        at_step();                                                                                     \
+        if (is_simulated(&access, at, sizeof(type), order))                                            \
+            return (type)tmwatch_orders_load(&access);                                                 \
+        return is_forwarded(at, sizeof(type), &value) ? (type)value : __atomic_load_n(at, SEQUENTIAL); \
+    }                                                                                                  \
+    MARK(void, __tsan_atomic##bits##_store, volatile type *at, type value, int order)                  \
+    {                                                                                                  \
+        tmwatch_access access;                                                                         \
+        at_step();                                                                                     \
+        if (is_simulated(&access, at, sizeof(type), order) && !tmwatch_orders_store(&access, value))   \
+            return;                                                                                    \
+        if (is_buffered(at, order)) {                                                                  \
+            store_later((struct stored){put_##bits, (void *)(uintptr_t)at, value, sizeof(type)});      \
+            return;                                                                                    \
+        }                                                                                              \
+        tmwatch_step_drain();                                                                          \
+        __atomic_store_n(at, value, SEQUENTIAL);                                                       \
+    }                                                                                                  \
+    CHANGE(bits, type, exchange, __atomic_exchange_n)                                                  \
+    CHANGE(bits, type, fetch_add, __atomic_fetch_add)                                                  \
+    CHANGE(bits, type, fetch_sub, __atomic_fetch_sub)                                                  \
+    CHANGE(bits, type, fetch_and, __atomic_fetch_and)                                                  \
+    CHANGE(bits, type, fetch_or, __atomic_fetch_or)                                                    \
+    CHANGE(bits, type, fetch_xor, __atomic_fetch_xor)                                                  \
+    CHANGE(bits, type, fetch_nand, __atomic_fetch_nand)                                                \
+    COMPARES(bits, type)                                                                               \
+    COMPARE(bits, type, strong, false)                                                                 \
     COMPARE(bits, type, weak, true)
 ATOMICS(8, uint8_t)
 ATOMICS(16, uint16_t)
@@ -311,7 +275,7 @@ ATOMICS(32, uint32_t)
 ATOMICS(64, uint64_t)
 
 /* All comes out at a sequentially consistent fence, and at no weaker one. */
-ATOMIC(void, __tsan_atomic_thread_fence, int order)
+MARK(void, __tsan_atomic_thread_fence, int order)
 {
     tmwatch_access access;
     at_step();

@@ -3,21 +3,16 @@
 
 #ifdef __x86_64__
 __extension__ typedef unsigned __int128 wide;
-#define CX16 __attribute__((target("cx16")))
+#define WIDE(type, name, ...) MARK(__attribute__((target("cx16"))) type, __tsan_atomic128_##name, __VA_ARGS__)
 
 TMWATCH_PART void at_wide(const volatile wide *at)
 {
-    tmwatch_step_at(TMWATCH_CALLER);
+    tmwatch_step_at(TMWATCH_CALLER, 1);
     tmwatch_simulation *orders = tmwatch_step_orders();
     if (orders)
         tmwatch_orders_wide(&(tmwatch_access){orders, tmwatch_thread(), TMWATCH_CALLER, at, sizeof *at, __ATOMIC_ACQ_REL});
     tmwatch_step_drain();
 }
-
-#define WIDE(type, name, ...)                \
-    type __tsan_atomic128_##name(__VA_ARGS__); \
-    CX16 type __tsan_atomic128_##name(__VA_ARGS__)
-#define UNUSED __attribute__((unused))
 
 WIDE(wide, load, const volatile wide *at, int order UNUSED)
 {
@@ -32,16 +27,16 @@ WIDE(wide, compare_exchange_val, volatile wide *at, wide held, wide value, int o
 }
 
 /* A read-modify-write, by compare-and-swap: what is stored, by what is there (`seen`). */
-#define WIDE_CHANGE(name, stored)                                          \
-    WIDE(wide, name, volatile wide *at, wide value, int order UNUSED)      \
-    {                                                                      \
-        wide seen, then = 0;                                               \
-        at_wide(at);                                                         \
-        do {                                                               \
-            seen = then;                                                   \
-            then = __sync_val_compare_and_swap(at, seen, (wide)(stored));  \
-        } while (then != seen);                                            \
-        return seen;                                                       \
+#define WIDE_CHANGE(name, stored)                                         \
+    WIDE(wide, name, volatile wide *at, wide value, int order UNUSED)     \
+    {                                                                     \
+        wide seen, then = 0;                                              \
+        at_wide(at);                                                      \
+        do {                                                              \
+            seen = then;                                                  \
+            then = __sync_val_compare_and_swap(at, seen, (wide)(stored)); \
+        } while (then != seen);                                           \
+        return seen;                                                      \
     }
 WIDE_CHANGE(exchange, value)
 WIDE_CHANGE(fetch_add, seen + value)

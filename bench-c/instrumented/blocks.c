@@ -1,6 +1,5 @@
-/* Blocks of memory that are given back: what a thread has stored in one is out before, and the orders of C++20
-   forget it. A program calls these in place of those that it is
-   linked with if it is linked with -Wl,--wrap= and the name. If it has functions of these names itself, they count. */
+/* Blocks of memory that are given back: what a thread has stored in one is out before, and the orders of C++20 forget it. A program calls
+   these if it is linked with -Wl,--wrap= and the name. If it has functions of these names itself, they count. */
 #define _GNU_SOURCE
 #include "step.h"
 #include <malloc.h>
@@ -25,19 +24,19 @@ static size_t size_of(void *block, void (*delete)(void *))
     return is_own ? 0 : malloc_usable_size(block);
 }
 
-#define GIVES(type, returns, name, given, size_given, ...)  \
-    __attribute__((weak)) type __real_##name(__VA_ARGS__);  \
-    __attribute__((weak)) type __wrap_##name(__VA_ARGS__);  \
-    type __wrap_##name(__VA_ARGS__)                         \
-    {                                                       \
-        tmwatch_step_gives_back(block, size_given);         \
-        returns __real_##name given;                        \
+#define GIVES(type, returns, name, given, size_given, ...) \
+    __attribute__((weak)) type __real_##name(__VA_ARGS__); \
+    __attribute__((weak)) type __wrap_##name(__VA_ARGS__); \
+    type __wrap_##name(__VA_ARGS__)                        \
+    {                                                      \
+        tmwatch_step_gives_back(block, size_given);        \
+        returns __real_##name given;                       \
     }
 /* As C++ names them, each operator delete has arguments more: a size, an alignment, or both. */
-#define DELETES(name)                                                                                           \
-    GIVES(void, , name, (block), size_of(block, __real_##name), void *block)                                    \
-    GIVES(void, , name##m, (block, size), size, void *block, size_t size)                                       \
-    GIVES(void, , name##St11align_val_t, (block, alignment), 0, void *block, size_t alignment)                  \
+#define DELETES(name)                                                                          \
+    GIVES(void, , name, (block), size_of(block, __real_##name), void *block)                   \
+    GIVES(void, , name##m, (block, size), size, void *block, size_t size)                      \
+    GIVES(void, , name##St11align_val_t, (block, alignment), 0, void *block, size_t alignment) \
     GIVES(void, , name##mSt11align_val_t, (block, size, alignment), size, void *block, size_t size, size_t alignment)
 GIVES(void, , free, (block), malloc_usable_size(block), void *block)
 GIVES(void *, return, realloc, (block, size), malloc_usable_size(block), void *block, size_t size)

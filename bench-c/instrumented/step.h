@@ -13,12 +13,18 @@ typedef struct tmwatch_step_how {
     uintptr_t own[2], own_end[2]; /* the thread's stack, and its transaction's bytes */
 } tmwatch_step_how;
 
-/* A step of this thread, which returns to that place; and the place that the function returns to which this is written in. */
-void tmwatch_step_at(const void *caller);
+/* A step of this thread, with so many pauses, which returns to that place; and the place that the function here returns to. */
+void tmwatch_step_at(const void *caller, unsigned pauses);
 #define TMWATCH_CALLER __builtin_return_address(0)
 
 /* For a function that is a part of what it is called in. */
 #define TMWATCH_PART static inline __attribute__((always_inline))
+
+/* A function that the compiler calls: its type, its name and its parameters, declared, and then to be defined. */
+#define MARK(type, name, ...) \
+    type name(__VA_ARGS__);   \
+    type name(__VA_ARGS__)
+#define UNUSED __attribute__((unused))
 
 /* This thread's, or null if it isn't one of a bench. */
 tmwatch_step_how *tmwatch_step_accesses(void);
@@ -42,8 +48,7 @@ tmwatch_simulation *tmwatch_step_orders(void);
 enum tmwatch_step_waited tmwatch_step_wait(const void *lock);
 
 /* Those that wait for this lock or condition are able to run; or one of them is, as drawn. */
-void tmwatch_step_free(const void *lock);
-void tmwatch_step_wake(const void *condition);
+void tmwatch_step_free(const void *lock, bool is_for_one);
 
 /* For a lock that isn't one of C, in any thread (waits.c); and a block of a type that isn't one of C is given back (blocks.c). */
 bool tmwatch_lock_tried(void);
@@ -52,7 +57,4 @@ void tmwatch_lock_taken(const void *lock);
 void tmwatch_lock_returning(const void *lock);
 void tmwatch_lock_returned(const void *lock);
 void tmwatch_step_gives_back(const void *block, size_t size);
-
-/* A wait that yields: several pauses at once. */
-void tmwatch_step_yield(const void *caller);
 #endif

@@ -1,6 +1,6 @@
 /*
 Benches that must not meet: two that run at once, by the same plan by steps, have the trace that one alone has. And what a program has set
-for its signals stays so, after a bench as in it.
+for its signals stays so, after a bench as in it. An interrupt breaks no call of the memory to the system.
 */
 #define _GNU_SOURCE
 #include "tmwatch_bench.h"
@@ -8,6 +8,8 @@ for its signals stays so, after a bench as in it.
 #include <pthread.h>
 #include <signal.h>
 #include <stdatomic.h>
+#include <time.h>
+#include <unistd.h>
 
 enum { REGISTERS = 3, BENCHES = 2 };
 
@@ -124,9 +126,52 @@ static void keep_signals(void)
     CHECK(signal(SIGTERM, SIG_DFL) == SIG_IGN);
 }
 
+/* A pipe that the memory reads from, the thread that does so, and whether it is about to. */
+static int pipes[2];
+static pthread_t reader;
+static atomic_bool waits;
+
+static void *interrupt_reader(void *argument)
+{
+    const struct timespec time = {0, 50000000};
+    while (!waits)
+        nanosleep(&time, NULL);
+    nanosleep(&time, NULL);
+    CHECK(pthread_kill(reader, SIGINT) == 0);
+    nanosleep(&time, NULL);
+    CHECK(write(pipes[1], "", 1) == 1);
+    return argument;
+}
+
+/* Waits for the pipe in its first read. */
+static bool load_slowly(void *memory, void *tx, unsigned reg, uint64_t *value)
+{
+    char byte;
+    if (!waits) {
+        reader = pthread_self();
+        waits = true;
+        CHECK(read(pipes[0], &byte, 1) == 1);
+    }
+    return load(memory, tx, reg, value);
+}
+
+/* A call to the system goes on after an interrupt, which ends all benches of the process. */
+static void go_on_after_interrupt(void)
+{
+    static struct locked words;
+    static char *given[] = {"bench_apart", "--threads", "1", "--schedule", "steps", "--seconds", "60", "--quiet", NULL};
+    const tmwatch_memory memory = {&words, sizeof words.words, begin, load_slowly, store, NULL, commit, cancel, NULL};
+    pthread_t thread;
+    CHECK(pipe(pipes) == 0 && signal(SIGINT, SIG_DFL) == count_interrupt);
+    CHECK(pthread_create(&thread, NULL, interrupt_reader, NULL) == 0);
+    CHECK(tmwatch_bench_main(&memory, 8, given) == 0);
+    CHECK(pthread_join(thread, NULL) == 0);
+}
+
 int main(void)
 {
     run_apart();
     keep_signals();
+    go_on_after_interrupt();
     return 0;
 }

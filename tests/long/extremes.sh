@@ -194,13 +194,13 @@ closing_windows() {
 }
 
 slow() {
-    local slow=${SLOW:-5} most=200000 LIMIT=${LIMIT:-20}
-    row 'judge: the slowest window that was found' $most "$(opaque 125)" judge <"$top/examples/slowest.trace"
-    row "judge: $slow reads of a live transaction" $most "$(opaque $((113 + 2 * slow)))" judge < <(live_reads "$slow")
-    row 'judge: the same, and at last a value that nobody wrote' $most \
+    local slow=${SLOW:-5} LIMIT=${LIMIT:-20}
+    row 'judge: eight transactions, behind 64 outcomes' $little "$(opaque 125)" judge <"$top/examples/slowest.trace"
+    row "judge: $slow reads of a live transaction" $little "$(opaque $((113 + 2 * slow)))" judge < <(live_reads "$slow")
+    row 'judge: the same, and at last a value that nobody wrote' $little \
         "1 {\"at\":$((115 + 2 * slow)),\"events\":$((115 + 2 * slow)),\"verdict\":\"violated\"}" judge \
         < <(live_reads "$slow" && printf '7 R 7\n7 V 9\n')
-    row "judge: $slow windows from 64 outcomes to 64, not blind" $most "$(opaque $((64 + 82 * slow)))" judge \
+    row "judge: $slow windows from 64 outcomes to 64, not blind" $little "$(opaque $((64 + 82 * slow)))" judge \
         < <(closing_windows "$slow")
 }
 

@@ -11,8 +11,8 @@
 # passes by all if all seeds are violated; by a single schedule its row only tells. Standard error has a line for each seed that came out
 # otherwise.
 # What can't be built here is skipped, and a line says so. The last line is 'N passed, M failed', and the exit status is 1 if one failed.
-# Environment: BUILT (tests/common.sh), SEEDS (10), SECONDS_OF_BROKEN (20), RIGHT_ROUNDS (20000; libitm: a tenth), ONLY (a pattern: the rows whose kind and name have it), SCHEDULES (all steps rounds permits), CC (cc), CXX (c++), CARGO
-# (cargo).
+# Environment: BUILT (tests/common.sh), SEEDS (10), SECONDS_OF_BROKEN (20), RIGHT_ROUNDS (20000; libitm: a tenth), ONLY (a pattern: the rows
+# whose kind and name have it), SCHEDULES (all steps rounds permits), CC (cc), CXX (c++), CARGO (cargo).
 set -eu
 # shellcheck source=tests/common.sh
 . "$(dirname "${BASH_SOURCE[0]}")/../common.sh"
@@ -177,8 +177,13 @@ rows 'visible readers, delayed stores' right bench readers_NONE --orders x86
 if has "$cxx" 'memories in C++'; then
     in_cpp lock tests/c/bench_lock.cpp NONE
     in_cpp class tests/c/bench_class.cpp NONE
+    for fault in NONE CHANCE LOCK MARK WRAP; do
+        in_cpp lost_$fault tests/c/bench_lost.cpp $fault
+    done
     rows 'C++, one lock' right bench lock
     rows 'C++, TL2 as a class' right bench class
+    rows 'C++, locks and marks' right bench lost_NONE
+    rows 'C++, half of commits rolled back' right bench lost_CHANCE
 fi
 if has_transactions "$cc" libitm; then
     in_c libitm tests/c/bench_libitm.c NONE -fgnu-tm
@@ -220,4 +225,9 @@ rows 'visible readers, no fence' broken bench readers_FENCE --orders x86
 rows 'TL2, a lock that is left held' lost bench tl2_LEAK
 rows 'TL2, a clock of eight bits' lost bench tl2_WRAP
 rows 'visible readers, a flag that stays' lost bench readers_LEAK
+if command -v "$cxx" >/dev/null; then
+    rows 'C++, a lock that is left held' lost bench lost_LOCK
+    rows "C++, a reader's mark that stays" lost bench lost_MARK
+    rows 'C++, a clock of eight bits' lost bench lost_WRAP
+fi
 end_rows

@@ -95,16 +95,16 @@ for test in draws start plans seconds short whole eight permits same; do
     plant '' || true
     ends "no mistake: $test" 0 "$test"
 done
-mistake 'the seed is not used' 's/plan->seed \* MOST_THREADS + a->thread/a->thread/' draws
-mistake 'all threads draw the same' 's/plan->seed \* MOST_THREADS + a->thread/plan->seed * MOST_THREADS/' draws
+mistake 'the seed is not used' 's/plan.seed \* MOST_THREADS + a->thread/a->thread/' draws
+mistake 'all threads draw the same' 's/plan.seed \* MOST_THREADS + a->thread/plan.seed * MOST_THREADS/' draws
 mistake 'pauses draw from the transactions' 's/draw(&a->pauses/draw(\&a->draws/' draws
 mistake 'two threads write the same values' 's/(++a->written \* MOST_THREADS + a->thread)/(++a->written * MOST_THREADS)/' draws
 mistake 'values have few bits' 's/ + a->thread) \* apart_values/ + a->thread)/' draws
 mistake 'each addend is 1' 's/draw(&a->addends, UINT64_MAX)/1/' draws
 mistake 'a second attempt writes the values of the first' 's/    draw_values(a);/    if (a->made == 1) draw_values(a);/' draws
 mistake 'the last register is never used' 's/draw(&a->draws, plan->registers)/draw(\&a->draws, plan->registers - 1)/' draws
-mistake 'no round is mixed' 's/draw(draws, 100) < b->plan->mixes/draw(draws, 100) > 100/' draws
-mistake 'written values may be those of the start' 's/while (is_start(a->bench->plan, value))/while (false)/' start
+mistake 'no round is mixed' 's/draw(draws, 100) < b->plan.mixes/draw(draws, 100) > 100/' draws
+mistake 'written values may be those of the start' 's/while (is_start(&a->bench->plan, value))/while (false)/' start
 mistake 'by permits, the most rounds are told' \
     's/begun < rounds ? begun/begun > rounds || rounds == UINT64_MAX ? begun/' plans
 mistake 'a wrong start is not told' 's/counts.transactions == 1)/counts.transactions == 0)/' plans

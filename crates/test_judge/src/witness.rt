@@ -3,6 +3,7 @@ use std::alloc::{AllocError, Global};
 use std::test::Fail;
 use test_support::{FIRST, SECOND, one, other};
 use tmw_cuts::{States, Window};
+use tmw_defs::Criterion;
 use tmw_events::{Event, Kind, Registers};
 use tmw_wellformed::Note;
 use tmw_witness::Witness;
@@ -67,7 +68,10 @@ fn known_after(alloc: Global, events: &[Event]) -> Result<(usize, bool), AllocEr
         }
         count = count.saturating_add(usize::from(witness.is_known()));
     }
-    Ok((count, witness.finds(&States::zeros(alloc)?, &window)))
+    Ok((
+        count,
+        witness.finds(Criterion::Opacity, &States::zeros(alloc)?, &window),
+    ))
 }
 
 #[test]

@@ -1,34 +1,12 @@
 -- A counter that stands for a history, one event further.
-use Rattle.std.proofs.Common.{◌≡◌, ◌==◌, ◌&&◌, ◌+◌, ◌-◌, ◌^◌, ◌++◌, ◌<◌, ◌≤◌, ◌↔◌, ℕ, zero, suc, Bool, true, false, not, List, [], ◌∷◌, length, max, Option, Some, None, IsTrue, refl, sym, ap, subst, ◌∙◌, inl, inr, arith}
-use Rattle.std.specs.Prelude.{count_by, is_some, option_and_then, if◌then◌else◌}
-use Rattle.std.specs.List.{AllByRecursion}
-use Rattle.std.proofs.lemmas.Bool.{and_parts, cases_Bool, both_ways, eqb-true, eq-eqb}
-use Rattle.std.proofs.lemmas.List.{length-map}
-use Rattle.tmw_events.specs.declared.event.Event.{Event}
-use Rattle.tmw_events.specs.declared.event.Kind.{Kind}
-use Rattle.tmw_events.specs.declared.event.Kind.TheVariants.{C, X, A}
-use Rattle.tmw_counts.specs.declared.counter.Counter.{Counter}
+use Rattle.tmw_counts.proofs.Shared.{A, AllByRecursion, AreCounted, Bool, C, Counter, Counts, CountsSo, Event, HasCounts, HasWide, IsStep, IsTrue, Kind, Lies, List, None, Notes, Option, Some, Txn, X, [], aborts, add_event, and_parts, ap, arith, begun, both_ways, call_of, cases_Bool, commits, count_by, end_of, ends, eq-eqb, eqb-true, false, goes_on, if◌then◌else◌, inl, inr, is_aborted, is_call, is_committed, is_cut, is_some, is_unasked, is_well_formed, length, length-add, length-map, lies-transactions, live_count, live_count-add, live_of, max, meets, not, one_if, option_and_then, overlaps_any, pending_call, prefixes, refl, status_of, still, subst, suc, sym, take-push, take_all-push, text_of, texts_law, transactions, transactions-push, transactions_from, true, zero, ℕ, ◌&&◌, ◌++◌, ◌+◌, ◌-◌, ◌<◌, ◌==◌, ◌^◌, ◌↔◌, ◌∙◌, ◌∷◌, ◌≡◌, ◌≤◌}
 use Rattle.tmw_counts.specs.declared.threads.Threads.{Threads}
 use Rattle.tmw_counts.specs.Threads.{HasThreads}
-use Rattle.tmw_defs.specs.declared.counts.Counts.{Counts}
-use Rattle.tmw_defs.specs.Windows.{HasWide}
-use Rattle.tmw_defs.specs.Counts.{HasCounts, prefixes, overlaps_any, is_committed, is_aborted, is_unasked}
-use Rattle.tmw_defs.specs.Cuts.{is_cut}
-use Rattle.tmw_defs.specs.History.{Txn, add_event, ends, is_call, is_well_formed, status_of, transactions, transactions_from}
-use Rattle.tmw_defs.proofs.OneMore.{begun, transactions-push}
-use Rattle.tmw_defs.proofs.Places.{Lies, lies-transactions}
-use Rattle.tmw_defs.proofs.TextsProof.{texts_law}
-use Rattle.tmw_defs.proofs.WindowsProof.{take-push, take_all-push}
 use Rattle.tmw_wellformed.specs.declared.note.End.{End}
 use Rattle.tmw_wellformed.specs.declared.note.Note.{Note}
 use Rattle.tmw_wellformed.specs.declared.tracker.Tracker.{Tracker}
-use Rattle.tmw_wellformed.specs.Notes.{Notes, end_of}
-use Rattle.tmw_wellformed.specs.Pending.{call_of, live_of, live_count, pending_call}
 use Rattle.tmw_wellformed.specs.Tracks.{Tracks}
-use Rattle.tmw_wellformed.proofs.HistorySteps.{length-add, live_count-add, text_of, still}
-use Rattle.tmw_wellformed.proofs.TextSteps.{goes_on}
 use Rattle.tmw_wellformed.proofs.Tracking.{is_well_formed-push}
-use Rattle.tmw_counts.specs.Counting.{AreCounted, CountsSo, IsStep, aborts, commits, meets, one_if}
 use Rattle.tmw_counts.proofs.Ended.{aborted-add, committed-add, unasked-add}
 use Rattle.tmw_counts.proofs.Overlaps.{apart-begins, apart-ends, apart-grows, apart-none, begins-add, grows-add, is_apart, old-all, overlapping-begins, overlapping-grows}
 use Rattle.tmw_counts.proofs.Sums.{count-cons, count-length, one_if-le}

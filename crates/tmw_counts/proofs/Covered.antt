@@ -1,29 +1,12 @@
 -- The part of a history that is counted beside its verdict, with one event more.
-use Rattle.std.proofs.Common.{◌≡◌, ◌+◌, ◌++◌, ◌≤◌, ℕ, zero, suc, Bool, true, false, List, [], ◌∷◌, length, IsTrue, IsFalse, refl, sym, ap, subst, ◌∙◌, inl, inr, arith}
-use Rattle.std.specs.Prelude.{take, if◌then◌else◌}
-use Rattle.std.proofs.lemmas.Bool.{both_ways, cases_Bool, cases_lt}
-use Rattle.std.proofs.lemmas.List.{take_all}
-use Rattle.tmw_events.specs.declared.event.Event.{Event}
+use Rattle.tmw_counts.proofs.Shared.{AreFine, Bool, Event, IsFalse, IsFine, IsFirst, IsFirst-push, IsMalformed, IsTooMany, IsTooWide, IsTrue, IsVerdict, IsViolated, List, Rules, [], ap, arith, both_ways, cases_Bool, cases_lt, counted_by, false, if◌then◌else◌, inl, inr, is_open, is_well_formed, length, length-push, part_by, refl, subst, suc, sym, take, take-push, take_all, take_all-push, true, verdict-one, zero, ℕ, ◌++◌, ◌+◌, ◌∙◌, ◌∷◌, ◌≡◌, ◌≤◌}
 use Rattle.tmw_defs.specs.declared.verdict.Verdict.{Verdict}
 use Rattle.tmw_defs.specs.declared.verdict.Verdict.TheVariants.{OpaqueSoFar, StrictSoFar, Violated, Undecided, Malformed}
 use Rattle.tmw_defs.specs.declared.verdict.Why.TheVariants.{Transactions, States}
-use Rattle.tmw_defs.specs.History.{is_well_formed}
-use Rattle.tmw_defs.specs.Verdict.{AreFine, IsFine, IsFirst, IsMalformed, IsTooMany, IsTooWide, IsVerdict, IsViolated, Rules}
 use Rattle.tmw_defs.proofs.Criteria.{formed-final}
-use Rattle.tmw_defs.proofs.VerdictProof.{verdict-one}
-use Rattle.tmw_defs.proofs.WindowsProof.{length-push, take-push, take_all-push}
-use Rattle.tmw_counts.specs.Parts.{counted_by, is_open, part_by}
 
 pub take_whole : (h : List Event) → take (length h) h ≡ h
 take_whole h = take_all (length h) h (omega arith)
-
-IsFirst-push : (Wrong : Rules → List Event → Type 0) (rules : Rules) (h : List Event) (e : Event) (m : ℕ) → IsFirst Wrong rules h m
-    → IsFirst Wrong rules (h ++ e ∷ []) m
-IsFirst-push Wrong rules h e m first = record {
-  within = (let low = first.within in let same = length-push h e in omega (arith, low, same));
-  here = rw (take-push m h e first.within) first.here;
-  before = λ k less. (let low = first.within in rw (take-push k h e (omega (arith, low, less))) (first.before k less));
-}
 
 -- a verdict that something is wrong stays
 pub stays : (rules : Rules) (h : List Event) (e : Event) (v w : Verdict) → is_open v ≡ false → IsVerdict rules h v → IsVerdict rules (h ++ e ∷ []) w

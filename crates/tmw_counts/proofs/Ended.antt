@@ -1,20 +1,7 @@
 -- How many transactions have ended in which way, with one event more.
-use Rattle.std.proofs.Common.{◌≡◌, ◌==◌, ◌&&◌, ◌+◌, ◌-◌, ◌++◌, ◌≤◌, ◌↔◌, ℕ, zero, suc, Bool, true, false, not, List, [], ◌∷◌, length, Option, Some, None, IsTrue, refl, sym, ap, ◌∙◌, inl, inr, arith, length-append}
-use Rattle.std.specs.Prelude.{count_by, slice_get, is_some}
-use Rattle.std.proofs.lemmas.Bool.{cases_Bool, and_parts, both_ways}
-use Rattle.tmw_events.specs.declared.event.Event.{Event}
-use Rattle.tmw_events.specs.declared.event.Kind.{Kind}
-use Rattle.tmw_events.specs.declared.event.Kind.TheVariants.{T, C, X, A}
+use Rattle.tmw_counts.proofs.Shared.{A, Bool, C, Event, IsTrue, Kind, List, None, Option, Some, T, Txn, X, [], aborts, add_event, add_event_here, add_event_past, and_parts, ap, arith, begun, both_ways, call_of, cases_Bool, commits, count_by, end_of, false, inl, inr, is_aborted, is_committed, is_ended, is_over, is_request, is_some, is_unasked, joins, length, length-append, live_of, longer, not, one_if, refl, slice_get, slice_get_end, status_after, status_of, suc, sym, text_of, true, zero, ℕ, ◌&&◌, ◌++◌, ◌+◌, ◌-◌, ◌==◌, ◌↔◌, ◌∙◌, ◌∷◌, ◌≡◌, ◌≤◌}
 use Rattle.tmw_defs.specs.declared.status.Status.{Status}
 use Rattle.tmw_defs.specs.declared.status.Status.TheVariants.{Committed, Aborted}
-use Rattle.tmw_defs.specs.Counts.{is_committed, is_aborted, is_request, is_unasked}
-use Rattle.tmw_defs.specs.History.{Txn, add_event, is_ended, is_over, status_after, status_of}
-use Rattle.tmw_defs.proofs.OneMore.{joins, begun, longer, add_event_here, add_event_past}
-use Rattle.tmw_defs.proofs.TextsProof.{slice_get_end}
-use Rattle.tmw_wellformed.specs.Pending.{call_of, live_of}
-use Rattle.tmw_wellformed.specs.Notes.{end_of}
-use Rattle.tmw_wellformed.proofs.HistorySteps.{text_of}
-use Rattle.tmw_counts.specs.Counting.{aborts, commits, one_if}
 use Rattle.tmw_counts.proofs.Sums.{count-cons}
 
 -- the text with the event counts in place of the live one's

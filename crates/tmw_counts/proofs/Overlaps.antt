@@ -1,21 +1,9 @@
 -- How many transactions overlap another, with one event more.
-use Rattle.std.proofs.Common.{◌≡◌, ◌==◌, ◌&&◌, ◌||◌, ◌+◌, ◌++◌, ◌<◌, ◌≤◌, ◌⊎◌, ℕ, Bool, true, false, not, nat_lt, List, [], ◌∷◌, IsTrue, refl, sym, ap, ◌∙◌, inl, inr, arith}
-use Rattle.std.specs.Prelude.{count_by, is_some, filter}
-use Rattle.std.specs.List.{list_any, AllByRecursion}
-use Rattle.std.proofs.lemmas.Bool.{cases_Bool, and_parts, both_ways, eqb-true, eq-eqb, ltb-true, lt-ltb}
+use Rattle.tmw_counts.proofs.Shared.{AllByRecursion, Bool, Event, IsTrue, Lies, List, Txn, [], add_event, add_event_here, add_event_past, and_parts, ap, arith, begun, both_ways, cases_Bool, count_by, ended_rest, ends, eq-eqb, eqb-true, false, filter, inl, inr, is_ended, is_ended-push, is_some, joins, list_any, live_of, longer, lt-ltb, ltb-true, meets, nat_lt, not, one_if, only_one, overlap, overlaps_any, refl, still, sym, true, ℕ, ◌&&◌, ◌++◌, ◌+◌, ◌<◌, ◌==◌, ◌||◌, ◌∙◌, ◌∷◌, ◌≡◌, ◌≤◌, ◌⊎◌}
 use Rattle.std.proofs.lemmas.List.Folds.{list_any-append}
-use Rattle.tmw_events.specs.declared.event.Event.{Event}
-use Rattle.tmw_defs.specs.Counts.{overlap, overlaps_any}
-use Rattle.tmw_defs.specs.History.{Txn, add_event, ends, is_ended}
 use Rattle.tmw_defs.specs.Opaque.{precedes}
 use Rattle.tmw_defs.specs.Texts.{ended_but_last, of_thread}
 use Rattle.tmw_defs.proofs.Along.{Pairs}
-use Rattle.tmw_defs.proofs.OneMore.{joins, begun, longer, add_event_here, add_event_past, ended_rest, only_one}
-use Rattle.tmw_defs.proofs.Places.{Lies}
-use Rattle.tmw_wellformed.specs.Pending.{live_of}
-use Rattle.tmw_wellformed.proofs.HistorySteps.{still}
-use Rattle.tmw_wellformed.proofs.TextSteps.{is_ended-push}
-use Rattle.tmw_counts.specs.Counting.{meets, one_if}
 use Rattle.tmw_counts.proofs.Sums.{any-count, count-append, count-cons, count-le, count-none, count-one, count-or, none-count, one_if-le}
 
 -- live, and overlaps none of these

@@ -1,10 +1,5 @@
 -- The counter takes an event exactly where the history stays well-formed.
-use Rattle.std.proofs.Common.{◌≡◌, ◌++◌, ◌<◌, ◌-◌, ◌^◌, ℕ, List, [], ◌∷◌, length, Result, Ok, Err, IfOk, IfErr, OnErr, IsTrue, IsFalse, sym, subst}
-use Rattle.std.proofs.lemmas.Bool.{both_ways}
-use Rattle.tmw_events.specs.declared.event.Event.{Event}
-use Rattle.tmw_counts.specs.Counting.{CountsSo}
-use Rattle.tmw_counts.specs.declared.counter.Counter.{Counter}
-use Rattle.tmw_defs.specs.History.{is_well_formed}
+use Rattle.tmw_counts.proofs.Shared.{Counter, CountsSo, Err, Event, IfErr, IfOk, IsFalse, IsTrue, List, Ok, OnErr, Result, [], both_ways, is_well_formed, length, subst, sym, ℕ, ◌++◌, ◌-◌, ◌<◌, ◌^◌, ◌∷◌, ◌≡◌}
 use Rattle.tmw_wellformed.specs.Faults.{Refuses}
 use Rattle.tmw_wellformed.specs.declared.malformed.Malformed.{Malformed}
 

@@ -1,19 +1,12 @@
 -- How wide the widest window of a history is, and that it can be told whether it has a window of more than so many transactions.
-use Rattle.std.proofs.Common.{◌≡◌, ◌+◌, ◌++◌, ◌<◌, ◌≤◌, ◌↔◌, ◌⊎◌, append_assoc, append-nil, refl, ℕ, zero, suc, List, [], ◌∷◌, length, sym, subst, inl, inr, arith}
+use Rattle.tmw_counts.proofs.Shared.{Counts, Event, HasCounts, HasWide, IsLastCut, List, [], append-nil, append_assoc, arith, between, cases_Bool, cases_lt, inl, inr, is_cut, length, refl, subst, suc, sym, zero, ℕ, ◌++◌, ◌+◌, ◌<◌, ◌↔◌, ◌∷◌, ◌≡◌, ◌≤◌, ◌⊎◌}
 use Rattle.std.proofs.Math.Bridge.{le_prop}
 use Rattle.std.proofs.Math.Bool.{Bool-set}
 use Rattle.std.proofs.Math.Nat.{ℕ_set}
 use Rattle.std.proofs.Math.Logic.{∥∥₁_elim, ∥∥₁_map}
-use Rattle.std.proofs.lemmas.Bool.{cases_Bool, cases_lt}
-use Rattle.tmw_events.specs.declared.event.Event.{Event}
 use Rattle.tmw_counts.specs.Summaries.{IsSummary}
 use Rattle.tmw_counts.specs.declared.summary.Summary.{Summary}
 use Rattle.tmw_counts.proofs.Windows.{last-cut, last-uncut, widest-push}
-use Rattle.tmw_defs.specs.Counts.{HasCounts}
-use Rattle.tmw_defs.specs.Cuts.{is_cut}
-use Rattle.tmw_defs.specs.Summary.{IsLastCut}
-use Rattle.tmw_defs.specs.Windows.{HasWide, between}
-use Rattle.tmw_defs.specs.declared.counts.Counts.{Counts}
 
 record Widest (h : List Event) : Type 0 where
   most : ℕ

@@ -1,22 +1,6 @@
 -- The cuts and the widest window of a history, with one event more.
-use Rattle.std.proofs.Common.{◌≡◌, ◌+◌, ◌-◌, ◌++◌, ◌<◌, ◌≤◌, ◌↔◌, ℕ, List, [], ◌∷◌, length, map, max, IsTrue, IsFalse, refl, sym, ap, subst, ◌∙◌, inl, inr, arith}
-use Rattle.std.specs.Prelude.{count_by, take, drop}
-use Rattle.std.proofs.lemmas.Bool.{cases_lt}
-use Rattle.std.proofs.lemmas.List.{map-append, take_all}
-use Rattle.tmw_events.specs.declared.event.Event.{Event}
-use Rattle.tmw_defs.specs.Counts.{prefixes}
-use Rattle.tmw_defs.specs.Cuts.{is_cut}
-use Rattle.tmw_defs.specs.History.{transactions}
-use Rattle.tmw_defs.specs.Summary.{IsLastCut}
-use Rattle.tmw_defs.specs.Windows.{IsCutAt, HasWide}
-use Rattle.tmw_defs.proofs.OneMore.{transactions-push}
-use Rattle.tmw_defs.proofs.VerdictProof.{IsLastCut-open}
-use Rattle.tmw_defs.proofs.WindowsProof.{length-push, take-append-drop-push, take-push, take_all-push, IsCutAt-push, IsCutAt_push, is_cut-push, HasWide-open, HasWide_push}
-use Rattle.tmw_wellformed.proofs.HistorySteps.{length-add}
-use Rattle.tmw_counts.specs.Counting.{one_if}
+use Rattle.tmw_counts.proofs.Shared.{Event, HasWide, HasWide-open, HasWide_push, IsCutAt, IsCutAt-push, IsCutAt_push, IsFalse, IsLastCut, IsLastCut-open, IsTrue, List, [], ap, arith, cases_lt, count_by, drop, inl, inr, is_cut, is_cut-push, is_some, length, length-add, length-push, live_of, map, map-append, max, one_if, prefixes, refl, subst, sym, take, take-append-drop-push, take-push, take_all, take_all-push, transactions, transactions-push, ℕ, ◌++◌, ◌+◌, ◌-◌, ◌<◌, ◌↔◌, ◌∙◌, ◌∷◌, ◌≡◌, ◌≤◌}
 use Rattle.tmw_counts.proofs.Sums.{count-append, count-one, one_if-le}
-use Rattle.std.specs.Prelude.{is_some}
-use Rattle.tmw_wellformed.specs.Pending.{live_of}
 use Rattle.tmw_cuts.proofs.AcrossCuts.{length-transactions_cut}
 
 prefixes-push : (h : List Event) (e : Event) → prefixes (h ++ e ∷ []) ≡ prefixes h ++ (h ++ e ∷ []) ∷ []

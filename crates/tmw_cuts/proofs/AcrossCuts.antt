@@ -1,13 +1,6 @@
 -- Over a cut the transactions of a history are those of its two parts, so a note of the whole is a note of what follows the cut.
-use Rattle.std.proofs.Common.{◌≡◌, ◌+◌, suc, List, [], ◌∷◌, ◌++◌, length, IsTrue, refl, sym, ap, ◌∙◌, arith, append_assoc, length-append}
-use Rattle.std.proofs.lemmas.List.{append-nil}
-use Rattle.tmw_events.specs.declared.event.Event.{Event}
-use Rattle.tmw_defs.specs.Cuts.{is_cut}
-use Rattle.tmw_defs.specs.History.{transactions, transactions_from}
+use Rattle.tmw_cuts.proofs.Shared.{Event, IsLater, IsTrue, List, Note, Notes, [], ap, append-nil, append_assoc, arith, is_cut, later-transactions, length, length-append, refl, suc, sym, transactions, transactions_from, transactions_from-append, transactions_from-ended, ◌++◌, ◌+◌, ◌∙◌, ◌∷◌, ◌≡◌}
 use Rattle.tmw_defs.proofs.Along.{Pairs}
-use Rattle.tmw_defs.proofs.Places.{IsLater, later-transactions, transactions_from-append, transactions_from-ended}
-use Rattle.tmw_wellformed.specs.declared.note.Note.{Note}
-use Rattle.tmw_wellformed.specs.Notes.{Notes}
 
 length-pairs : {A B : Type 0} (Rel : A → B → Type 0) (xs : List A) (ys : List B) → Pairs Rel xs ys → length xs ≡ length ys
 length-pairs Rel [] [] pairs = refl

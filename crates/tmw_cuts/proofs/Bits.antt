@@ -1,15 +1,8 @@
 -- The bits of a mask of transactions, one by one, and a mask with one more.
-use Rattle.std.proofs.Common.{◌≡◌, ◌+◌, ◌*◌, ◌/◌, ◌%◌, ◌^◌, ◌<◌, ◌≤◌, ℕ, zero, suc, Bool, true, false, List, [], ◌∷◌, Some, bit_or, refl, sym, ap, ◌∙◌, inl, inr, arith, pow-suc, w8}
-use Rattle.std.specs.Prelude.{slice_get}
-use Rattle.std.specs.Int.{bit_at}
+use Rattle.tmw_cuts.proofs.Shared.{Bool, List, Some, [], ap, arith, before_of, bit, bit_at, bit_at-suc, bit_at_above, bit_at_lowest, bit_at_set_other, bit_at_set_same, bit_or, cases_eq, cases_lt, false, inl, inr, pow-suc, precedes, refl, same_from_bits, slice_get, suc, sym, true, w8, zero, ℕ, ◌%◌, ◌*◌, ◌+◌, ◌-◌, ◌/◌, ◌<◌, ◌^◌, ◌∙◌, ◌∷◌, ◌≡◌, ◌≤◌}
 use Rattle.std.proofs.Math.Nat.{mod-eq_of_lt}
 use Rattle.std.proofs.Math.Pow.{pow_mono}
-use Rattle.std.proofs.lemmas.Nat.Bits.{bit_at_lowest, bit_at-suc, bit_at_set_same, bit_at_set_other, same_from_bits}
 use Rattle.tmw_defs.specs.History.{Txn}
-use Rattle.tmw_defs.specs.Opaque.{precedes}
-use Rattle.tmw_cuts.specs.Views.{bit}
-use Rattle.tmw_cuts.specs.Standing.{before_of}
-use Rattle.tmw_cuts.proofs.Chosen.{same_or_not}
 
 low_bit : (b : Bool) (n : ℕ) → (bit b + 2 * n) % 2 ≡ bit b
 low_bit true n = omega arith
@@ -61,7 +54,24 @@ shift_is place within =
 -- a mask with one bit more
 pub mask-set : (mask place : ℕ) → place < 8 → bit_at mask place ≡ 0 → bit_or mask (1 * 2 ^ place % 2 ^ 8) ≡ mask + 2 ^ place
 mask-set mask place within new = same_from_bits (bit_or mask (1 * 2 ^ place % 2 ^ 8)) (mask + 2 ^ place) (λ i.
-    elim (same_or_not i place) [
+    elim (cases_eq i place) [
       | inl same ↦ rw same (bit_at_set_same w8 mask place within ∙ sym (bit_at-more_same mask place new))
       | inr other ↦ bit_at_set_other w8 mask place within i other ∙ sym (bit_at-more_other mask place i new other)
     ])
+
+-- bits of a mask with one less
+pub bit_at-less_same : (mask j : ℕ) → bit_at mask j ≡ 1 → 2 ^ j ≤ mask → bit_at (mask - 2 ^ j) j ≡ 0
+bit_at-less_same mask zero one small =
+    bit_at_lowest (mask - 2 ^ 0) ∙ omega (arith, sym (bit_at_lowest mask) ∙ one)
+bit_at-less_same mask (suc j) one small =
+    let half : (mask - 2 ^ suc j) / 2 ≡ mask / 2 - 2 ^ j = omega (arith, pow-suc 2 j) in
+    bit_at-suc (mask - 2 ^ suc j) j ∙ ap (λ m. bit_at m j) half
+    ∙ bit_at-less_same (mask / 2) j (sym (bit_at-suc mask j) ∙ one) (omega (arith, pow-suc 2 j, small))
+
+-- a bit of a mask is no more than the mask
+pub bit_small : (mask place : ℕ) → bit_at mask place ≡ 1 → 2 ^ place ≤ mask
+bit_small mask place one =
+    elim (cases_lt mask (2 ^ place)) [
+      | inl less ↦ absurd (omega (arith, one, bit_at_above mask place place less (omega arith)))
+      | inr small ↦ omega (arith, small)
+    ]

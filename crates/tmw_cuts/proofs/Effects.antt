@@ -1,16 +1,6 @@
 -- An effect with an answer or a write more, and the registers one at a time.
-use Rattle.std.proofs.Common.{◌≡◌, ◌==◌, ◌&&◌, ◌||◌, ◌+◌, ◌%◌, ◌^◌, ◌++◌, ◌<◌, ℕ, zero, suc, Bool, true, false, not, List, [], ◌∷◌, length, get_or, set, take, drop, refl, sym, ap, ◌∙◌, inl, inr, add-one, arith}
-use Rattle.std.specs.Prelude.{slice_index, slice_set, if◌then◌else◌}
-use Rattle.std.specs.Int.{bit_at}
-use Rattle.std.proofs.lemmas.Bool.{cases_Bool, eqb-true}
-use Rattle.std.proofs.Math.Bool.{and-true}
-use Rattle.tmw_events.specs.declared.ix.Ix.{Ix}
-use Rattle.tmw_defs.specs.declared.op.Op.{Op}
-use Rattle.tmw_defs.specs.declared.op.Op.TheVariants.{Read, Write, Add}
-use Rattle.tmw_defs.specs.Opaque.{State, reads_hold, after_writes}
-use Rattle.tmw_cuts.specs.declared.effect.Effect.{Effect}
-use Rattle.tmw_cuts.specs.Effects.{SumsUp}
-use Rattle.tmw_cuts.specs.Registers.{chosen, have, put}
+use Rattle.tmw_cuts.proofs.Shared.{Add, Bool, Effect, Ix, List, Op, Read, State, SumsUp, Write, [], add-one, after_writes, and-true, ap, arith, bit_at, cases_Bool, chosen, drop, eqb-true, false, get_or, have, if◌then◌else◌, inl, inr, length, not, put, reads_hold, refl, set, slice_index, slice_set, suc, sym, true, zero, ℕ, ◌%◌, ◌&&◌, ◌*◌, ◌++◌, ◌+◌, ◌-◌, ◌<◌, ◌==◌, ◌^◌, ◌||◌, ◌∙◌, ◌∷◌, ◌≡◌}
+use Rattle.tmw_cuts.proofs.Bits.{bit_at-less_same, bit_small, mask-set, shift_is}
 use Rattle.tmw_cuts.proofs.Chosen.{with_bit, length-chosen, get_or-chosen, chosen-with_bit}
 
 with_first : (a b c d : Bool) → b ≡ (c && d) → (a && b) ≡ ((a && c) && d)
@@ -37,7 +27,7 @@ after_writes-append s (Write q w ∷ one) two = after_writes-append (slice_set s
 after_writes-append s (Add q d w ∷ one) two = after_writes-append (slice_set s q.number ((w + d) % 2 ^ 64)) one two
 
 -- what a register holds where the values are put in
-index-put : (ds : List Bool) (vs : List ℕ) (s : State) (i : ℕ) → i < length ds → i < length vs → i < length s
+pub index-put : (ds : List Bool) (vs : List ℕ) (s : State) (i : ℕ) → i < length ds → i < length vs → i < length s
     → slice_index (put ds vs s) i ≡ (if get_or ds i false then slice_index vs i else slice_index s i)
 index-put [] vs s i a b c = absurd (omega (arith, a))
 index-put (d ∷ ds) [] s i a b c = absurd (omega (arith, b))
@@ -56,23 +46,16 @@ put-set (d ∷ ds) (y ∷ vs) (x ∷ s) zero v a b c = refl
 put-set (d ∷ ds) (y ∷ vs) (x ∷ s) (suc i) v a b c =
     ap (λ l. (if d then y else x) ∷ l) (put-set ds vs s i v (omega (arith, a)) (omega (arith, b)) (omega (arith, c)))
 
--- the registers behind a place and the one at it
-put-more : (ds : List Bool) (vs : List ℕ) (s : State) (i : ℕ) → i < length ds → i < length vs → i < length s
-    → put (take (suc i) ds) vs s
-    ≡ (if get_or ds i false then slice_set (put (take i ds) vs s) i (slice_index vs i) else put (take i ds) vs s)
-put-more [] vs s i a b c = absurd (omega (arith, a))
-put-more (d ∷ ds) [] s i a b c = absurd (omega (arith, b))
-put-more (d ∷ ds) (y ∷ vs) [] i a b c = absurd (omega (arith, c))
-put-more (true ∷ ds) (y ∷ vs) (x ∷ s) zero a b c = refl
-put-more (false ∷ ds) (y ∷ vs) (x ∷ s) zero a b c = refl
-put-more (d ∷ ds) (y ∷ vs) (x ∷ s) (suc i) a b c =
-    ap (λ l. (if d then y else x) ∷ l) (put-more ds vs s i (omega (arith, a)) (omega (arith, b)) (omega (arith, c)))
-    ∙ through (get_or ds i false)
-  where
-    through : (e : Bool) → ((if d then y else x) ∷ (if e then slice_set (put (take i ds) vs s) i (slice_index vs i) else put (take i ds) vs s))
-        ≡ (if e then (if d then y else x) ∷ slice_set (put (take i ds) vs s) i (slice_index vs i) else (if d then y else x) ∷ put (take i ds) vs s)
-    through true = refl
-    through false = refl
+-- a register less to put in, whose value is in already
+put-one : (ds : List Bool) (vs : List ℕ) (s : State) (i : ℕ) → i < length ds → i < length vs → i < length s
+    → put (set ds i true) vs s ≡ put ds vs (slice_set s i (slice_index vs i))
+put-one [] vs s i a b c = absurd (omega (arith, a))
+put-one (d ∷ ds) [] s i a b c = absurd (omega (arith, b))
+put-one (d ∷ ds) (y ∷ vs) [] i a b c = absurd (omega (arith, c))
+put-one (true ∷ ds) (y ∷ vs) (x ∷ s) zero a b c = refl
+put-one (false ∷ ds) (y ∷ vs) (x ∷ s) zero a b c = refl
+put-one (d ∷ ds) (y ∷ vs) (x ∷ s) (suc i) a b c =
+    ap (λ l. (if d then y else x) ∷ l) (put-one ds vs s i (omega (arith, a)) (omega (arith, b)) (omega (arith, c)))
 
 -- the registers from a place on: the one at it, and those ahead
 pub have-drop : (ds : List Bool) (vs : List ℕ) (s : State) (i : ℕ) → i < length ds → i < length vs → i < length s
@@ -224,10 +207,16 @@ have-turn ds vs s i d v l within met =
     turn true false false rest = refl
 
 -- a turn of the loop that puts the values in
-pub put-past : (ds : List Bool) (vs : List ℕ) (s : State) (i : ℕ) → length ds ≡ 8 → length vs ≡ 8 → length s ≡ 8 → i < 8
-    → put (take (i + 1) ds) vs s
-    ≡ (if get_or ds i false then slice_set (put (take i ds) vs s) i (slice_index vs i) else put (take i ds) vs s)
-put-past ds vs s i d v l within = rw add-one (put-more ds vs s i (rw d within) (rw v within) (rw l within))
+pub put-next : (mask r : ℕ) (vs : List ℕ) (s : State) → r < 8 → bit_at mask r ≡ 1 → length vs ≡ 8 → length s ≡ 8
+    → put (chosen mask) vs s ≡ put (chosen (mask - 1 * 2 ^ r % 2 ^ 8)) vs (slice_set s r (slice_index vs r))
+put-next mask r vs s within one v l =
+    let less = mask - 1 * 2 ^ r % 2 ^ 8 in
+    let small = bit_small mask r one in
+    let is : less ≡ mask - 2 ^ r = ap (λ n. mask - n) (shift_is r within) in
+    let none : bit_at less r ≡ 0 = ap (λ m. bit_at m r) is ∙ bit_at-less_same mask r one small in
+    let whole : with_bit less r ≡ mask = mask-set less r within none ∙ omega (arith, is, small) in
+    ap (λ m. put (chosen m) vs s) (sym whole) ∙ ap (λ ds. put ds vs s) (chosen-with_bit less r within)
+    ∙ put-one (chosen less) vs s r (omega (arith, within, length-chosen less)) (omega (arith, within, v)) (omega (arith, within, l))
 
 -- an answer holds where the register has the value
 pub answer-read : (s : State) (ops : List Op) (r : Ix) (v : ℕ) → reads_hold s ops ≡ true

@@ -1,13 +1,5 @@
 -- How the code finds the transaction of an event, against what is to be shown.
-use Rattle.std.proofs.Common.{◌≡◌, ◌<◌, ℕ, zero, suc, Bool, true, false, List, [], ◌∷◌, ◌++◌, length, map, drop, Some, None, get_or, IsTrue, IsFalse, refl, sym, ap, ◌∙◌, inl, inr, arith}
-use Rattle.std.specs.Prelude.{slice_set, position}
-use Rattle.std.specs.List.{list_any, position_or_len, refill}
-use Rattle.std.proofs.Math.Seq.{take-append_seam}
-use Rattle.std.proofs.lemmas.Bool.{cases_Bool, or_parts, lt-ltb}
-use Rattle.std.proofs.lemmas.List.Quantifiers.{position-Some}
-use Rattle.tmw_events.specs.declared.event.Event.{Event}
-use Rattle.tmw_cuts.specs.declared.txn.Txn.{Txn}
-use Rattle.tmw_cuts.specs.Views.{View, view, new_view, next_view, is_open_for, push_views}
+use Rattle.tmw_cuts.proofs.Shared.{Bool, Event, IsFalse, IsTrue, List, None, Some, Txn, View, [], ap, arith, cases_Bool, drop, false, get_or, inl, inr, is_open_for, length, list_any, lt-ltb, map, new_view, next_view, or_parts, position, position-Some, position_or_len, push_views, refill, refl, slice_set, suc, sym, take-append_seam, true, view, zero, ℕ, ◌++◌, ◌<◌, ◌∙◌, ◌∷◌, ◌≡◌}
 
 pub push_views_here : (e : Event) (before : ℕ) (v : View) (vs : List View) → is_open_for e.thread.number v ≡ true
     → push_views e before (v ∷ vs) ≡ next_view e.kind v ∷ vs

@@ -1,9 +1,5 @@
 -- The mask of those that have completed fits eight bits.
-use Rattle.std.proofs.Common.{◌^◌, ◌<◌, ◌≤◌, ℕ, zero, suc, Bool, true, false, List, [], ◌∷◌, length, map, drop, arith, pow-suc, length-drop}
-use Rattle.std.proofs.lemmas.List.{length-map}
-use Rattle.tmw_defs.specs.History.{is_over}
-use Rattle.tmw_cuts.specs.declared.txn.Txn.{Txn}
-use Rattle.tmw_cuts.specs.Views.{View, view, bit, completed_mask}
+use Rattle.tmw_cuts.proofs.Shared.{Bool, List, Txn, View, [], arith, bit, completed_mask, drop, false, is_over, length, length-drop, length-map, map, pow-suc, suc, true, view, zero, ℕ, ◌<◌, ◌^◌, ◌∷◌, ◌≤◌}
 
 pub bit-le : (b : Bool) → bit b ≤ 1
 bit-le true = omega arith

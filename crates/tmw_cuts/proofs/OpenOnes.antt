@@ -1,15 +1,5 @@
 -- Where the transaction is that a thread has open, and which have completed, when there is one event more.
-use Rattle.std.proofs.Common.{◌≡◌, ◌==◌, ◌&&◌, ◌+◌, ◌*◌, ◌/◌, ◌%◌, ◌^◌, ◌<◌, ◌≤◌, ℕ, suc, Bool, true, false, not, List, [], ◌∷◌, ◌++◌, length, Option, Some, None, bit_or, append_assoc, refl, sym, ap, subst, ◌∙◌, inl, inr, arith, pow-suc}
-use Rattle.std.specs.Prelude.{position, option_map, nat_lt, slice_index, slice_set, if◌then◌else◌}
-use Rattle.std.specs.Int.{bit_at}
-use Rattle.std.specs.List.{list_any, position_or_len}
-use Rattle.std.proofs.lemmas.List.{append-nil, get_or-set_same, get_or-set_other}
-use Rattle.std.proofs.lemmas.Nat.Bits.{bit_at_lowest, bit_at-suc, bit_at-zero}
-use Rattle.std.proofs.lemmas.Bool.{cases_Bool, eqb-true, eqb-false, eq-eqb, lt-ltb, le-ltb, ltb-true, ltb-false, and_parts, or_parts, not-true}
-use Rattle.tmw_events.specs.declared.event.Event.{Event}
-use Rattle.tmw_defs.specs.History.{is_over, status_after}
-use Rattle.tmw_cuts.specs.Views.{View, bit, completed_mask, new_view, next_view, is_open_for, push_views}
-use Rattle.tmw_cuts.specs.Standing.{views_of, shown, open_at}
+use Rattle.tmw_cuts.proofs.Shared.{Bool, Event, List, None, Option, Some, View, [], and_parts, ap, append-nil, append_assoc, arith, bit, bit_at, bit_at-suc, bit_at-zero, bit_at_lowest, bit_or, cases_Bool, completed_mask, eq-eqb, eqb-false, eqb-true, false, get_or-set_other, get_or-set_same, if◌then◌else◌, inl, inr, is_open_for, is_over, le-ltb, length, list_any, lt-ltb, ltb-false, ltb-true, nat_lt, new_view, next_view, not, not-true, open_at, option_map, or_parts, position, position_or_len, pow-suc, push_views, refl, shown, slice_index, slice_set, status_after, subst, suc, sym, true, views_of, ℕ, ◌%◌, ◌&&◌, ◌*◌, ◌++◌, ◌+◌, ◌/◌, ◌<◌, ◌==◌, ◌^◌, ◌∙◌, ◌∷◌, ◌≡◌, ◌≤◌}
 use Rattle.tmw_cuts.proofs.Bits.{high_bits, mask-set}
 use Rattle.tmw_cuts.proofs.Found.{push_views_here, push_views_past}
 use Rattle.tmw_cuts.proofs.Pushes.{views_of-push}

@@ -1,24 +1,12 @@
 -- What is to be shown of events when there is one more.
-use Rattle.std.proofs.Common.{◌≡◌, ◌==◌, ◌&&◌, ◌+◌, ◌*◌, ◌≤◌, ℕ, Bool, true, false, not, nat_lt, List, [], ◌∷◌, ◌++◌, length, map, IsTrue, IsFalse, suc, refl, sym, ap, ◌∙◌, inl, inr, arith, append_assoc}
-use Rattle.std.specs.List.{AllByRecursion, list_any, list_all}
-use Rattle.std.proofs.lemmas.Bool.{and_parts, and_right, cases_Bool, not-true, lt-ltb, le-ltb, or_parts, not_from_true, not_from_false, false_from_ne_true}
-use Rattle.std.proofs.lemmas.List.{append-nil, length-map}
-use Rattle.std.proofs.lemmas.List.Folds.{list_all-map}
-use Rattle.tmw_events.specs.declared.event.Event.{Event}
+use Rattle.tmw_cuts.proofs.Shared.{AllByRecursion, Bool, Event, IsFalse, IsTrue, Lies, List, Note, Notes, View, [], add_event, and_parts, and_right, answered_ops, ap, append-nil, append_assoc, arith, before_of, bit, cases_Bool, completed_mask, false, false_from_ne_true, inl, inr, is_cut, is_ended, is_open_for, is_over, le-ltb, length, length-map, lies-transactions, list_all, list_all-map, list_any, lt-ltb, map, nat_lt, new_view, next_view, not, not-true, not_from_false, not_from_true, operation, operations, or_parts, precedes, push_views, refl, suc, sym, transactions, true, view_of, views_of, ℕ, ◌&&◌, ◌*◌, ◌++◌, ◌+◌, ◌==◌, ◌∙◌, ◌∷◌, ◌≡◌, ◌≤◌}
 use Rattle.tmw_events.specs.declared.event.Kind.{Kind}
-use Rattle.tmw_defs.specs.Cuts.{is_cut}
-use Rattle.tmw_defs.specs.History.{Txn, is_over, is_ended, operation, operations, add_event, transactions}
-use Rattle.tmw_defs.specs.Opaque.{precedes}
-use Rattle.tmw_defs.proofs.OneMore as more
+use Rattle.tmw_defs.specs.History.{Txn}
 use Rattle.tmw_defs.proofs.OneMore.{joins, add_event_here, add_event_past, transactions-push}
-use Rattle.tmw_defs.proofs.Places.{Lies, lies-transactions}
 use Rattle.tmw_defs.proofs.QuietTexts.{status_of-push}
-use Rattle.tmw_wellformed.specs.declared.note.Note.{Note}
-use Rattle.tmw_wellformed.specs.Notes.{Notes}
 use Rattle.tmw_wellformed.specs.Pending.{call_of}
-use Rattle.tmw_cuts.specs.Views.{View, bit, completed_mask, new_view, next_view, answered_ops, is_open_for, push_views}
-use Rattle.tmw_cuts.specs.Standing.{before_of, view_of, views_of}
 use Rattle.tmw_wellformed.proofs.TextSteps.{call_of-push}
+use Rattle.tmw_defs.proofs.OneMore as more
 
 operations-push : (text : List Kind) (k : Kind) → operations (text ++ k ∷ []) ≡ operations text ++ answered_ops (call_of text) k
 operations-push [] k = refl

@@ -1,17 +1,10 @@
 -- Lists that rise strictly in a total order: what a binary search finds in one, and what one element more makes of it.
-use Rattle.std.proofs.Common.{◌≡◌, ◌↔◌, ◌⊎◌, ◌+◌, ◌++◌, ◌<◌, ◌≤◌, ℕ, zero, suc, List, [], ◌∷◌, length, take, drop, get_or, Result, Ok, Err, IsTrue, refl, sym, ap, ◌∙◌, inl, inr, arith}
-use Rattle.std.specs.Prelude.{is_ok}
+use Rattle.tmw_cuts.proofs.Shared.{AllByRecursion, CmpEqualImpliesEq, Contains, Err, IsBinarySearchResult, IsNonDecreasingBy, IsPartitionPoint, IsSearchInRange, IsStrictlySortedBy, IsTrue, List, Ok, Result, [], ap, arith, cases_lt, drop, get_or, inl, inr, insert, is_ok, length, refl, suc, sym, take, take-append-drop, tied_itself, zero, ℕ, ◌++◌, ◌+◌, ◌<◌, ◌↔◌, ◌∙◌, ◌∷◌, ◌≡◌, ◌≤◌, ◌⊎◌}
+use Rattle.std.proofs.lemmas.List.Elements.{Contains-append_cases, Contains-append_left, Contains-append_right}
 use Rattle.std.specs.declared.cmp.Ordering.{Ordering}
 use Rattle.std.specs.declared.cmp.Ordering.TheVariants.{Less, Equal, Greater}
 use Rattle.std.specs.Ordering.{ordering_index, ordering_reverse}
 use Rattle.std.specs.Cmp.{IsTotalOrder}
-use Rattle.std.specs.List.{AllByRecursion, Contains, insert}
-use Rattle.std.specs.List.Sorted.{IsBinarySearchResult, IsNonDecreasingBy, IsPartitionPoint, IsSearchInRange, IsStrictlySortedBy}
-use Rattle.std.proofs.lemmas.Bool.{cases_lt}
-use Rattle.std.proofs.lemmas.Cmp.{tied_itself}
-use Rattle.std.proofs.lemmas.List.{take-append-drop}
-use Rattle.std.proofs.lemmas.List.Elements.{Contains-append_left, Contains-append_right, Contains-append_cases}
-use Rattle.std.proofs.lemmas.Map.Lookups.{CmpEqualImpliesEq}
 use Rattle.tmw_cuts.proofs.FirstMembers.{contains_here, contains_cases}
 
 all_at : {K : Type 0} (P : K → Type 0) (xs : List K) (i : ℕ) (d : K) → AllByRecursion P xs → i < length xs → P (get_or xs i d)
@@ -53,14 +46,6 @@ Contains-insert xs i x s =
         ]
       ],
     )
-
--- one more at the end
-insert-end : {K : Type 0} (xs : List K) (x : K) → insert xs (length xs) x ≡ xs ++ x ∷ []
-insert-end [] x = refl
-insert-end (y ∷ ys) x = ap (λ l. y ∷ l) (insert-end ys x)
-
-pub Contains-push : {K : Type 0} (xs : List K) (x s : K) → Contains (xs ++ x ∷ []) s ↔ ((s ≡ x) ⊎ Contains xs s)
-Contains-push xs x s = rw (← insert-end xs x) (Contains-insert xs (length xs) x s)
 
 all_push : {K : Type 0} (P : K → Type 0) (xs : List K) (x : K) → P x → AllByRecursion P xs → AllByRecursion P (xs ++ x ∷ [])
 all_push P [] x here all = (here, tt)

@@ -1,18 +1,7 @@
 -- With its last event taken back, a window shows what it showed before the event.
-use Rattle.std.proofs.Common.{◌≡◌, ◌+◌, ◌<◌, ◌≤◌, ℕ, zero, suc, Bool, true, false, List, [], ◌∷◌, ◌++◌, length, map, take, drop, Option, Some, None, get_or, IsFalse, sym, ap, ◌∙◌, inl, inr, arith}
-use Rattle.std.specs.Prelude.{◌↔◌, IsSome, slice_set, position, unwrap_or}
-use Rattle.std.specs.List.{list_any}
-use Rattle.std.specs.Option.{option_to_list}
-use Rattle.std.proofs.Math.Seq.{take-append_seam}
-use Rattle.std.proofs.lemmas.Bool.{cases_Bool}
-use Rattle.std.proofs.lemmas.List.{length-map, length-append, map-append}
-use Rattle.std.proofs.lemmas.List.Quantifiers.{position-Some}
+use Rattle.tmw_cuts.proofs.Shared.{Bool, Event, IsFalse, IsOpen, IsSome, Ix, List, None, Option, Some, Txn, View, [], ap, arith, cases_Bool, drop, false, get_or, inl, inr, is_open_for, length, length-append, length-map, list_any, map, map-append, new_view, next_view, position, position-Some, push_views, slice_set, suc, sym, take, take-append_seam, true, unwrap_or, view, zero, ℕ, ◌++◌, ◌+◌, ◌<◌, ◌↔◌, ◌∙◌, ◌∷◌, ◌≡◌, ◌≤◌}
 use Rattle.std.proofs.lemmas.Option.{slice_get-get_or}
-use Rattle.tmw_events.specs.declared.event.Event.{Event}
-use Rattle.tmw_events.specs.declared.ix.Ix.{Ix}
-use Rattle.tmw_cuts.specs.declared.txn.Txn.{Txn}
-use Rattle.tmw_cuts.specs.Marking.{IsOpen}
-use Rattle.tmw_cuts.specs.Views.{View, view, new_view, next_view, is_open_for, push_views}
+use Rattle.std.specs.Option.{option_to_list}
 use Rattle.tmw_cuts.proofs.Found.{push_views_here, push_views_past, push_views-none, position_some}
 
 -- the transaction that took the event, at this place, shows again what it showed

@@ -1,14 +1,6 @@
 -- What operations write, need and leave where others follow them.
-use Rattle.std.specs.Prelude.{if◌then◌else◌}
-use Rattle.std.proofs.Common.{◌≡◌, ◌==◌, ◌&&◌, ◌||◌, ◌+◌, ◌%◌, ◌^◌, ◌<◌, ℕ, Bool, true, false, not, List, [], ◌∷◌, ◌++◌, Option, Some, refl, sym, ◌∙◌, inl, inr, bit_and, w8}
-use Rattle.std.specs.Int.{bit_at, bit_not}
-use Rattle.std.proofs.lemmas.Bool.{cases_Bool, eqb-true}
-use Rattle.tmw_events.specs.declared.ix.Ix.{Ix}
-use Rattle.tmw_defs.specs.declared.op.Op.{Op}
-use Rattle.tmw_defs.specs.declared.op.Op.TheVariants.{Read, Write, Add}
-use Rattle.tmw_cuts.specs.Registers.{IsMaskOf}
-use Rattle.tmw_cuts.specs.Written.{writes, needs, writes_blindly, left_by}
-use Rattle.tmw_cuts.proofs.Chosen.{with_bit, with_new, has_bit-with_bit, bits-without}
+use Rattle.tmw_cuts.proofs.Shared.{Add, Bool, IsMaskOf, Ix, List, Op, Read, Write, [], bit_at, cases_Bool, eqb-true, false, inl, inr, needs, not, refl, sym, true, writes, ℕ, ◌&&◌, ◌++◌, ◌==◌, ◌||◌, ◌∙◌, ◌∷◌, ◌≡◌}
+use Rattle.tmw_cuts.proofs.Chosen.{with_bit, with_new, has_bit-with_bit}
 
 or_after : (a b c : Bool) → b ≡ c → (a || b) ≡ (a || c)
 or_after true b c same = refl
@@ -115,34 +107,3 @@ needs-add [] r d v s k = either (r.number == k)
 needs-add (Read q w ∷ ops) r d v s k = or_after (q.number == k) _ _ (needs-add ops r d v s k)
 needs-add (Write q w ∷ ops) r d v s k = and_after (not (q.number == k)) _ _ (needs-add ops r d v s k)
 needs-add (Add q e w ∷ ops) r d v s k = or_after (q.number == k) _ _ (needs-add ops r d v s k)
-
--- the first on a register is a write where it is written and not needed
-blind-is : (ops : List Op) (k : ℕ) → writes_blindly k ops ≡ (writes k ops && not (needs k ops))
-blind-is [] k = refl
-blind-is (Read q w ∷ ops) k = read (q.number == k) _ _ _ (blind-is ops k)
-  where
-    read : (a b c d : Bool) → b ≡ (c && not d) → (not a && b) ≡ (c && not (a || d))
-    read true b true d same = refl
-    read true b false d same = refl
-    read false b c d same = same
-blind-is (Write q w ∷ ops) k = write (q.number == k) _ _ _ (blind-is ops k)
-  where
-    write : (a b c d : Bool) → b ≡ (c && not d) → (a || b) ≡ ((a || c) && not (not a && d))
-    write true b c d same = refl
-    write false b c d same = same
-blind-is (Add q e w ∷ ops) k = add (q.number == k) _ _ _ (blind-is ops k)
-  where
-    add : (a b c d : Bool) → b ≡ (c && not d) → (not a && b) ≡ ((a || c) && not (a || d))
-    add true b c d same = refl
-    add false b c d same = same
-
-pub blind-mask : (left needed : ℕ) (ops : List Op) → left < 2 ^ 8 → needed < 2 ^ 8 → IsMaskOf (λ k. writes k ops) left
-    → IsMaskOf (λ k. needs k ops) needed → IsMaskOf (λ k. writes_blindly k ops) (bit_and left (bit_not w8 needed))
-blind-mask left needed ops left_fits needed_fits written is k =
-    bits-without left needed left_fits needed_fits k ∙ sym (blind-is ops k ∙ rw (← written k, ← is k) refl)
-
-pub left_by-append : (r : ℕ) (value : Option ℕ) (one two : List Op) → left_by r value (one ++ two) ≡ left_by r (left_by r value one) two
-left_by-append r value [] two = refl
-left_by-append r value (Read q v ∷ one) two = left_by-append r value one two
-left_by-append r value (Write q v ∷ one) two = left_by-append r (if q.number == r then Some v else value) one two
-left_by-append r value (Add q d v ∷ one) two = left_by-append r (if q.number == r then Some ((v + d) % 2 ^ 64) else value) one two

@@ -1,5 +1,5 @@
 -- Some of the registers: as a mask, or as two lists, of which the first says which they are, and the second has their values.
-use Rattle.std.specs.Prelude.{◌≡◌, ◌==◌, ◌&&◌, ◌||◌, ◌<◌, ℕ, Bool, true, not, List, [], ◌∷◌, map, slice_index, if◌then◌else◌}
+use Rattle.std.specs.Prelude.{◌≡◌, ◌==◌, ◌&&◌, ◌||◌, ℕ, Bool, true, not, List, [], ◌∷◌, map, if◌then◌else◌}
 use Rattle.std.specs.Int.{bit_at}
 use Rattle.std.specs.List.{range_with_len}
 use Rattle.tmw_defs.specs.Opaque.{State}
@@ -7,10 +7,6 @@ use Rattle.tmw_defs.specs.Opaque.{State}
 -- Bit r of the mask is 1 exactly where the test holds of r: the mask is of these registers, and has no other bit.
 abbrev pub IsMaskOf : (ℕ → Bool) → ℕ → Type 0
 IsMaskOf holds mask = (r : ℕ) → (bit_at mask r == 1) ≡ holds r
-
--- The two hold the same in each register that isn't one of the mask's.
-abbrev pub AgreeOutside : ℕ → State → State → Type 0
-AgreeOutside mask one other = (r : ℕ) → r < 8 → bit_at mask r ≡ 0 → slice_index one r ≡ slice_index other r
 
 -- of each register, whether the mask has it
 unfoldable pub chosen : ℕ → List Bool

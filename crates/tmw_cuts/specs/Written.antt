@@ -1,15 +1,7 @@
 -- What operations do to a register.
-use Rattle.std.specs.Prelude.{◌==◌, ◌&&◌, ◌||◌, ◌+◌, ◌%◌, ◌^◌, ℕ, Bool, true, false, not, List, [], ◌∷◌, Option, Some, if◌then◌else◌}
+use Rattle.std.specs.Prelude.{◌==◌, ◌&&◌, ◌||◌, ◌+◌, ◌%◌, ◌^◌, ℕ, Bool, false, not, List, [], ◌∷◌, Option, Some, if◌then◌else◌}
 use Rattle.tmw_defs.specs.declared.op.Op.{Op}
 use Rattle.tmw_defs.specs.declared.op.Op.TheVariants.{Read, Write, Add}
-
-abbrev pub is_read : Op → Bool
-is_read (Read r v) = true
-is_read _ = false
-
-abbrev pub is_write : Op → Bool
-is_write (Write r v) = true
-is_write _ = false
 
 -- One of the operations writes or adds to the register.
 abbrev pub writes : ℕ → List Op → Bool
@@ -24,13 +16,6 @@ needs r [] = false
 needs r (Read q v ∷ ops) = (q.number == r) || needs r ops
 needs r (Write q v ∷ ops) = not (q.number == r) && needs r ops
 needs r (Add q d v ∷ ops) = (q.number == r) || needs r ops
-
--- The first of the operations on the register is a write.
-abbrev pub writes_blindly : ℕ → List Op → Bool
-writes_blindly r [] = false
-writes_blindly r (Read q v ∷ ops) = not (q.number == r) && writes_blindly r ops
-writes_blindly r (Write q v ∷ ops) = (q.number == r) || writes_blindly r ops
-writes_blindly r (Add q d v ∷ ops) = not (q.number == r) && writes_blindly r ops
 
 -- what they leave in the register: the last value written there, or else this
 abbrev pub left_by : ℕ → Option ℕ → List Op → Option ℕ

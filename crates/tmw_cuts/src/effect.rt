@@ -4,10 +4,11 @@ ghost use Rattle.std.specs.List.{list_all};
 ghost use Rattle.tmw_defs.specs.declared.op.Op.{Op};
 ghost use Rattle.tmw_defs.specs.declared.op.Op.TheVariants.{Read, Write, Add};
 ghost use Rattle.tmw_defs.specs.Opaque.{State, reads_hold, after_writes};
-ghost use Rattle.tmw_cuts.specs.Registers.{IsMaskOf, AgreeOutside, chosen, have, put};
+ghost use Rattle.tmw_cuts.specs.Registers.{IsMaskOf, chosen, have, put};
 ghost use Rattle.tmw_cuts.specs.Replaying.{Replays};
-ghost use Rattle.tmw_cuts.specs.Written.{is_write, writes, needs, writes_blindly, left_by};
+ghost use Rattle.tmw_cuts.specs.Written.{writes, needs};
 
+use crate::mask::lowest;
 use crate::states::State;
 use tmw_defs::Op;
 use tmw_events::Ix;
@@ -16,17 +17,15 @@ use tmw_events::Ix;
 #[derive(Clone, Copy, Debug)]
 pub struct Effect {
     /// What each register that they need was answered first.
-    needs: [u64; 8],
+    pub needs: [u64; 8],
     /// What each register that they write or add to holds after them.
-    leaves: [u64; 8],
+    pub leaves: [u64; 8],
     /// Which registers they read or add to before they write or add to them, as a mask.
-    needed: u8,
+    pub needed: u8,
     /// Which registers they write or add to, as a mask.
-    left: u8,
+    pub left: u8,
     /// Whether each later answer is what the earlier operations tell of the register.
-    agrees: bool,
-    /// Whether none of them reads or adds.
-    only_writes: bool,
+    pub agrees: bool,
 }
 
 /// Whether the mask has the register.
@@ -51,7 +50,6 @@ impl Effect {
             needed: 0,
             left: 0,
             agrees: true,
-            only_writes: true,
         }
     }
 
@@ -74,7 +72,6 @@ impl Effect {
         } else {
             value
         };
-        self.only_writes = false;
         self.agrees &= known == value;
         self.needed |= if own { 0 } else { 1 << place };
         self.needs[place] = if own | asked { need } else { value };
@@ -127,16 +124,17 @@ impl Effect {
         met
     }
 
-    /// The state with what is left in the registers.
+    /// The state with what is left in the registers, of which there are few.
     #[inline(always)]
     fn put(&self, state: &State) -> State
         ensures { result ≡ put (chosen self.now.left) self.now.leaves state.now }
     {
         let mut end = *state;
-        for register in 0..8 {
-            if has_register(self.left, register) {
-                end[register] = self.leaves[register];
-            }
+        let mut left = self.left;
+        while left != 0 {
+            let register = lowest(left);
+            left -= 1 << register;
+            end[register] = self.leaves[register];
         }
         end
     }
@@ -147,14 +145,6 @@ impl Effect {
         ensures { (ops : List Op) → IsEffectOf self.now ops → result ≡ reads_hold state.now ops }
     {
         self.agrees && self.is_met(self.needed, state)
-    }
-
-    /// If `false`, no state that agrees with this one outside the mask fits.
-    pub fn fits_outside(&self, state: &State, mask: u8) -> bool
-        ensures { IsFalse result → (ops : List Op) → IsEffectOf self.now ops → (s : State)
-            → length s ≡ 8 → AgreeOutside mask state.now s → IsFalse (reads_hold s ops) }
-    {
-        self.agrees && self.is_met(self.needed & !mask, state)
     }
 
     /// Returns what the registers hold after the operations, if each of them was answered what the registers held
@@ -193,13 +183,6 @@ impl Effect {
         self.left == 0
     }
 
-    /// Tells whether each of the operations is a write.
-    pub fn only_writes(&self) -> bool
-        ensures { (ops : List Op) → IsEffectOf self.now ops → result ≡ list_all is_write ops }
-    {
-        self.only_writes
-    }
-
     /// Returns the registers that the operations write or add to, as a mask.
     pub fn written(&self) -> u8
         ensures { (ops : List Op) → IsEffectOf self.now ops → IsMaskOf (λ r. writes r ops) result }
@@ -212,25 +195,5 @@ impl Effect {
         ensures { (ops : List Op) → IsEffectOf self.now ops → IsMaskOf (λ r. needs r ops) result }
     {
         self.needed
-    }
-
-    /// Returns the registers that the operations write before they read or add to them, as a mask.
-    pub fn blind(&self) -> u8
-        ensures { (ops : List Op) → IsEffectOf self.now ops
-            → IsMaskOf (λ r. writes_blindly r ops) result }
-    {
-        self.left & !self.needed
-    }
-
-    /// Returns what the operations leave in the register, if they write or add to it.
-    pub fn left_in(&self, register: usize) -> Option<u64>
-        requires { register < 8 }
-        ensures { (ops : List Op) → IsEffectOf self.now ops → result ≡ left_by register None ops }
-    {
-        if has_register(self.left, register) {
-            Some(self.leaves[register])
-        } else {
-            None
-        }
     }
 }

@@ -10,8 +10,10 @@ mod states;
 mod txn;
 mod window;
 
+pub use effect::Effect;
 pub use kinds::{operation, status_after};
 pub use mark::Mark;
+pub use mask::lowest;
 pub use operations::Operations;
 pub use states::{State, States};
 pub use txn::Txn;

@@ -1,4 +1,5 @@
-ghost use Rattle.std.specs.Prelude.{◌≡◌, ◌≤◌, length, map};
+ghost use Rattle.std.specs.Int.{bit_at};
+ghost use Rattle.std.specs.Prelude.{◌≡◌, ◌<◌, ◌≤◌, length, map};
 ghost use Rattle.tmw_cuts.specs.Views.{view, completed_mask};
 
 use crate::txn::Txn;
@@ -18,4 +19,14 @@ pub fn completed_mask(txns: &[Txn]) -> u8
         }
     }
     mask
+}
+
+/// Returns the lowest place of the mask.
+#[inline(always)]
+pub fn lowest(mask: u8) -> usize
+    requires { 0 < mask }
+    ensures within { result < 8 }
+    ensures among { bit_at mask result ≡ 1 }
+{
+    mask.trailing_zeros() as usize
 }

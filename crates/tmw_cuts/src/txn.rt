@@ -4,9 +4,9 @@ ghost use Rattle.tmw_events.specs.declared.event.Kind.TheVariants.{V};
 ghost use Rattle.tmw_defs.specs.History.{is_over};
 ghost use Rattle.tmw_defs.specs.Opaque.{State, reads_hold, after_writes};
 ghost use Rattle.tmw_cuts.specs.Effects.{IsEffectOf, IsEffectOf-prop, leaves_none};
-ghost use Rattle.tmw_cuts.specs.Registers.{IsMaskOf, AgreeOutside};
+ghost use Rattle.tmw_cuts.specs.Registers.{IsMaskOf};
 ghost use Rattle.tmw_cuts.specs.Replaying.{Replays};
-ghost use Rattle.tmw_cuts.specs.Written.{is_write, writes, needs, writes_blindly, left_by};
+ghost use Rattle.tmw_cuts.specs.Written.{writes, needs};
 
 use crate::effect::Effect;
 use crate::kinds::{operation, status_after};
@@ -79,20 +79,20 @@ impl Txn {
         self.thread == thread && self.status == Status::Pending
     }
 
+    /// Returns what its operations need and leave.
+    #[inline(always)]
+    pub fn effect(&self) -> &Effect
+        ensures { result.now ≡ effect_of self.now }
+    {
+        &self.effect
+    }
+
     /// Tells whether each of its operations was answered what the registers held then.
     #[inline(always)]
     pub fn fits(&self, state: &State) -> bool
         ensures { result ≡ reads_hold state.now self.now.ops.items }
     {
         self.effect.fits(state)
-    }
-
-    /// If `false`, no state that agrees with this one outside the mask answers its operations as they were answered.
-    pub fn fits_outside(&self, state: &State, mask: u8) -> bool
-        ensures { IsFalse result → (s : State) → length s ≡ 8 → AgreeOutside mask state.now s
-            → IsFalse (reads_hold s self.now.ops.items) }
-    {
-        self.effect.fits_outside(state, mask)
     }
 
     /// Returns what the registers hold after its operations, if each of them was answered what the registers held
@@ -129,13 +129,6 @@ impl Txn {
         self.effect.only_reads()
     }
 
-    /// Tells whether each of its operations is a write.
-    pub fn only_writes(&self) -> bool
-        ensures { result ≡ list_all is_write self.now.ops.items }
-    {
-        self.effect.only_writes()
-    }
-
     /// Returns the registers that its operations write or add to, as a mask.
     pub fn written(&self) -> u8
         ensures { IsMaskOf (λ r. writes r self.now.ops.items) result }
@@ -148,21 +141,6 @@ impl Txn {
         ensures { IsMaskOf (λ r. needs r self.now.ops.items) result }
     {
         self.effect.needed()
-    }
-
-    /// Returns the registers that its operations write before they read or add to them, as a mask.
-    pub fn blind(&self) -> u8
-        ensures { IsMaskOf (λ r. writes_blindly r self.now.ops.items) result }
-    {
-        self.effect.blind()
-    }
-
-    /// Returns what its operations leave in the register, if they write or add to it.
-    pub fn left_in(&self, register: usize) -> Option<u64>
-        requires { register < 8 }
-        ensures { result ≡ left_by register None self.now.ops.items }
-    {
-        self.effect.left_in(register)
     }
 
     /// Makes a transaction that shows the same.

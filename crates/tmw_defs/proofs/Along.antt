@@ -1,12 +1,6 @@
 -- An order of transactions is one of others that are pairwise like them: where each reads, may be held and leaves the same,
 -- and none precedes another that the ones like them allow.
-use Rattle.std.proofs.Common.{◌≡◌, ℕ, zero, suc, Bool, true, not, List, [], ◌∷◌, Some, IsTrue, refl, sym, ap, ◌∙◌, inl, inr}
-use Rattle.std.specs.Prelude.{remove, slice_get}
-use Rattle.std.specs.List.{list_all}
-use Rattle.std.proofs.lemmas.Bool.{and_parts, and_from, cases_Bool}
-use Rattle.tmw_defs.specs.History.{Txn, status_of, operations}
-use Rattle.tmw_defs.specs.Opaque.{State, Placed, precedes, may_hold, may_be, PlacesEach, keeps_order, reads_hold, after, is_legal, Explains}
-use Rattle.tmw_defs.specs.Outcomes.{end_state, Leads}
+use Rattle.tmw_defs.proofs.Shared.{Bool, Explains, IsTrue, Leads, List, Placed, PlacesEach, Some, State, Txn, [], after, and_from, and_parts, ap, cases_Bool, end_state, inl, inr, is_legal, keeps_order, list_all, may_be, may_hold, not, operations, precedes, reads_hold, refl, remove, slice_get, status_of, suc, sym, true, zero, ℕ, ◌∙◌, ◌∷◌, ◌≡◌}
 
 -- the members of two lists are related one by one
 abbrev pub Pairs : {A B : Type 0} → (A → B → Type 0) → List A → List B → Type 0

@@ -1,13 +1,5 @@
 -- The other way round: each order of all is an order of those that have completed, followed by one of those that began after.
-use Rattle.std.proofs.Common.{◌≡◌, ◌+◌, ◌-◌, ◌<◌, ℕ, zero, suc, not, List, [], ◌∷◌, ◌++◌, length, Some, IsTrue, refl, sym, ap, ◌∙◌, inl, inr, arith}
-use Rattle.std.specs.Prelude.{remove, slice_get}
-use Rattle.std.specs.List.{list_all}
-use Rattle.std.proofs.lemmas.Bool.{and_parts, and_from, cases_lt}
-use Rattle.std.proofs.lemmas.List.Edits.{remove-append_left, remove-append_right}
-use Rattle.std.proofs.lemmas.List.Folds.{list_all-append}
-use Rattle.tmw_defs.specs.History.{Txn}
-use Rattle.tmw_defs.specs.Opaque.{State, Placed, precedes, may_be, PlacesEach, keeps_order, is_legal, Explains}
-use Rattle.tmw_defs.specs.Outcomes.{end_state, Leads}
+use Rattle.tmw_defs.proofs.Shared.{Explains, IsTrue, Leads, List, Placed, PlacesEach, Some, State, Txn, [], and_from, and_parts, ap, arith, cases_lt, end_state, inl, inr, is_legal, keeps_order, length, list_all, list_all-append, may_be, not, precedes, refl, remove, remove-append_left, remove-append_right, slice_get, suc, sym, zero, ℕ, ◌++◌, ◌+◌, ◌-◌, ◌<◌, ◌∙◌, ◌∷◌, ◌≡◌}
 use Rattle.tmw_defs.proofs.Before.{comes_before, is_before, is_legal-append, end_state-append}
 use Rattle.tmw_defs.proofs.Removals.{list_all-remove, list_all-places}
 

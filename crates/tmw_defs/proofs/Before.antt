@@ -1,15 +1,6 @@
 -- Serial orders of transactions of which some have completed before the others began: an order of all of them is one of
 -- the first followed by one of the others.
-use Rattle.std.proofs.Common.{◌≡◌, ◌&&◌, ◌<◌, ℕ, zero, suc, Bool, true, false, not, List, [], ◌∷◌, ◌++◌, length, Some, IsTrue, refl, sym, ap, ◌∙◌}
-use Rattle.std.specs.Prelude.{remove, slice_get}
-use Rattle.std.specs.List.{list_all}
-use Rattle.std.proofs.lemmas.Bool.{and_parts, and_from}
-use Rattle.std.proofs.lemmas.List.Edits.{remove-append_left}
-use Rattle.std.proofs.lemmas.List.Folds.{list_all-append}
-use Rattle.std.proofs.lemmas.Option.{slice_get_within}
-use Rattle.tmw_defs.specs.History.{Txn, operations}
-use Rattle.tmw_defs.specs.Opaque.{State, Placed, precedes, may_be, PlacesEach, keeps_order, reads_hold, after, is_legal, Explains}
-use Rattle.tmw_defs.specs.Outcomes.{end_state, Leads}
+use Rattle.tmw_defs.proofs.Shared.{Bool, Explains, IsTrue, Leads, List, Placed, PlacesEach, Some, State, Txn, [], after, and_from, and_parts, ap, end_state, false, is_legal, keeps_order, length, list_all, list_all-append, may_be, not, operations, precedes, reads_hold, refl, remove, remove-append_left, slice_get, slice_get_within, suc, sym, true, zero, ℕ, ◌&&◌, ◌++◌, ◌<◌, ◌∙◌, ◌∷◌, ◌≡◌}
 use Rattle.tmw_defs.proofs.Removals.{list_all-places}
 
 -- the one has completed before the other began, and not the other way round

@@ -1,12 +1,5 @@
 -- What is said of a history by either criterion.
-use Rattle.std.proofs.Common.{ℕ, List, IsTrue, refl}
-use Rattle.tmw_events.specs.declared.event.Event.{Event}
-use Rattle.tmw_defs.specs.declared.criterion.Criterion.{Criterion}
-use Rattle.tmw_defs.specs.declared.criterion.Criterion.TheVariants.{Opacity, Strict}
-use Rattle.tmw_defs.specs.Criteria.{IsFinalBy, outcomes_by}
-use Rattle.tmw_defs.specs.History.{is_well_formed}
-use Rattle.tmw_defs.specs.Opaque.{State}
-use Rattle.tmw_defs.specs.Outcomes.{end_state}
+use Rattle.tmw_defs.proofs.Shared.{Criterion, Event, IsFinalBy, IsTrue, List, Opacity, State, Strict, end_state, is_well_formed, outcomes_by, refl, ℕ}
 
 pub formed-final : (c : Criterion) (registers : ℕ) (start : State) (h : List Event) → IsFinalBy c registers start h
     → IsTrue (is_well_formed registers h)

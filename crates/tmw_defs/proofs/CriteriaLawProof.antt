@@ -1,14 +1,6 @@
 -- The law of the two criteria.
-use Rattle.std.proofs.Common.{◌≡◌, ◌↔◌, List, sym, subst}
-use Rattle.std.specs.Prelude.{take}
-use Rattle.tmw_events.specs.declared.event.Event.{Event}
-use Rattle.tmw_defs.specs.declared.criterion.Criterion.{Criterion}
-use Rattle.tmw_defs.specs.declared.criterion.Criterion.TheVariants.{Strict}
-use Rattle.tmw_defs.specs.declared.verdict.Verdict.TheVariants.{StrictSoFar}
-use Rattle.tmw_defs.specs.Criteria.{IsFinalBy}
+use Rattle.tmw_defs.proofs.Shared.{Criterion, Event, IsFinalBy, IsStrict, IsVerdict, List, Rules, Strict, StrictSoFar, subst, sym, take, ◌↔◌, ◌≡◌}
 use Rattle.tmw_defs.specs.CriteriaLaw.{CriteriaLaw, PassesNoBound}
-use Rattle.tmw_defs.specs.Strict.{IsStrict}
-use Rattle.tmw_defs.specs.Verdict.{Rules, IsVerdict}
 use Rattle.tmw_defs.proofs.Weaker.{strict-opaque}
 
 so_far : (rules : Rules) (h : List Event) → rules.criterion ≡ Strict

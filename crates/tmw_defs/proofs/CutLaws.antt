@@ -1,12 +1,5 @@
 -- The law of cuts: over a cut the end states of a history are those of what follows from the outcomes of what went before.
-use Rattle.std.proofs.Common.{◌↔◌, List, ◌++◌, IsTrue}
-use Rattle.tmw_events.specs.declared.event.Event.{Event}
-use Rattle.tmw_defs.specs.declared.criterion.Criterion.{Criterion}
-use Rattle.tmw_defs.specs.declared.criterion.Criterion.TheVariants.{Opacity, Strict}
-use Rattle.tmw_defs.specs.Criteria.{LeadsBy, EndsBy, outcomes_by}
-use Rattle.tmw_defs.specs.Cuts.{is_cut, CutLaw}
-use Rattle.tmw_defs.specs.History.{transactions}
-use Rattle.tmw_defs.specs.Opaque.{State}
+use Rattle.tmw_defs.proofs.Shared.{Criterion, CutLaw, EndsBy, Event, IsTrue, LeadsBy, List, Opacity, State, Strict, is_cut, outcomes_by, transactions, ◌++◌, ◌↔◌}
 use Rattle.tmw_defs.proofs.Criteria.{final-outcome, outcome-final}
 use Rattle.tmw_defs.proofs.CutsProof.{leads_over, leads-over}
 use Rattle.tmw_defs.proofs.StrictCuts.{strict_leads_over, strict_leads-over}

@@ -1,13 +1,5 @@
 -- Over a cut, serial orders of a history are those of what went before followed by those of what follows.
-use Rattle.std.proofs.Common.{◌≡◌, ◌+◌, ℕ, List, [], ◌∷◌, ◌++◌, length, IsTrue, if◌then◌else◌, sym, ap, ◌∙◌, arith}
-use Rattle.std.proofs.lemmas.Bool.{and_parts, and_from, ltb-true, lt-ltb}
-use Rattle.std.proofs.lemmas.List.{append-nil}
-use Rattle.tmw_events.specs.declared.event.Event.{Event}
-use Rattle.tmw_events.specs.declared.event.Kind.{Kind}
-use Rattle.tmw_defs.specs.Cuts.{is_cut}
-use Rattle.tmw_defs.specs.History.{Txn, is_ended, operations, transactions, transactions_from}
-use Rattle.tmw_defs.specs.Opaque.{State, precedes, after_writes}
-use Rattle.tmw_defs.specs.Outcomes.{Leads}
+use Rattle.tmw_defs.proofs.Shared.{Event, IsTrue, Kind, Leads, List, State, Txn, [], after_writes, and_from, and_parts, ap, append-nil, arith, if◌then◌else◌, is_cut, is_ended, length, lt-ltb, ltb-true, operations, precedes, sym, transactions, transactions_from, ℕ, ◌++◌, ◌+◌, ◌∙◌, ◌∷◌, ◌≡◌}
 use Rattle.tmw_defs.proofs.Along.{Pairs, Eases, Keeps, leads-along}
 use Rattle.tmw_defs.proofs.Apart.{leads_split}
 use Rattle.tmw_defs.proofs.Before.{is_before, leads-append}

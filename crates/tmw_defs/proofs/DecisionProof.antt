@@ -1,12 +1,5 @@
 -- The search for a serial order is sound and complete: it answers true exactly where the transactions have one.
-use Rattle.std.proofs.Common.{◌≡◌, ◌&&◌, ◌||◌, ◌<◌, ℕ, zero, suc, Bool, true, false, not, List, [], ◌∷◌, length, Option, Some, None, IsTrue, refl, sym, ap, ◌∙◌, inl, inr, arith}
-use Rattle.std.specs.Prelude.{remove, slice_get}
-use Rattle.std.specs.List.{list_all}
-use Rattle.std.proofs.lemmas.Bool.{and_parts, and_from, or_cases, or_left, or_right, cases_Bool, cases_lt}
-use Rattle.std.proofs.lemmas.Option.{slice_get_within}
-use Rattle.tmw_defs.specs.History.{Txn, operations}
-use Rattle.tmw_defs.specs.Opaque.{State, Placed, precedes, may_be, reads_hold, after, HasOrder}
-use Rattle.tmw_defs.specs.Decision.{is_free, one_way, comes, may_come, one_below, has_order, is_explained}
+use Rattle.tmw_defs.proofs.Shared.{Bool, HasOrder, IsTrue, List, None, Option, Placed, Some, State, Txn, [], after, and_from, and_parts, ap, arith, cases_Bool, cases_lt, comes, false, has_order, inl, inr, is_explained, is_free, length, list_all, may_be, may_come, not, one_below, one_way, operations, or_cases, or_left, or_right, precedes, reads_hold, refl, remove, slice_get, slice_get_within, suc, sym, true, zero, ℕ, ◌&&◌, ◌<◌, ◌||◌, ◌∙◌, ◌∷◌, ◌≡◌}
 use Rattle.tmw_defs.proofs.Removals.{list_all-places, length-taken}
 
 -- what a search that found a first transaction tells of it

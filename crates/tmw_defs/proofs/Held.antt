@@ -1,10 +1,5 @@
 -- What a completion holds of two lists together, of a part that began later, and of transactions that are pairwise like others.
-use Rattle.std.proofs.Common.{◌≡◌, Bool, true, false, List, [], ◌∷◌, ◌++◌, IsTrue, refl, ap, ◌∙◌, inl, inr}
-use Rattle.std.specs.List.{list_all}
-use Rattle.std.proofs.lemmas.Bool.{and_parts, and_from}
-use Rattle.tmw_defs.specs.History.{Txn}
-use Rattle.tmw_defs.specs.Opaque.{Placed}
-use Rattle.tmw_defs.specs.Strict.{AreHeld}
+use Rattle.tmw_defs.proofs.Shared.{AreHeld, Bool, IsTrue, List, Placed, Txn, [], and_from, and_parts, ap, false, inl, inr, list_all, refl, true, ◌++◌, ◌∙◌, ◌∷◌, ◌≡◌}
 use Rattle.tmw_defs.proofs.Along.{Pairs, Keeps, Alike}
 use Rattle.tmw_defs.proofs.Before.{comes_before, is_before, list_all-mono}
 

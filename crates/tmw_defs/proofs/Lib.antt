@@ -14,6 +14,7 @@ pub mod QuietLaws
 pub mod QuietProof
 pub mod QuietTexts
 pub mod Removals
+mod Shared
 pub mod StrictCuts
 pub mod StrictQuiet
 pub mod TextsProof

@@ -1,13 +1,6 @@
 -- What one event more does to the transactions of its thread, and of the others.
-use Rattle.std.proofs.Common.{◌≡◌, ◌==◌, ◌&&◌, ◌+◌, ◌++◌, ◌⊎◌, ℕ, suc, Bool, true, false, not, List, [], ◌∷◌, length, map, IsTrue, refl, sym, ap, ◌∙◌, inl, inr, arith, append_assoc}
-use Rattle.std.specs.Prelude.{filter}
-use Rattle.std.specs.List.{list_all}
-use Rattle.std.proofs.lemmas.Bool.{cases_Bool, and_parts, and_from, eqb-true, eq-eqb, both_ways, and_right, not_from_true, not_from_false}
-use Rattle.std.proofs.lemmas.List.{append-nil, map-append}
+use Rattle.tmw_defs.proofs.Shared.{Bool, Event, IsTrue, List, Txn, [], add_event, and_from, and_parts, and_right, ap, append-nil, append_assoc, arith, both_ways, cases_Bool, ended_but_last, eq-eqb, eqb-true, false, filter, inl, inr, is_ended, joined_texts, kinds_of, length, list_all, map, map-append, not, not_from_false, not_from_true, of_thread, refl, suc, sym, transactions, transactions_from, true, ℕ, ◌&&◌, ◌++◌, ◌+◌, ◌==◌, ◌∙◌, ◌∷◌, ◌≡◌, ◌⊎◌}
 use Rattle.std.proofs.lemmas.List.Elements.{filter-append}
-use Rattle.tmw_events.specs.declared.event.Event.{Event}
-use Rattle.tmw_defs.specs.History.{Txn, is_ended, add_event, transactions, transactions_from}
-use Rattle.tmw_defs.specs.Texts.{kinds_of, of_thread, joined_texts, ended_but_last}
 
 -- the event goes on with this transaction
 abbrev pub joins : Event → Txn → Bool
@@ -41,6 +34,24 @@ add_event_here place e t ts here = rw here refl
 pub add_event_past : (place : ℕ) (e : Event) (t : Txn) (ts : List Txn) → joins e t ≡ false
     → add_event place e (t ∷ ts) ≡ t ∷ add_event place e ts
 add_event_past place e t ts past = rw past refl
+
+pub length-add_event : (place : ℕ) (e : Event) (ts : List Txn)
+    → (length (add_event place e ts) ≡ length ts) ⊎ (length (add_event place e ts) ≡ length ts + 1)
+length-add_event place e [] = inr (omega arith)
+length-add_event place e (t ∷ ts) =
+    elim (cases_Bool (joins e t)) [
+      | inl taken ↦ inl (rw (add_event_here place e t ts taken) refl)
+      | inr past ↦ rw (add_event_past place e t ts past) (
+          elim (length-add_event place e ts) [
+            | inl same ↦ inl (omega (arith, same))
+            | inr more ↦ inr (omega (arith, more))
+          ])
+    ]
+
+-- a history has one transaction more with the event, or as many as before
+pub length-transactions_push : (h : List Event) (e : Event)
+    → (length (transactions (h ++ e ∷ [])) ≡ length (transactions h)) ⊎ (length (transactions (h ++ e ∷ [])) ≡ length (transactions h) + 1)
+length-transactions_push h e = rw (transactions-push h e) (length-add_event (length h) e (transactions h))
 
 of_thread_kept : (thread : ℕ) (t : Txn) (ts : List Txn) → (t.thread == thread) ≡ true
     → of_thread thread (t ∷ ts) ≡ t ∷ of_thread thread ts

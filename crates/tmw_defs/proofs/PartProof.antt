@@ -1,14 +1,5 @@
 -- Where the whole has an order, each part has one: what is left of that order, along states that differ in unread values alone.
-use Rattle.std.proofs.Common.{◌≡◌, ◌==◌, ◌&&◌, ◌+◌, ◌%◌, ◌^◌, ◌⊎◌, ℕ, zero, suc, Bool, true, not, List, [], ◌∷◌, map, Some, IsTrue, refl, sym, ap, ◌∙◌, inl, inr}
-use Rattle.std.specs.Prelude.{remove, slice_get, slice_index, slice_set}
-use Rattle.std.specs.List.{list_all}
-use Rattle.std.proofs.lemmas.Bool.{and_parts, and_from, cases_Bool, eq-eqb, eqb-true}
-use Rattle.tmw_defs.specs.declared.op.Op.{Op}
-use Rattle.tmw_defs.specs.declared.op.Op.TheVariants.{Read, Write, Add}
-use Rattle.tmw_defs.specs.declared.criterion.Criterion.TheVariants.{Opacity, Strict}
-use Rattle.tmw_defs.specs.History.{Txn, status_of, operations}
-use Rattle.tmw_defs.specs.Opaque.{State, Placed, precedes, may_be, PlacesEach, keeps_order, reads_hold, after_writes, after, is_legal, Explains, HasOrder}
-use Rattle.tmw_defs.specs.Strict.{AreHeld, HasStrictOrder}
+use Rattle.tmw_defs.proofs.Shared.{Add, AreHeld, Bool, Explains, HasOrder, HasStrictOrder, IsTrue, List, Op, Opacity, Placed, PlacesEach, Read, Some, State, Strict, Txn, Write, [], after, after_writes, and_from, and_parts, ap, cases_Bool, eq-eqb, eqb-true, inl, inr, is_legal, keeps_order, list_all, map, may_be, not, operations, precedes, reads_hold, refl, remove, slice_get, slice_index, slice_set, status_of, suc, sym, true, zero, ℕ, ◌%◌, ◌&&◌, ◌+◌, ◌==◌, ◌^◌, ◌∙◌, ◌∷◌, ◌≡◌, ◌⊎◌}
 use Rattle.tmw_defs.proofs.Removals.{list_all-remove}
 use Rattle.tmw_defs.proofs.Weaker.{left_out, taken_in}
 use Rattle.tmw_defs.specs.Part.{is_answered, is_unread, may_go, AreOpsLeft, IsLeftOf, may_go_whole, AreStaying, Each, precedence, IsPart, PartLaw}

@@ -1,10 +1,5 @@
 -- Where the transactions of a history lie in it, and what those of a part behind a cut are.
-use Rattle.std.proofs.Common.{◌≡◌, ◌==◌, ◌&&◌, ◌+◌, ◌<◌, ◌≤◌, ℕ, suc, Bool, true, false, not, nat_lt, List, [], ◌∷◌, ◌++◌, length, IsTrue, refl, ap, ◌∙◌, inl, inr, arith}
-use Rattle.std.specs.List.{list_all, AllByRecursion}
-use Rattle.std.proofs.lemmas.Bool.{and_parts, and_from, cases_Bool, ltb-true, lt-ltb}
-use Rattle.tmw_events.specs.declared.event.Event.{Event}
-use Rattle.tmw_events.specs.declared.event.Kind.{Kind}
-use Rattle.tmw_defs.specs.History.{Txn, is_ended, add_event, transactions_from}
+use Rattle.tmw_defs.proofs.Shared.{AllByRecursion, Bool, Event, IsTrue, Kind, List, Txn, [], add_event, and_from, and_parts, ap, arith, cases_Bool, false, inl, inr, is_ended, length, list_all, lt-ltb, ltb-true, nat_lt, not, refl, suc, transactions_from, true, ℕ, ◌&&◌, ◌++◌, ◌+◌, ◌<◌, ◌==◌, ◌∙◌, ◌∷◌, ◌≡◌, ◌≤◌}
 use Rattle.tmw_defs.proofs.Along.{Pairs}
 use Rattle.tmw_defs.proofs.Before.{comes_before, is_before}
 use Rattle.tmw_defs.proofs.OneMore.{joins, add_event_here, add_event_past}

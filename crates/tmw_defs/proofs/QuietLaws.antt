@@ -1,5 +1,5 @@
 -- The law of quiet events, for each criterion.
-use Rattle.tmw_defs.specs.declared.criterion.Criterion.TheVariants.{Opacity, Strict}
+use Rattle.tmw_defs.proofs.Shared.{Opacity, Strict}
 use Rattle.tmw_defs.specs.QuietLaw.{QuietLaw}
 use Rattle.tmw_defs.proofs.QuietProof.{final_opaque-quiet}
 use Rattle.tmw_defs.proofs.StrictQuiet.{final_strict-quiet}

@@ -1,27 +1,11 @@
 -- Quiet events and opacity: an order of a history's transactions is still one, with the same states, after a quiet event.
-use Rattle.std.proofs.Common.{◌≡◌, ◌==◌, ◌&&◌, ◌||◌, ◌+◌, ◌%◌, ◌^◌, ◌++◌, ◌≤◌, ◌⊎◌, ℕ, Bool, true, false, not, nat_lt, List, [], ◌∷◌, length, Some, IsTrue, refl, ap, ◌∙◌, inl, inr, arith}
-use Rattle.std.specs.Prelude.{slice_index, slice_set}
-use Rattle.std.specs.List.{list_all, AllByRecursion}
-use Rattle.std.proofs.lemmas.Bool.{and_parts, and_from, cases_Bool, ltb-true, not-true}
-use Rattle.tmw_events.specs.declared.event.Event.{Event}
-use Rattle.tmw_events.specs.declared.ix.Ix.{Ix}
-use Rattle.tmw_events.specs.declared.event.Kind.{Kind}
-use Rattle.tmw_events.specs.declared.event.Kind.TheVariants.{R, V, W, K, T, C, X, A, N}
-use Rattle.tmw_defs.specs.declared.op.Op.{Op}
-use Rattle.tmw_defs.specs.declared.op.Op.TheVariants.{Read, Write, Add}
-use Rattle.tmw_defs.specs.declared.status.Status.{Status}
-use Rattle.tmw_defs.specs.declared.status.Status.TheVariants.{Live, Pending, Committed, Aborted}
-use Rattle.tmw_defs.specs.History.{Txn, is_over, is_text, is_ended, status_of, status_after, operations, add_event, transactions, is_well_formed}
-use Rattle.tmw_defs.specs.Opaque.{State, Placed, precedes, may_hold, may_be, reads_hold, IsFinalOpaque}
-use Rattle.tmw_defs.specs.Outcomes.{end_state, Leads}
-use Rattle.tmw_defs.specs.Quiet.{is_pending, awaits_commit, is_quiet}
+use Rattle.tmw_defs.proofs.Shared.{A, Aborted, Add, AllByRecursion, Bool, C, Committed, Event, IsFinalOpaque, IsTrue, Ix, K, Kind, Leads, List, Live, N, Op, Pending, Placed, R, Read, Some, State, Status, T, Txn, V, W, Write, X, [], add_event, and_from, and_parts, ap, arith, awaits_commit, cases_Bool, end_state, false, inl, inr, is_ended, is_over, is_pending, is_quiet, is_text, is_well_formed, length, list_all, list_all-append, ltb-true, may_be, may_hold, nat_lt, not, not-true, operations, precedes, reads_hold, refl, slice_index, slice_set, status_after, status_of, transactions, true, ℕ, ◌%◌, ◌&&◌, ◌++◌, ◌+◌, ◌==◌, ◌^◌, ◌||◌, ◌∙◌, ◌∷◌, ◌≡◌, ◌≤◌, ◌⊎◌}
 use Rattle.tmw_defs.proofs.Along.{Pairs, Eases, Keeps, leads-along}
 use Rattle.tmw_defs.proofs.Before.{none_precedes, places-append, keeps-append, is_legal-append, end_state-append}
 use Rattle.tmw_defs.proofs.OneMore.{joins, begun, longer, add_event_here, add_event_past, transactions-push}
 use Rattle.tmw_defs.proofs.Places.{Lies, lies-transactions}
 use Rattle.tmw_defs.proofs.QuietTexts.{tells_no_value, AddsAWrite, operations-push, status_of-push, pending-answered}
 use Rattle.tmw_defs.proofs.Removals.{list_all-places}
-use Rattle.std.proofs.lemmas.List.Folds.{list_all-append}
 
 -- a write at the end is read by nothing
 pub reads_hold-write : (s : State) (ops : List Op) (r : Ix) (v : ℕ) → reads_hold s (ops ++ Write r v ∷ []) ≡ reads_hold s ops

@@ -1,15 +1,6 @@
 -- What a quiet event does to the text of the transaction that it joins.
-use Rattle.std.proofs.Common.{◌≡◌, ◌&&◌, ◌-◌, ◌++◌, ℕ, suc, Bool, true, false, not, List, [], ◌∷◌, length, Some, IsTrue, refl, sym, ap, ◌∙◌, inl, inr, ◌⊎◌, arith, append_assoc}
-use Rattle.std.proofs.lemmas.Bool.{and_parts}
-use Rattle.std.proofs.lemmas.List.{append-nil}
-use Rattle.tmw_events.specs.declared.ix.Ix.{Ix}
-use Rattle.tmw_events.specs.declared.event.Kind.{Kind}
-use Rattle.tmw_events.specs.declared.event.Kind.TheVariants.{R, V, W, K, T, C, X, A, N}
-use Rattle.tmw_defs.specs.declared.op.Op.{Op}
-use Rattle.tmw_defs.specs.declared.op.Op.TheVariants.{Write}
-use Rattle.tmw_defs.specs.declared.status.Status.TheVariants.{Pending}
+use Rattle.tmw_defs.proofs.Shared.{A, Bool, C, IsTrue, Ix, K, Kind, List, N, Op, Pending, R, Some, T, V, W, Write, X, [], and_parts, answers, ap, append-nil, append_assoc, arith, ends, false, inl, inr, is_call, is_text, length, not, operation, operations, refl, status_after, status_of, suc, sym, true, ℕ, ◌&&◌, ◌++◌, ◌-◌, ◌∙◌, ◌∷◌, ◌≡◌, ◌⊎◌}
 use Rattle.tmw_defs.proofs.TextsProof.{slice_get_last}
-use Rattle.tmw_defs.specs.History.{is_text, is_call, answers, ends, status_of, status_after, operation, operations}
 
 -- the event answers no read and no add
 abbrev pub tells_no_value : Kind → Bool

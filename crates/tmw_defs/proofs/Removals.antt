@@ -1,11 +1,5 @@
 -- What a list of transactions is once one is taken out, and that serial orders place just its members.
-use Rattle.std.proofs.Common.{◌≡◌, ◌&&◌, ◌+◌, ℕ, zero, suc, Bool, true, false, List, [], ◌∷◌, length, Some, refl, sym, ap, ◌∙◌, arith}
-use Rattle.std.specs.Prelude.{remove, slice_get}
-use Rattle.std.specs.List.{list_all}
-use Rattle.std.proofs.lemmas.Option.{slice_get_within}
-use Rattle.std.proofs.lemmas.List.Edits.{length-remove}
-use Rattle.tmw_defs.specs.History.{Txn}
-use Rattle.tmw_defs.specs.Opaque.{Placed, PlacesEach}
+use Rattle.tmw_defs.proofs.Shared.{Bool, List, Placed, PlacesEach, Some, Txn, [], ap, arith, false, length, length-remove, list_all, refl, remove, slice_get, slice_get_within, suc, sym, true, zero, ℕ, ◌&&◌, ◌+◌, ◌∙◌, ◌∷◌, ◌≡◌}
 
 and_swap : (a b c : Bool) → (a && (b && c)) ≡ (b && (a && c))
 and_swap true b c = refl

@@ -1,15 +1,5 @@
 -- Over a cut, serial orders of what a completion of a history holds are those of what went before followed by those of what follows.
-use Rattle.std.proofs.Common.{List, ◌++◌, length, IsTrue, refl, sym, ap, ◌∙◌}
-use Rattle.std.specs.List.{list_all}
-use Rattle.std.proofs.lemmas.Bool.{and_parts, and_from}
-use Rattle.std.proofs.lemmas.List.Folds.{list_all-append}
-use Rattle.tmw_events.specs.declared.event.Event.{Event}
-use Rattle.tmw_defs.specs.declared.criterion.Criterion.TheVariants.{Strict}
-use Rattle.tmw_defs.specs.Criteria.{LeadsBy}
-use Rattle.tmw_defs.specs.Cuts.{is_cut}
-use Rattle.tmw_defs.specs.History.{Txn, transactions}
-use Rattle.tmw_defs.specs.Opaque.{State, Explains}
-use Rattle.tmw_defs.specs.Outcomes.{end_state}
+use Rattle.tmw_defs.proofs.Shared.{Event, Explains, IsTrue, LeadsBy, List, State, Strict, Txn, and_from, and_parts, ap, end_state, is_cut, length, list_all, list_all-append, refl, sym, transactions, ◌++◌, ◌∙◌}
 use Rattle.tmw_defs.proofs.Along.{Pairs, Keeps, explains-along}
 use Rattle.tmw_defs.proofs.Apart.{explains_split}
 use Rattle.tmw_defs.proofs.Before.{is_before, explains-append, end_state-append}

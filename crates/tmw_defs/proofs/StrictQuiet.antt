@@ -1,16 +1,5 @@
 -- Quiet events and strict serializability: a completion may hold the same transactions after a quiet event, in the same order.
-use Rattle.std.proofs.Common.{◌≡◌, ◌==◌, ◌&&◌, ◌++◌, ℕ, true, false, List, [], ◌∷◌, length, IsTrue, inl, inr}
-use Rattle.std.specs.List.{list_all}
-use Rattle.std.proofs.lemmas.Bool.{and_parts, cases_Bool, not-true}
-use Rattle.tmw_events.specs.declared.event.Event.{Event}
-use Rattle.tmw_events.specs.declared.event.Kind.{Kind}
-use Rattle.tmw_events.specs.declared.event.Kind.TheVariants.{R, V, W, K, T, C, X, A, N}
-use Rattle.tmw_defs.specs.declared.status.Status.{Status}
-use Rattle.tmw_defs.specs.declared.status.Status.TheVariants.{Live}
-use Rattle.tmw_defs.specs.History.{Txn, is_text, is_ended, status_of, add_event, transactions, is_well_formed}
-use Rattle.tmw_defs.specs.Opaque.{State, may_hold}
-use Rattle.tmw_defs.specs.Quiet.{is_pending, awaits_commit, is_quiet_strictly}
-use Rattle.tmw_defs.specs.Strict.{AreHeld, IsFinalStrict}
+use Rattle.tmw_defs.proofs.Shared.{A, AreHeld, C, Event, IsFinalStrict, IsTrue, K, Kind, List, Live, N, R, State, Status, T, Txn, V, W, X, [], add_event, and_parts, awaits_commit, cases_Bool, false, inl, inr, is_ended, is_pending, is_quiet_strictly, is_text, is_well_formed, length, list_all, may_hold, not-true, status_of, transactions, true, ℕ, ◌&&◌, ◌++◌, ◌==◌, ◌∷◌, ◌≡◌}
 use Rattle.tmw_defs.proofs.OneMore.{joins, add_event_here, add_event_past, transactions-push}
 use Rattle.tmw_defs.proofs.QuietProof.{left_out, live_of, or_none, joined_live}
 use Rattle.tmw_defs.proofs.QuietTexts.{status_of-push}

@@ -1,16 +1,6 @@
 -- Each thread's transactions are its events, cut after each commit and each abort event: shown by one event more at a time.
-use Rattle.std.proofs.Common.{◌≡◌, ◌==◌, ◌+◌, ◌-◌, ◌++◌, ◌<◌, ◌≤◌, ℕ, zero, suc, false, List, [], ◌∷◌, length, take, Some, IsTrue, refl, sym, ap, subst, ◌∙◌, inl, inr, arith, append_assoc, length-append}
-use Rattle.std.specs.Prelude.{slice_get}
-use Rattle.std.proofs.Math.Seq.{take-append-add, take-append_seam}
-use Rattle.std.proofs.lemmas.Bool.{cases_Bool, and_parts, and_from, eqb-true, not_from_false}
-use Rattle.std.proofs.lemmas.List.{append-nil, take-append-le}
+use Rattle.tmw_defs.proofs.Shared.{Event, Happens, IsTrue, Kind, LiesAfter, List, R, Some, TextsLaw, Txn, [], add_event, and_from, and_parts, ap, append-nil, append_assoc, arith, cases_Bool, ended_but_last, ends, eqb-true, false, inl, inr, is_ended, is_over, joined_texts, kinds_of, length, length-append, not_from_false, of_thread, open_but_last, refl, slice_get, slice_get_within, status_after, subst, suc, sym, take, take-append-add, take-append-le, take-append_seam, transactions, zero, ℕ, ◌++◌, ◌+◌, ◌-◌, ◌<◌, ◌==◌, ◌∙◌, ◌∷◌, ◌≡◌, ◌≤◌}
 use Rattle.std.proofs.lemmas.Grind.{flat_map-append}
-use Rattle.std.proofs.lemmas.Option.{slice_get_within}
-use Rattle.tmw_events.specs.declared.event.Event.{Event}
-use Rattle.tmw_events.specs.declared.event.Kind.{Kind}
-use Rattle.tmw_events.specs.declared.event.Kind.TheVariants.{R}
-use Rattle.tmw_defs.specs.History.{Txn, ends, is_ended, is_over, status_after, add_event, transactions}
-use Rattle.tmw_defs.specs.Texts.{kinds_of, of_thread, joined_texts, ended_but_last, open_but_last, Happens, LiesAfter, TextsLaw}
 use Rattle.tmw_defs.proofs.OneMore.{begun, longer, Own, turn, transactions-push, add_event_here, add_event_past, of_thread-add_other, of_thread-add_own, all_own, kinds_of-own, kinds_of-other, ended_rest, ended_but_last-add, joined_texts-add}
 
 -- an element stays where it is when the list grows at its end, and the new one stands there

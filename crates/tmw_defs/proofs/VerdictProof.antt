@@ -1,23 +1,7 @@
 -- What the verdict is after one event more, by the outcomes at the last cut of a history in which nothing is wrong.
-use Rattle.std.proofs.Common.{◌≡◌, ◌+◌, ◌++◌, ◌<◌, ◌≤◌, ◌↔◌, ℕ, List, [], ◌∷◌, length, IsTrue, IsFalse, refl, sym, ap, ◌∙◌, inl, inr, arith}
-use Rattle.std.specs.Prelude.{take, drop}
-use Rattle.std.proofs.Math.Seq.{take-length}
-use Rattle.std.proofs.lemmas.Bool.{cases_lt, both_ways}
-use Rattle.std.proofs.lemmas.List.{take_all, drop_all, take-append-drop}
-use Rattle.tmw_events.specs.declared.event.Event.{Event}
-use Rattle.tmw_defs.specs.declared.criterion.Criterion.{Criterion}
-use Rattle.tmw_defs.specs.declared.criterion.Criterion.TheVariants.{Opacity, Strict}
+use Rattle.tmw_defs.proofs.Shared.{AreFine, Criterion, EndsBy, Event, HasWide, IsCutLaw, IsFalse, IsFinalBy, IsFine, IsFirst, IsLastCut, IsMalformed, IsTooMany, IsTooWide, IsTrue, IsVerdict, IsViolated, LeadsBy, List, Malformed, MoreThan, Only, Opacity, OpaqueSoFar, Rules, State, Strict, StrictSoFar, SumsUp, Txn, Undecided, Violated, [], ap, arith, between, both_ways, cases_lt, drop, drop_all, inl, inr, is_cut, is_quiet_by, is_well_formed, length, outcomes_by, refl, so_far, sym, take, take-append-drop, take-length, take_all, transactions, ℕ, ◌++◌, ◌+◌, ◌<◌, ◌↔◌, ◌∙◌, ◌∷◌, ◌≡◌, ◌≤◌}
 use Rattle.tmw_defs.specs.declared.verdict.Verdict.{Verdict}
-use Rattle.tmw_defs.specs.declared.verdict.Verdict.TheVariants.{OpaqueSoFar, StrictSoFar, Violated, Undecided, Malformed}
 use Rattle.tmw_defs.specs.declared.verdict.Why.TheVariants.{Transactions, States}
-use Rattle.tmw_defs.specs.Criteria.{LeadsBy, EndsBy, IsFinalBy, outcomes_by, is_quiet_by, so_far}
-use Rattle.tmw_defs.specs.Cuts.{is_cut, IsCutLaw}
-use Rattle.tmw_defs.specs.History.{Txn, transactions, is_well_formed}
-use Rattle.tmw_defs.specs.Opaque.{State}
-use Rattle.tmw_defs.specs.Outcomes.{Only, MoreThan}
-use Rattle.tmw_defs.specs.Summary.{SumsUp, IsLastCut}
-use Rattle.tmw_defs.specs.Verdict.{Rules, IsFine, AreFine, IsMalformed, IsTooWide, IsTooMany, IsViolated, IsFirst, IsVerdict}
-use Rattle.tmw_defs.specs.Windows.{between, HasWide}
 use Rattle.tmw_defs.proofs.Criteria.{formed-final, outcome-final}
 use Rattle.tmw_defs.proofs.CutLaws.{cut_law}
 use Rattle.tmw_defs.proofs.QuietLaws.{quiet_law}
@@ -57,6 +41,15 @@ IsFirst-new Wrong rules h e judged wrong = record {
   within = let same = length-push h e in omega (arith, same);
   here = rw (take_all-push h e) wrong;
   before = λ k earlier. let within : k ≤ length h = omega (arith, earlier) in rw (take-push k h e within) (judged k within);
+}
+
+-- what is wrong first stays so
+pub IsFirst-push : (Wrong : Rules → List Event → Type 0) (rules : Rules) (h : List Event) (e : Event) (m : ℕ) → IsFirst Wrong rules h m
+    → IsFirst Wrong rules (h ++ e ∷ []) m
+IsFirst-push Wrong rules h e m first = record {
+  within = (let low = first.within in let same = length-push h e in omega (arith, low, same));
+  here = rw (take-push m h e first.within) first.here;
+  before = λ k less. (let low = first.within in rw (take-push k h e (omega (arith, low, less))) (first.before k less));
 }
 
 -- the end states from a smaller set are end states from the larger one

@@ -1,18 +1,6 @@
 -- Strict serializability asks less than opacity: of a serial order of all transactions, those that its completion holds are a serial
 -- order of them alone.
-use Rattle.std.proofs.Common.{◌≡◌, ℕ, zero, suc, Bool, true, false, List, [], ◌∷◌, IsTrue, refl, sym, ap, ◌∙◌, inl, inr}
-use Rattle.std.specs.Prelude.{take, remove, slice_get, Some, not}
-use Rattle.std.specs.List.{list_all}
-use Rattle.std.proofs.lemmas.Bool.{and_parts, and_from, cases_Bool}
-use Rattle.tmw_events.specs.declared.event.Event.{Event}
-use Rattle.tmw_defs.specs.History.{Txn, status_of, transactions}
-use Rattle.tmw_defs.specs.Opaque.{State, Placed, may_hold, may_be, PlacesEach, precedes, keeps_order, reads_hold, after, is_legal, HasOrder, IsFinalOpaque, IsOpaque}
-use Rattle.tmw_defs.specs.History.{operations}
-use Rattle.tmw_defs.specs.Outcomes.{Ends, end_state}
-use Rattle.tmw_defs.specs.Criteria.{EndsBy, LeadsBy}
-use Rattle.tmw_defs.specs.declared.criterion.Criterion.{Criterion}
-use Rattle.tmw_defs.specs.declared.criterion.Criterion.TheVariants.{Opacity, Strict}
-use Rattle.tmw_defs.specs.Strict.{AreHeld, HasStrictOrder, IsFinalStrict, IsStrict}
+use Rattle.tmw_defs.proofs.Shared.{AreHeld, Bool, Criterion, Ends, EndsBy, Event, HasOrder, HasStrictOrder, IsFinalOpaque, IsFinalStrict, IsOpaque, IsStrict, IsTrue, LeadsBy, List, Opacity, Placed, PlacesEach, Some, State, Strict, Txn, [], after, and_from, and_parts, ap, cases_Bool, end_state, false, inl, inr, is_legal, keeps_order, list_all, may_be, may_hold, not, operations, precedes, reads_hold, refl, remove, slice_get, status_of, suc, sym, take, transactions, true, zero, ℕ, ◌∙◌, ◌∷◌, ◌≡◌}
 
 -- A completion that leaves out the transaction with this index holds what one of the others holds.
 pub left_out : (ts members : List Txn) (i : ℕ) (t : Txn) → slice_get ts i ≡ Some t → IsTrue (may_hold (status_of t.text) false)

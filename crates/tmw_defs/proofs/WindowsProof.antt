@@ -1,23 +1,5 @@
 -- The windows and the cuts of a history with one event more: each window is one of the history's, or the open one.
-use Rattle.std.proofs.Common.{◌≡◌, ◌==◌, ◌&&◌, ◌||◌, ◌+◌, ◌++◌, ◌<◌, ◌≤◌, ◌⊎◌, ℕ, Bool, true, false, List, [], ◌∷◌, length, IsTrue, refl, sym, ap, ◌∙◌, inl, inr, arith, append_assoc}
-use Rattle.std.specs.Prelude.{take, drop}
-use Rattle.std.specs.List.{list_all}
-use Rattle.std.proofs.lemmas.Bool.{and_parts, cases_lt}
-use Rattle.std.proofs.lemmas.List.{length-append, take_all, drop_all, take-append-le, drop-append-le, take-append-drop}
-use Rattle.std.proofs.lemmas.List.Folds.{list_all-append, list_any-append}
-use Rattle.tmw_events.specs.declared.event.Event.{Event}
-use Rattle.tmw_events.specs.declared.event.Kind.{Kind}
-use Rattle.tmw_events.specs.declared.event.Kind.TheVariants.{R, V, W, K, T, C, X, A, N}
-use Rattle.tmw_defs.specs.declared.status.Status.{Status}
-use Rattle.tmw_defs.specs.declared.status.Status.TheVariants.{Live, Pending, Committed, Aborted}
-use Rattle.tmw_defs.specs.Cuts.{is_cut}
-use Rattle.tmw_defs.specs.History.{Txn, is_over, is_ended, status_of, transactions}
-use Rattle.tmw_defs.specs.declared.criterion.Criterion.{Criterion}
-use Rattle.tmw_defs.specs.declared.criterion.Criterion.TheVariants.{Opacity, Strict}
-use Rattle.tmw_defs.specs.Criteria.{is_quiet_by}
-use Rattle.tmw_defs.specs.Quiet.{is_pending, awaits_commit, is_quiet, is_quiet_strictly}
-use Rattle.tmw_defs.specs.Summary.{IsLastCut}
-use Rattle.tmw_defs.specs.Windows.{IsCutAt, between, HasWide}
+use Rattle.tmw_defs.proofs.Shared.{A, Aborted, Bool, C, Committed, Criterion, Event, HasWide, IsCutAt, IsLastCut, IsTrue, K, Kind, List, Live, N, Opacity, Pending, R, Status, Strict, T, Txn, V, W, X, [], and_parts, ap, append_assoc, arith, awaits_commit, between, cases_lt, drop, drop-append-le, drop_all, false, inl, inr, is_cut, is_ended, is_over, is_pending, is_quiet, is_quiet_by, is_quiet_strictly, length, length-append, list_all, list_all-append, list_any-append, refl, status_of, sym, take, take-append-drop, take-append-le, take_all, transactions, true, ℕ, ◌&&◌, ◌++◌, ◌+◌, ◌<◌, ◌==◌, ◌||◌, ◌∙◌, ◌∷◌, ◌≡◌, ◌≤◌, ◌⊎◌}
 use Rattle.tmw_defs.proofs.Along.{Pairs}
 use Rattle.tmw_defs.proofs.CutsProof.{behind, behind-later, transactions-cut}
 use Rattle.tmw_defs.proofs.Places.{IsLater}

@@ -1,14 +1,5 @@
 -- Worked histories, by computation: each shows what a definition says of a history whose verdict is known.
-use Rattle.std.proofs.Common.{◌≡◌, ◌&&◌, ◌≤◌, ℕ, zero, suc, Bool, true, false, List, [], ◌∷◌, ◌++◌, length, take, refl, IsTrue, inl, inr, arith}
-use Rattle.std.specs.Prelude.{nat_lt, replicate}
-use Rattle.std.proofs.lemmas.Bool.{ltb-true, both_ways, and_parts, cases_lt}
-use Rattle.tmw_events.specs.declared.event.Event.{Event}
-use Rattle.tmw_events.specs.declared.event.Kind.{Kind}
-use Rattle.tmw_events.specs.declared.event.Kind.TheVariants.{R, V, W, K, T, C, X, A, N}
-use Rattle.tmw_events.specs.declared.ix.Ix.{Ix}
-use Rattle.tmw_defs.specs.History.{transactions, is_well_formed}
-use Rattle.tmw_defs.specs.Opaque.{State, zeros, IsFinalOpaque, IsOpaque}
-use Rattle.tmw_defs.specs.Decision.{is_explained}
+use Rattle.tmw_defs.proofs.Shared.{A, Bool, C, Event, IsFinalOpaque, IsOpaque, IsTrue, Ix, K, Kind, List, N, R, State, T, V, W, X, [], and_parts, arith, both_ways, cases_lt, false, inl, inr, is_explained, is_well_formed, length, ltb-true, nat_lt, refl, replicate, suc, take, transactions, true, zero, zeros, ℕ, ◌&&◌, ◌++◌, ◌∷◌, ◌≡◌, ◌≤◌}
 use Rattle.tmw_defs.proofs.DecisionProof.{is_explained-sound, is_explained-complete}
 
 -- the number of a thread or a register

@@ -59,8 +59,6 @@ pub fn ix_of(byte: u8) -> Option<Ix>
     ensures some { IfSome result (λ ix. byte ≡ digit ix) }
     ensures none { IfNone result ((ix : Ix) → byte ≡ digit ix → ⊥) }
 {
-    if byte < b'0' {
-        return None;
-    }
-    Ix::new(byte - b'0')
+    // A byte below the digits wraps round to more than any of them.
+    Ix::new(byte.wrapping_sub(b'0'))
 }

@@ -1,34 +1,16 @@
 -- An event that is taken at once leaves the history fine: where it leads to no cut, and where the only transaction ends with it.
-use Rattle.std.proofs.Common.{◌≡◌, ◌⊎◌, ◌≤◌, ◌<◌, ◌+◌, ◌++◌, ◌∷◌, [], Bool, true, false, List, length, drop, None, IsTrue, refl, sym, subst, ◌∙◌, inl, inr, arith}
-use Rattle.std.specs.List.{Contains}
-use Rattle.tmw_events.specs.declared.event.Event.{Event}
-use Rattle.tmw_defs.specs.Criteria.{is_quiet_by}
-use Rattle.tmw_defs.specs.Cuts.{is_cut}
-use Rattle.tmw_defs.specs.History.{transactions}
-use Rattle.tmw_defs.specs.Opaque.{State}
-use Rattle.tmw_defs.specs.Verdict.{Rules}
-use Rattle.tmw_defs.proofs.WindowsProof as windows
+use Rattle.tmw_monitor.proofs.Shared.{Bool, Closes, Contains, EndsOf, Event, IsTrue, Keeps, List, None, Note, Notes, Open, Outcome, Rules, StandsFor, State, StaysOpen, TellsWrong, Witnesses, [], arith, contains_here, drop, false, inl, inr, is_cut, is_quiet_by, length, length-transactions_push, members, refl, subst, sym, transactions, true, views_of, ◌++◌, ◌+◌, ◌<◌, ◌∙◌, ◌∷◌, ◌≡◌, ◌≤◌, ◌⊎◌}
 use Rattle.tmw_wellformed.specs.GoingOn.{TakesAs}
-use Rattle.tmw_wellformed.specs.Notes.{Notes}
-use Rattle.tmw_wellformed.specs.declared.note.Note.{Note}
-use Rattle.tmw_cuts.specs.Members.{members}
-use Rattle.tmw_cuts.specs.Standing.{StandsFor, views_of}
-use Rattle.tmw_cuts.proofs.FirstMembers.{contains_here}
-use Rattle.tmw_search.specs.Ended.{EndsOf}
 use Rattle.tmw_search.proofs.ForcedEnds.{alone-end}
-use Rattle.tmw_witness.specs.Witnessing.{Witnesses}
-use Rattle.tmw_monitor.specs.declared.open.Open.{Open}
-use Rattle.tmw_monitor.specs.declared.weighed.Weighed.TheVariants.{Outcome}
-use Rattle.tmw_monitor.specs.Fitting.{Keeps, TellsWrong}
-use Rattle.tmw_monitor.specs.Weighing.{StaysOpen, Closes}
-use Rattle.tmw_monitor.proofs.Opening.{notes_open, narrow-push, length-push}
+use Rattle.tmw_monitor.proofs.Opening.{notes_open, narrow-push}
 use Rattle.tmw_monitor.proofs.Told.{follows-told}
+use Rattle.tmw_defs.proofs.WindowsProof as windows
 
 -- the window has one transaction with the event too
 pub still_one : (h : List Event) (e : Event) (note : Note) → Notes h e note → note.begins ≡ false → length (transactions h) ≡ 1
     → length (transactions (h ++ e ∷ [])) ≤ 1
 still_one h e note notes goes_on one =
-    elim (length-push h e) [
+    elim (length-transactions_push h e) [
       | inl same ↦ omega (arith, same, one)
       | inr more ↦ absurd (let begins = notes.begins.1 more in let bad : true ≡ false = sym begins ∙ goes_on in cc)
     ]

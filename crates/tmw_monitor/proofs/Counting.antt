@@ -1,16 +1,11 @@
 -- How many states a set has: no list of different members is longer than the list of all members.
-use Rattle.std.proofs.Common.{◌≡◌, ◌≢◌, ◌+◌, ◌<◌, ◌≤◌, ℕ, zero, suc, true, false, List, [], ◌∷◌, length, All, AllPairs, get_or, sym, ap, ◌∙◌, arith}
-use Rattle.std.specs.Prelude.{remove}
+use Rattle.tmw_monitor.proofs.Shared.{All, AllPairs, Contains, HasMoreThan, List, MoreThan, State, [], ap, arith, false, get_or, length, remove, suc, sym, true, zero, ℕ, ◌+◌, ◌<◌, ◌∙◌, ◌∷◌, ◌≡◌, ◌≢◌, ◌≤◌}
 use Rattle.std.specs.Cmp.Lexicographic.{slice_cmp, on_texts}
-use Rattle.std.specs.List.{Contains}
 use Rattle.std.specs.List.Sorted.{IsStrictlySortedBy}
 use Rattle.std.specs.Ordering.{nat_cmp, eq_by_cmp}
 use Rattle.std.proofs.lemmas.Cmp.{eq_by_cmp_equiv}
 use Rattle.std.proofs.lemmas.List.Elements.{Contains-get_or}
 use Rattle.std.proofs.lemmas.Map.Keys.{IsDistinct-from_sorted, apart_from_distinct}
-use Rattle.tmw_defs.specs.Opaque.{State}
-use Rattle.tmw_defs.specs.Outcomes.{MoreThan}
-use Rattle.tmw_search.specs.Ended.{HasMoreThan}
 
 -- one that is not the one taken out is still there
 contains-remove : (ys : List State) (i : ℕ) (x z : State) → i < length ys → get_or ys i x ≡ x → (x ≡ z → ⊥) → Contains ys z

@@ -1,16 +1,7 @@
 -- A monitor whose verdict is that nothing is wrong, with what the next event makes of what it keeps.
-use Rattle.std.proofs.Common.{◌≡◌, ◌+◌, List, [], ◌∷◌, ◌++◌, Option, Some, None, ap, sym, ◌∙◌, arith}
-use Rattle.tmw_events.specs.declared.event.Event.{Event}
-use Rattle.tmw_defs.specs.declared.verdict.Verdict.{Verdict}
-use Rattle.tmw_defs.specs.Criteria.{so_far}
-use Rattle.tmw_defs.specs.Verdict.{Rules}
-use Rattle.tmw_defs.proofs.WindowsProof as windows
-use Rattle.tmw_monitor.specs.declared.broken.Broken.{Broken}
-use Rattle.tmw_monitor.specs.declared.monitor.Monitor.{Monitor}
-use Rattle.tmw_monitor.specs.declared.open.Open.{Open}
-use Rattle.tmw_monitor.specs.Breaking.{TellsTracked}
+use Rattle.tmw_monitor.proofs.Shared.{Broken, Event, Fits, Keeps, KeepsNothing, List, Monitor, None, Open, Option, Rules, Some, TellsTracked, TellsWrong, Verdict, [], ap, arith, so_far, sym, ◌++◌, ◌+◌, ◌∙◌, ◌∷◌, ◌≡◌}
 use Rattle.tmw_monitor.proofs.Final.{verdict-stays}
-use Rattle.tmw_monitor.specs.Fitting.{Fits, Keeps, KeepsNothing, TellsWrong}
+use Rattle.tmw_defs.proofs.WindowsProof as windows
 
 -- nothing is wrong with the event either
 pub fits-next : (rules : Rules) (h : List Event) (e : Event) (old : Monitor) (kept : Open) → Fits rules h old

@@ -1,12 +1,5 @@
 -- Before its first event a history is summed up by the set of its start state.
-use Rattle.std.proofs.Common.{◌≡◌, ◌↔◌, ◌<◌, zero, suc, List, [], ◌∷◌, sym, subst, arith}
-use Rattle.std.specs.List.{Contains}
-use Rattle.tmw_defs.specs.Opaque.{State}
-use Rattle.tmw_defs.specs.Summary.{SumsUp}
-use Rattle.tmw_defs.specs.Verdict.{Rules}
-use Rattle.tmw_defs.proofs.VerdictProof.{sums_up-new}
-use Rattle.tmw_cuts.specs.declared.states.States.{States}
-use Rattle.tmw_cuts.specs.Members.{members}
+use Rattle.tmw_monitor.proofs.Shared.{Contains, List, Rules, State, States, SumsUp, [], arith, members, subst, suc, sums_up-new, sym, zero, ◌<◌, ◌↔◌, ◌∷◌, ◌≡◌}
 
 contains_one : (x y : State) → Contains (x ∷ []) y ↔ (y ≡ x)
 contains_one x y = (λ has. only has, λ is. (0, omega arith, sym is))

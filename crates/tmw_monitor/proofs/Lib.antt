@@ -5,6 +5,7 @@ pub mod Final
 mod Fresh
 mod OnlyOpen
 mod Opening
+mod Shared
 mod SoFar
 mod Told
 mod AtOnce

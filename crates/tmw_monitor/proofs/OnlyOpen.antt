@@ -1,13 +1,5 @@
 -- A monitor keeps of each history that fits it the open window and the outcomes before it alone.
-use Rattle.std.proofs.Common.{◌≤◌, List, length, take, inl, inr}
-use Rattle.std.proofs.lemmas.Bool.{cases_lt}
-use Rattle.tmw_events.specs.declared.event.Event.{Event}
-use Rattle.tmw_defs.specs.Criteria.{outcomes_by}
-use Rattle.tmw_defs.specs.Verdict.{Rules}
-use Rattle.tmw_cuts.specs.Members.{members}
-use Rattle.tmw_monitor.specs.declared.monitor.Monitor.{Monitor}
-use Rattle.tmw_monitor.specs.declared.open.Open.{Open}
-use Rattle.tmw_monitor.specs.Fitting.{Fits, Keeps, KeepsNothing}
+use Rattle.tmw_monitor.proofs.Shared.{Event, Fits, Keeps, KeepsNothing, List, Monitor, Open, Rules, cases_lt, inl, inr, length, members, outcomes_by, take, ◌≤◌}
 use Rattle.tmw_monitor.specs.Holding.{AreLastOutcomes, HoldsOpen, HoldsNone, KeepsOnlyOpen}
 use Rattle.tmw_monitor.proofs.Counting.{more_than-rising}
 

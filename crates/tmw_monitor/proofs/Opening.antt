@@ -1,18 +1,7 @@
 -- The open window of a history that is summed up: it is narrow, and so it is with an event more where the note allows it.
-use Rattle.std.proofs.Common.{◌≡◌, ◌==◌, ◌↔◌, ◌⊎◌, ◌+◌, ◌<◌, ◌≤◌, ℕ, Bool, true, false, List, [], ◌∷◌, ◌++◌, length, take, drop, IsTrue, refl, sym, subst, ◌∙◌, inl, inr, arith}
-use Rattle.std.proofs.lemmas.Bool.{cases_Bool, cases_lt, eqb-true, eq-eqb}
-use Rattle.std.proofs.lemmas.List.{take-append-drop, take_all}
-use Rattle.tmw_events.specs.declared.event.Event.{Event}
-use Rattle.tmw_defs.specs.Cuts.{is_cut}
-use Rattle.tmw_defs.specs.History.{Txn, add_event, transactions}
-use Rattle.tmw_defs.specs.Opaque.{State}
-use Rattle.tmw_defs.specs.Summary.{SumsUp}
-use Rattle.tmw_defs.specs.Verdict.{Rules, IsFine}
-use Rattle.tmw_defs.proofs.WindowsProof as windows
-use Rattle.tmw_defs.proofs.OneMore.{joins, add_event_here, add_event_past, transactions-push}
-use Rattle.tmw_wellformed.specs.declared.note.Note.{Note}
-use Rattle.tmw_wellformed.specs.Notes.{Notes}
+use Rattle.tmw_monitor.proofs.Shared.{Bool, Event, IsFine, IsTrue, List, Note, Notes, Rules, State, SumsUp, [], arith, cases_Bool, cases_lt, drop, eq-eqb, inl, inr, is_cut, length, length-transactions_push, ne_eqb, refl, subst, sym, take, take-append-drop, take_all, transactions, true, ℕ, ◌++◌, ◌<◌, ◌==◌, ◌↔◌, ◌∙◌, ◌∷◌, ◌≡◌, ◌≤◌}
 use Rattle.tmw_cuts.proofs.AcrossCuts.{notes-behind}
+use Rattle.tmw_defs.proofs.WindowsProof as windows
 
 -- the note of an event of the whole history is one of the event of the open window
 pub notes_open : (rules : Rules) (S : State → Type 0) (c : ℕ) (h : List Event) (e : Event) (note : Note) → SumsUp rules S c h
@@ -22,12 +11,9 @@ notes_open rules S c h e note sums notes =
 
 none_live : (live : ℕ) (cut : Bool) → (live ≡ 0) ↔ IsTrue cut → (live == 0) ≡ cut
 none_live live cut tells =
-    elim (cases_Bool (live == 0)) [
-      | inl none ↦ none ∙ sym (tells.0 (eqb-true live 0 none))
-      | inr some ↦ elim (cases_Bool cut) [
-        | inl is ↦ let bad : true ≡ false = sym (eq-eqb live 0 (tells.1 is)) ∙ some in absurd (cc)
-        | inr uncut ↦ some ∙ sym uncut
-      ]
+    elim (cases_Bool cut) [
+      | inl is ↦ eq-eqb live 0 (tells.1 is) ∙ sym is
+      | inr uncut ↦ ne_eqb live 0 (λ none. let is = tells.0 none in absurd (cc)) ∙ sym uncut
     ]
 
 -- with the event the open window is at a cut where no transaction of the history is live
@@ -56,31 +42,13 @@ narrow_open rules S c h sums =
       | inr narrow ↦ narrow
     ]
 
-length-add_event : (place : ℕ) (e : Event) (ts : List Txn)
-    → (length (add_event place e ts) ≡ length ts) ⊎ (length (add_event place e ts) ≡ length ts + 1)
-length-add_event place e [] = inr (omega arith)
-length-add_event place e (t ∷ ts) =
-    elim (cases_Bool (joins e t)) [
-      | inl taken ↦ inl (rw (add_event_here place e t ts taken) refl)
-      | inr past ↦ rw (add_event_past place e t ts past) (
-          elim (length-add_event place e ts) [
-            | inl same ↦ inl (omega (arith, same))
-            | inr more ↦ inr (omega (arith, more))
-          ])
-    ]
-
--- a history has one transaction more with the event, or as many as before
-pub length-push : (h : List Event) (e : Event)
-    → (length (transactions (h ++ e ∷ [])) ≡ length (transactions h)) ⊎ (length (transactions (h ++ e ∷ [])) ≡ length (transactions h) + 1)
-length-push h e = rw (transactions-push h e) (length-add_event (length h) e (transactions h))
-
 -- with an event that begins no transaction, or begins one where there is room, the open window is as narrow as the bound asks
 pub narrow-push : (rules : Rules) (S : State → Type 0) (c : ℕ) (h : List Event) (e : Event) (note : Note) → SumsUp rules S c h
     → Notes h e note → (note.begins ≡ true → length (transactions (drop c h)) < rules.window)
     → length (transactions (drop c h ++ e ∷ [])) ≤ rules.window
 narrow-push rules S c h e note sums notes room =
     let narrow = narrow_open rules S c h sums in
-    elim (length-push (drop c h) e) [
+    elim (length-transactions_push (drop c h) e) [
       | inl same ↦ omega (arith, same, narrow)
       | inr more ↦
           let begins = (notes_open rules S c h e note sums notes).begins.1 more in

@@ -1,12 +1,6 @@
 -- The verdict where nothing is wrong is that of the criterion, and no verdict that something is.
-use Rattle.std.proofs.Common.{◌≡◌, List, sym}
-use Rattle.tmw_events.specs.declared.event.Event.{Event}
-use Rattle.tmw_defs.specs.declared.criterion.Criterion.{Criterion}
+use Rattle.tmw_monitor.proofs.Shared.{Criterion, Event, IsVerdict, List, OpaqueSoFar, Rules, StrictSoFar, Verdict, so_far, sym, ◌≡◌}
 use Rattle.tmw_defs.specs.declared.criterion.Criterion.TheVariants.{Opacity, Strict}
-use Rattle.tmw_defs.specs.declared.verdict.Verdict.{Verdict}
-use Rattle.tmw_defs.specs.declared.verdict.Verdict.TheVariants.{OpaqueSoFar, StrictSoFar}
-use Rattle.tmw_defs.specs.Criteria.{so_far}
-use Rattle.tmw_defs.specs.Verdict.{Rules, IsVerdict}
 
 pub so_far-apart : (criterion : Criterion) (verdict : Verdict) → (verdict ≡ OpaqueSoFar → ⊥) → (verdict ≡ StrictSoFar → ⊥)
     → verdict ≡ so_far criterion → ⊥

@@ -1,27 +1,9 @@
 -- What was found of the open window with an event more is the verdict on the history, and what is then kept is kept of it.
-use Rattle.std.proofs.Common.{◌≡◌, ◌⊎◌, ◌+◌, ◌≤◌, ℕ, Bool, List, [], ◌∷◌, ◌++◌, length, drop, None, IsTrue, IsFalse, sym, subst, ◌∙◌, inl, inr, arith}
-use Rattle.std.proofs.lemmas.List.{drop_all, drop-append-le}
-use Rattle.std.specs.List.{Contains}
-use Rattle.tmw_events.specs.declared.event.Event.{Event}
-use Rattle.tmw_defs.specs.Criteria.{EndsBy, is_quiet_by}
-use Rattle.tmw_defs.specs.Cuts.{is_cut}
-use Rattle.tmw_defs.specs.History.{transactions, is_well_formed}
-use Rattle.tmw_defs.specs.Opaque.{State}
-use Rattle.tmw_defs.specs.Summary.{SumsUp}
-use Rattle.tmw_defs.specs.Verdict.{Rules}
-use Rattle.tmw_defs.proofs.WindowsProof as windows
-use Rattle.tmw_defs.proofs.VerdictProof.{verdict-violated, verdict-many, sums_up-open, sums_up-quiet, sums_up-cut, so_far-fine}
-use Rattle.tmw_wellformed.specs.Tracks.{Tracks}
-use Rattle.tmw_cuts.specs.Members.{members}
-use Rattle.tmw_cuts.specs.Standing.{StandsFor, views_of}
-use Rattle.tmw_witness.specs.Witnessing.{Witnesses}
-use Rattle.tmw_monitor.specs.declared.open.Open.{Open}
+use Rattle.tmw_monitor.proofs.Shared.{Bool, Closes, Contains, EndsBy, Event, IsFalse, IsTrue, Keeps, List, NoOutcome, None, Open, Outcome, Rules, StandsFor, State, StaysOpen, SumsUp, Tells, TellsWrong, TooMany, Tracks, Witnesses, [], arith, drop, drop-append-le, drop_all, inl, inr, is_cut, is_quiet_by, is_well_formed, length, members, so_far-fine, subst, sums_up-cut, sums_up-open, sums_up-quiet, sym, transactions, verdict-many, verdict-violated, views_of, wrong_of, ℕ, ◌++◌, ◌+◌, ◌∙◌, ◌∷◌, ◌≡◌, ◌≤◌, ◌⊎◌}
 use Rattle.tmw_monitor.specs.declared.weighed.Weighed.{Weighed}
-use Rattle.tmw_monitor.specs.declared.weighed.Weighed.TheVariants.{Outcome, NoOutcome, TooMany}
-use Rattle.tmw_monitor.specs.Fitting.{Keeps, TellsWrong}
-use Rattle.tmw_monitor.specs.Weighing.{StaysOpen, Closes, Tells, wrong_of}
 use Rattle.tmw_monitor.proofs.Counting.{not_more_among, more_than-rising}
 use Rattle.tmw_monitor.proofs.SoFar.{so_far-apart}
+use Rattle.tmw_defs.proofs.WindowsProof as windows
 
 sums_up-stays : (rules : Rules) (S : State → Type 0) (c : ℕ) (h : List Event) (e : Event) (quiet : Bool) → SumsUp rules S c h
     → IsTrue (is_well_formed rules.registers (h ++ e ∷ [])) → length (transactions (drop c h ++ e ∷ [])) ≤ rules.window

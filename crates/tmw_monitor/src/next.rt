@@ -13,7 +13,7 @@ use tmw_events::Event;
 /// Takes the next event, after which the history has length `at`, and returns the verdict if something is wrong with
 /// it. Nothing was wrong before it. If nothing is, what is kept is then that of the longer history. After a failed
 /// allocation it is as before.
-#[inline(never)]
+#[inline(always)]
 pub fn next_wrong(
     alloc: Global,
     criterion: Criterion,

@@ -11,7 +11,7 @@ ghost use Rattle.tmw_witness.specs.Witnessing.{Witnesses};
 ghost use Rattle.tmw_monitor.specs.Weighing.{WeighsNext};
 
 use crate::open::Open;
-use crate::weigh::weigh;
+use crate::weigh::{close, search};
 use crate::weighed::Weighed;
 use std::alloc::{AllocError, Global};
 use tmw_defs::Criterion;
@@ -43,45 +43,44 @@ pub fn take_event(
         → Witnesses (members kept.old.states) (views_of events) kept.old.witness
         → Witnesses (members kept.old.states) (views_of events) kept.new.witness) }
 {
-    if !cut && kept.window.is_quiet(criterion, event) {
-        return take_quiet(kept, event, note);
+    if cut {
+        return take_last(criterion, alloc, kept, cap, event, note);
     }
-    take_weighed(criterion, alloc, kept, cap, cut, event, note)
+    Ok(take_open(criterion, kept, event, note))
 }
 
-/// Takes an event that is quiet and at no cut: nothing is searched, so that nothing can fail once the event is taken.
+/// Takes an event at no cut. It needs no memory.
 #[inline(always)]
-fn take_quiet(kept: &mut Open, event: Event, note: Note) -> Result<Weighed, AllocError>
+fn take_open(criterion: Criterion, kept: &mut Open, event: Event, note: Note) -> Weighed
     requires room { IsTrue note.begins → count_of kept.old.window < 8 }
-    ensures ok { IfOk result (λ found. (criterion : Criterion) (cap : ℕ)
-        → WeighsNext criterion cap event note (λ events. IsFalse (is_cut events)) (λ _. true)
-        kept.old kept.new found) }
+    ensures tells { (cap : ℕ) → WeighsNext criterion cap event note (λ events. IsFalse (is_cut events))
+        (λ events. is_quiet_by criterion (transactions events) event.thread.number event.kind)
+        kept.old kept.new result }
     ensures tracker { kept.new.tracker ≡ kept.old.tracker }
-    ensures states { OnErr result (members kept.new.states ≡ members kept.old.states) }
-    ensures window { OnErr result ((events : List Event) → StandsFor kept.old.window events
-        → StandsFor kept.new.window events) }
-    ensures witness { OnErr result (kept.new.witness ≡ kept.old.witness) }
 {
+    let quiet = kept.window.is_quiet(criterion, event);
     let place = kept.window.open_place(event.thread);
     kept.window.push(event, note);
     kept.witness.follow(&kept.window, place, event);
-    Ok(Weighed::Outcome)
+    if quiet {
+        return Weighed::Outcome;
+    }
+    search(criterion, kept)
 }
 
-/// Takes any other event: weighs the window with it, and takes the event back after a failed allocation.
-#[inline(never)]
-fn take_weighed(
+/// Takes an event at a cut, and takes it back after a failed allocation.
+#[inline(always)]
+fn take_last(
     criterion: Criterion,
     alloc: Global,
     kept: &mut Open,
     cap: u8,
-    cut: bool,
     event: Event,
     note: Note,
 ) -> Result<Weighed, AllocError>
     requires room { IsTrue note.begins → count_of kept.old.window < 8 }
     ensures ok { IfOk result (λ found. (quiet : Bool)
-        → WeighsNext criterion cap event note (λ events. cut ≡ is_cut events) (λ _. quiet)
+        → WeighsNext criterion cap event note (λ events. IsTrue (is_cut events)) (λ _. quiet)
         kept.old kept.new found) }
     ensures tracker { kept.new.tracker ≡ kept.old.tracker }
     ensures states { OnErr result (members kept.new.states ≡ members kept.old.states) }
@@ -91,14 +90,11 @@ fn take_weighed(
         → Witnesses (members kept.old.states) (views_of events) kept.old.witness
         → Witnesses (members kept.old.states) (views_of events) kept.new.witness) }
 {
-    let explained = kept.witness.explains(&kept.window, event);
     let place = kept.window.open_place(event.thread);
     let mark = kept.window.mark(event.thread);
     kept.window.push(event, note);
-    if !explained {
-        kept.witness.follow(&kept.window, place, event);
-    }
-    let weighed = weigh(criterion, alloc, kept, cap, cut);
+    kept.witness.follow(&kept.window, place, event);
+    let weighed = close(criterion, alloc, kept, cap);
     if weighed.is_err() {
         kept.window.take_back(mark);
         kept.witness.forget();

@@ -1,9 +1,6 @@
-ghost use Rattle.std.specs.Prelude.{◌≡◌, [], Bool, List, IfOk, OnErr, IsTrue};
-ghost use Rattle.std.specs.List.{Contains};
+ghost use Rattle.std.specs.Prelude.{◌≡◌, ℕ, [], Bool, List, IfOk, OnErr, IsTrue, IsFalse};
 ghost use Rattle.tmw_events.specs.declared.event.Event.{Event};
-ghost use Rattle.tmw_defs.specs.Outcomes.{Ends};
 ghost use Rattle.tmw_defs.specs.Cuts.{is_cut};
-ghost use Rattle.tmw_defs.specs.History.{transactions};
 ghost use Rattle.tmw_defs.specs.Opaque.{State};
 ghost use Rattle.tmw_cuts.specs.Members.{members};
 ghost use Rattle.tmw_cuts.specs.Standing.{StandsFor, views_of};
@@ -14,61 +11,33 @@ ghost use Rattle.tmw_monitor.specs.Weighing.{Tells};
 use crate::open::Open;
 use crate::weighed::Weighed;
 use std::alloc::{AllocError, Global};
-use tmw_cuts::{States, Window};
+use tmw_cuts::States;
 use tmw_defs::Criterion;
-use tmw_search::{possible, replace_by_outcomes};
+use tmw_search::replace_by_outcomes;
 use tmw_witness::Witness;
 
-/// Weighs the events of a window from the outcomes at its beginning. `cut` says whether they are at a cut: the set
-/// then becomes that of the outcomes there, if these are at most `cap`, and the window is cleared. Elsewhere a serial
-/// order may be looked for if none is known, and is kept if one is found.
-pub fn weigh(
-    criterion: Criterion,
-    alloc: Global,
-    kept: &mut Open,
-    cap: u8,
-    cut: bool,
-) -> Result<Weighed, AllocError>
-    ensures ok { IfOk result (λ found. (quiet : Bool) (events : List Event)
-        → StandsFor kept.old.window events → cut ≡ is_cut events
+/// Weighs the events of a window at no cut, from the outcomes at its beginning. A serial order is looked for if none is known,
+/// and is kept if it is one of all transactions.
+pub fn search(criterion: Criterion, kept: &mut Open) -> Weighed
+    ensures tells { (cap : ℕ) (quiet : Bool) (events : List Event)
+        → StandsFor kept.old.window events → IsFalse (is_cut events)
         → Witnesses (members kept.old.states) (views_of events) kept.old.witness
-        → Tells criterion kept.old.states cap quiet events kept.new found) }
+        → Tells criterion kept.old.states cap quiet events kept.new result }
     ensures tracker { kept.new.tracker ≡ kept.old.tracker }
-    ensures states { OnErr result (members kept.new.states ≡ members kept.old.states) }
-    ensures window { OnErr result ((events : List Event) → StandsFor kept.old.window events
-        → StandsFor kept.new.window events) }
 {
-    if cut {
-        return close(criterion, alloc, kept, cap);
+    if kept.witness.is_known() {
+        return Weighed::Outcome;
     }
-    if has_order(criterion, &mut kept.witness, &kept.states, &kept.window) {
-        return Ok(Weighed::Outcome);
-    }
-    if possible(criterion, alloc, &kept.states, &kept.window)? {
-        Ok(Weighed::Outcome)
+    if kept.witness.finds(criterion, &kept.states, &kept.window) {
+        Weighed::Outcome
     } else {
-        Ok(Weighed::NoOutcome)
+        Weighed::NoOutcome
     }
 }
 
-/// Whether a serial order of all transactions is kept, or by opacity is found where none is known, and is kept then. By strict
-/// serializability none is looked for: mostly a wrong read of one that aborted is why none is known, and then there is none.
-fn has_order(criterion: Criterion, witness: &mut Witness, starts: &States, window: &Window) -> bool
-    ensures ends { IsTrue result → (events : List Event) → StandsFor window.now events
-        → Witnesses (members starts.now) (views_of events) witness.old
-        → (end : State) × Ends (Contains (members starts.now)) (transactions events) end }
-    ensures stays { (events : List Event) → StandsFor window.now events
-        → Witnesses (members starts.now) (views_of events) witness.old
-        → Witnesses (members starts.now) (views_of events) witness.new }
-{
-    match criterion {
-        Criterion::Opacity => witness.finds(starts, window),
-        Criterion::Strict => witness.is_known(),
-    }
-}
-
-/// Weighs the events of a window at a cut. The set becomes that of the outcomes there, where these are at most `cap`.
-fn close(
+/// Weighs the events of a window at a cut, from the outcomes at its beginning. The set becomes that of the outcomes at the cut,
+/// if these are at most `cap`, and the window is cleared.
+pub fn close(
     criterion: Criterion,
     alloc: Global,
     kept: &mut Open,

@@ -1,18 +1,5 @@
 -- A step that is new is told once it is added, so that fewer candidates are left untold; and steps that follow can be put together.
-use Rattle.std.proofs.Common.{◌≡◌, ◌==◌, ◌&&◌, ◌+◌, ◌<◌, ◌≤◌, ◌⊎◌, ℕ, zero, suc, Bool, true, false, not, cond, List, [], ◌∷◌, ◌++◌, length, Option, Some, None, IsTrue, refl, sym, ap, ◌∙◌, inl, inr, arith}
-use Rattle.std.specs.Prelude.{slice_get, take, find}
-use Rattle.std.specs.List.{list_any}
-use Rattle.std.proofs.lemmas.Bool.{and_parts, and_from, or_left, or_right, cases_Bool, eq-eqb, not-true, not_from_true}
-use Rattle.std.proofs.lemmas.List.{take-append-le}
-use Rattle.std.proofs.lemmas.List.Folds.{list_any-append}
-use Rattle.tmw_defs.specs.declared.criterion.Criterion.{Criterion}
-use Rattle.tmw_defs.specs.History.{Txn}
-use Rattle.tmw_defs.specs.Opaque.{State}
-use Rattle.tmw_part.specs.declared.step.Source.{Source}
-use Rattle.tmw_part.specs.declared.step.Step.{Step}
-use Rattle.tmw_part.specs.declared.step.Step.TheVariants.{RealTime, From, ReadFirst, ChangedFirst, Through}
-use Rattle.tmw_part.specs.Candidates.{is_new, tells}
-use Rattle.tmw_part.specs.Steps.{is_some_of, is_same_writer, is_same_source, has_writer, orders, gives, ends_before, is_known_rival, follows, Derives}
+use Rattle.tmw_part.proofs.Shared.{Bool, ChangedFirst, Criterion, Derives, From, IsTrue, List, None, Option, ReadFirst, RealTime, Some, Source, State, Step, Through, Txn, [], and_from, and_parts, ap, arith, cases_Bool, cond, ends_before, eq-eqb, false, find, follows, gives, has_writer, inl, inr, is_known_rival, is_new, is_same_source, is_same_writer, is_some_of, length, list_any, list_any-append, not, not-true, not_from_true, or_left, or_right, orders, refl, slice_get, suc, sym, take, take-append-le, tells, true, zero, ℕ, ◌&&◌, ◌++◌, ◌+◌, ◌<◌, ◌==◌, ◌∙◌, ◌∷◌, ◌≡◌, ◌≤◌, ◌⊎◌}
 use Rattle.tmw_part.proofs.Covering.{covers-more, tells-mono}
 
 -- the last step passes the test

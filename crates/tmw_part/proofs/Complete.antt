@@ -1,27 +1,5 @@
 -- Where no candidate is new and no contradiction that is tried is met, no reason tells only the candidates.
-use Rattle.std.proofs.Common.{◌≡◌, ◌==◌, ◌&&◌, ◌+◌, ◌<◌, ◌≤◌, ℕ, zero, suc, Bool, true, false, not, List, [], ◌∷◌, ◌++◌, length, map, Option, Some, None, IsTrue, refl, sym, ap, ◌∙◌, inl, inr, subst, arith}
-use Rattle.std.specs.Prelude.{slice_get, take, find, remove}
-use Rattle.std.specs.List.{Contains, filter, flat_map, list_any, range_with_len, AllByRecursion}
-use Rattle.std.proofs.lemmas.Bool.{and_parts, and_from, or_cases, cases_Bool, cases_lt, eqb-true, not_from_false, ltb-true}
-use Rattle.std.proofs.lemmas.List.{take_all}
-use Rattle.std.proofs.lemmas.List.Folds.{list_any-append}
-use Rattle.tmw_events.specs.declared.ix.Ix.{Ix}
-use Rattle.tmw_events.proofs.Same.{same_ix}
-use Rattle.tmw_defs.specs.declared.criterion.Criterion.{Criterion}
-use Rattle.tmw_defs.specs.History.{Txn, is_ended, status_of}
-use Rattle.tmw_defs.specs.Opaque.{State, precedes, may_hold}
-use Rattle.tmw_cuts.specs.Written.{writes}
-use Rattle.tmw_part.specs.declared.step.Source.{Source}
-use Rattle.tmw_part.specs.declared.step.Step.{Step}
-use Rattle.tmw_part.specs.declared.step.Step.TheVariants.{RealTime, From, ReadFirst, ChangedFirst, Through}
-use Rattle.tmw_part.specs.declared.step.Contradiction.{Contradiction}
-use Rattle.tmw_part.specs.declared.step.Contradiction.TheVariants.{Cycle, NoSource, Unlike}
-use Rattle.tmw_part.specs.Test.{nothing}
-use Rattle.tmw_part.specs.Steps.{txn_at, ops_at, needed_of, is_pair, is_some_of, is_same_source, orders, gives, supplies, is_before, has_place, may_come_from, is_held, is_asked, is_rival, is_known_rival, has_writer, follows, contradicts, Derives}
-use Rattle.tmw_part.specs.Unlike.{first_unlike}
-use Rattle.tmw_part.specs.Candidates.{real_times, firsts_with, firsts, throughs_between, throughs, told_candidates, silent_candidates, IsWithin, MayBe, sources_like, sources_of, sources_at, sources, is_new, unlike_of, unlikes_at, without_source, ends, tells}
-use Rattle.tmw_part.specs.Found.{TellAmong, TellNoReason, TriesSilent, is_told}
-use Rattle.tmw_part.specs.Reasons.{IsReason, TriesEnds}
+use Rattle.tmw_part.proofs.Shared.{AllByRecursion, Bool, ChangedFirst, Contains, Contradiction, Criterion, Cycle, Derives, From, IsReason, IsTrue, IsWithin, Ix, List, MayBe, NoSource, None, Option, ReadFirst, RealTime, Some, Source, State, Step, TellAmong, TellNoReason, Through, TriesEnds, TriesSilent, Txn, Unlike, [], and_from, and_parts, ap, arith, cases_Bool, cases_lt, contradicts, ends, eqb-true, false, filter, find, first_unlike, firsts, firsts_with, flat_map, follows, gives, has_place, has_writer, inl, inr, is_asked, is_before, is_ended, is_held, is_known_rival, is_new, is_pair, is_rival, is_same_source, is_some_of, is_told, length, list_any, list_any-append, ltb-true, map, may_come_from, may_hold, needed_of, not, not_from_false, nothing, ops_at, or_cases, orders, precedes, range_with_len, real_times, refl, remove, same_ix, silent_candidates, slice_get, sources, sources_at, sources_like, sources_of, status_of, subst, suc, supplies, sym, take, take_all, tells, throughs, throughs_between, told_candidates, true, txn_at, unlike_of, unlikes_at, without_source, writes, zero, ℕ, ◌&&◌, ◌++◌, ◌+◌, ◌<◌, ◌==◌, ◌∙◌, ◌∷◌, ◌≡◌, ◌≤◌}
 use Rattle.tmw_part.proofs.Covering.{Covers, any-mono, follows-mono, contradicts-mono}
 use Rattle.tmw_part.proofs.ListFacts.{In, in-left, in-right, in-map, in-flat_map, in-range, in_from_contains, contains_from_in, contains-get, get-contained, in-else, in-filter, all-in, all-map, all-append, all-flat_map, none_passes, find_any, none_all, all-more, get_some}
 use Rattle.tmw_part.proofs.StepsProof.{some_of, same_writer}

@@ -1,19 +1,5 @@
 -- Steps that tell what others do: what follows from the others follows from them.
-use Rattle.std.proofs.Common.{◌==◌, ◌&&◌, ◌||◌, ℕ, Bool, not, List, [], ◌∷◌, ◌++◌, length, Option, Some, None, IsTrue, refl, inl, inr}
-use Rattle.std.specs.List.{list_all, list_any, range_with_len}
-use Rattle.std.proofs.lemmas.Bool.{and_parts, and_from, or_cases, or_left, or_right}
-use Rattle.std.proofs.lemmas.List.Folds.{list_any-append}
-use Rattle.tmw_defs.specs.declared.criterion.Criterion.{Criterion}
-use Rattle.tmw_defs.specs.declared.criterion.Criterion.TheVariants.{Opacity, Strict}
-use Rattle.tmw_defs.specs.History.{Txn, status_of}
-use Rattle.tmw_defs.specs.Opaque.{State}
-use Rattle.tmw_part.specs.declared.step.Source.{Source}
-use Rattle.tmw_part.specs.declared.step.Step.{Step}
-use Rattle.tmw_part.specs.declared.step.Step.TheVariants.{RealTime, From, ReadFirst, ChangedFirst, Through}
-use Rattle.tmw_part.specs.declared.step.Contradiction.{Contradiction}
-use Rattle.tmw_part.specs.declared.step.Contradiction.TheVariants.{Cycle, NoSource, Unlike}
-use Rattle.tmw_part.specs.Candidates.{tells}
-use Rattle.tmw_part.specs.Steps.{txn_at, is_some_of, is_same_writer, orders, gives, supplies, is_before, begins_before, ends_before, is_committed, is_held, has_place, has_writer, may_come_from, is_rival, stands_between, is_excluded, from_else, comes_not_else, is_only, is_asked, is_known_rival, follows, contradicts}
+use Rattle.tmw_part.proofs.Shared.{Bool, ChangedFirst, Contradiction, Criterion, Cycle, From, IsTrue, List, NoSource, None, Opacity, Option, ReadFirst, RealTime, Some, Source, State, Step, Strict, Through, Txn, Unlike, [], and_from, and_parts, begins_before, comes_not_else, contradicts, ends_before, follows, from_else, gives, has_place, has_writer, inl, inr, is_asked, is_before, is_committed, is_excluded, is_held, is_known_rival, is_only, is_rival, is_same_writer, is_some_of, length, list_all, list_any, list_any-append, may_come_from, not, or_cases, or_left, or_right, orders, range_with_len, refl, stands_between, status_of, supplies, tells, txn_at, ℕ, ◌&&◌, ◌++◌, ◌==◌, ◌||◌, ◌∷◌}
 
 -- a disjunction and a conjunction of what is so when others are
 or-mono : (a b c d : Bool) → (IsTrue a → IsTrue c) → (IsTrue b → IsTrue d) → IsTrue (a || b) → IsTrue (c || d)

@@ -1,12 +1,5 @@
 -- The transactions of a history begin apart, so that a reason tells of it.
-use Rattle.std.proofs.Common.{◌==◌, ◌+◌, ◌<◌, ℕ, Bool, true, not, List, [], ◌∷◌, IsTrue, refl, inl, inr, arith}
-use Rattle.std.specs.Prelude.{nat_lt}
-use Rattle.std.specs.List.{list_all}
-use Rattle.std.proofs.lemmas.Bool.{and_parts, and_from, cases_Bool, ltb-true, lt-ltb, ne_eqb}
-use Rattle.tmw_events.specs.declared.event.Event.{Event}
-use Rattle.tmw_defs.specs.History.{Txn, add_event, transactions, transactions_from}
-use Rattle.tmw_defs.proofs.OneMore.{joins, begun, add_event_here, add_event_past}
-use Rattle.tmw_part.specs.Reasons.{begin_apart, ReasonTells}
+use Rattle.tmw_part.proofs.Shared.{Bool, Event, IsTrue, List, ReasonTells, Txn, [], add_event, add_event_here, add_event_past, and_from, and_parts, arith, begin_apart, begun, cases_Bool, inl, inr, joins, list_all, lt-ltb, ltb-true, nat_lt, ne_eqb, not, refl, transactions, transactions_from, true, ℕ, ◌+◌, ◌<◌, ◌==◌, ◌∷◌}
 use Rattle.tmw_part.proofs.Covering.{all-mono}
 use Rattle.tmw_part.proofs.StepsProof.{reason_law}
 

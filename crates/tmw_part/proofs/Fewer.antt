@@ -1,11 +1,7 @@
 -- What is kept of a window: all of it at first, and less without a piece.
-use Rattle.std.proofs.Common.{◌≡◌, ◌⊎◌, ◌+◌, ◌<◌, ℕ, suc, Bool, true, false, List, [], ◌∷◌, length, refl, sym, ap, ◌∙◌, inl, inr, arith}
+use Rattle.tmw_part.proofs.Shared.{Bool, Event, List, Piece, [], all_kept, ap, arith, cases_Bool, false, inl, inr, is_of, kept_of, length, refl, suc, sym, true, without, without_from, ℕ, ◌+◌, ◌<◌, ◌∙◌, ◌∷◌, ◌≡◌, ◌⊎◌}
 use Rattle.std.specs.Cmp.Lexicographic.{pointwise}
 use Rattle.std.proofs.Math.Bool.{beq}
-use Rattle.std.proofs.lemmas.Bool.{cases_Bool}
-use Rattle.tmw_events.specs.declared.event.Event.{Event}
-use Rattle.tmw_part.specs.declared.piece.Piece.{Piece}
-use Rattle.tmw_part.specs.Kept.{all_kept, kept_of, is_of, without, without_from}
 
 pub length-without : (piece : Piece) (place : ℕ) (marks : List Bool) (events : List Event) → length marks ≡ length events
     → length (without_from piece place marks events) ≡ length events

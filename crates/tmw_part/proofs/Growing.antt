@@ -1,32 +1,8 @@
 -- With more events a history has as many transactions as before or more, and does not become well-formed.
-use Rattle.std.proofs.Common.{◌≡◌, ◌&&◌, ◌⊎◌, ◌+◌, ◌<◌, ◌≤◌, ◌++◌, ℕ, Bool, true, false, not, List, [], ◌∷◌, length, take, drop, get_or, refl, sym, ap, subst, ◌∙◌, inl, inr, arith}
-use Rattle.std.specs.List.{list_all}
-use Rattle.std.proofs.lemmas.Bool.{and_parts, and_from, cases_Bool}
-use Rattle.std.proofs.lemmas.List.{take-append-drop, take_more}
-use Rattle.tmw_events.specs.declared.event.Event.{Event}
+use Rattle.tmw_part.proofs.Shared.{AreUnfit, Bool, Event, List, Txn, [], add_event, add_event_here, add_event_past, and_from, and_parts, answers, ap, arith, cases_Bool, drop, false, get_or, inl, inr, is_call, is_text, is_well_formed, joins, length, length-add_event, list_all, not, refl, subst, sym, take, take-append-drop, take_more, transactions, transactions_from, true, ℕ, ◌&&◌, ◌++◌, ◌+◌, ◌<◌, ◌∙◌, ◌∷◌, ◌≡◌, ◌≤◌}
 use Rattle.tmw_events.specs.declared.event.Kind.{Kind}
-use Rattle.tmw_defs.specs.History.{Txn, is_call, answers, ends, is_text, is_well_formed, add_event, transactions, transactions_from}
-use Rattle.tmw_part.specs.Taking.{AreUnfit}
-use Rattle.tmw_defs.proofs.OneMore.{joins, add_event_here, add_event_past, transactions-push}
+use Rattle.tmw_defs.specs.History.{ends}
 use Rattle.tmw_defs.proofs.Places.{transactions_from-append}
-
-length-add_event : (place : ℕ) (e : Event) (ts : List Txn)
-    → (length (add_event place e ts) ≡ length ts) ⊎ (length (add_event place e ts) ≡ length ts + 1)
-length-add_event place e [] = inr (omega arith)
-length-add_event place e (t ∷ ts) =
-    elim (cases_Bool (joins e t)) [
-      | inl taken ↦ inl (rw (add_event_here place e t ts taken) refl)
-      | inr past ↦ rw (add_event_past place e t ts past) (
-          elim (length-add_event place e ts) [
-            | inl same ↦ inl (omega (arith, same))
-            | inr more ↦ inr (omega (arith, more))
-          ])
-    ]
-
--- a history has one transaction more with the event, or as many as before
-pub length-push : (h : List Event) (e : Event)
-    → (length (transactions (h ++ e ∷ [])) ≡ length (transactions h)) ⊎ (length (transactions (h ++ e ∷ [])) ≡ length (transactions h) + 1)
-length-push h e = rw (transactions-push h e) (length-add_event (length h) e (transactions h))
 
 length-more : (place : ℕ) (ts : List Txn) (es : List Event) → length ts ≤ length (transactions_from place ts es)
 length-more place ts [] = omega arith

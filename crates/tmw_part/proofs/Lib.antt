@@ -10,6 +10,7 @@ mod Marking
 mod OrderFacts
 mod OrderValues
 mod Parts
+mod Shared
 mod StepsProof
 mod TestProof
 mod Violation

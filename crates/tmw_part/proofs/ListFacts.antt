@@ -1,8 +1,5 @@
 -- Members and places of lists.
-use Rattle.std.proofs.Common.{◌≡◌, ◌+◌, ◌<◌, ◌⊎◌, ℕ, zero, suc, Bool, true, false, List, [], ◌∷◌, ◌++◌, length, map, Some, None, IsTrue, refl, sym, ap, ◌∙◌, inl, inr, subst, arith}
-use Rattle.std.specs.Prelude.{slice_get, take, find, remove}
-use Rattle.std.specs.List.{Contains, filter, flat_map, list_all, list_any, range_with_len, AllByRecursion}
-use Rattle.std.proofs.lemmas.Bool.{and_parts, or_cases, cases_Bool}
+use Rattle.tmw_part.proofs.Shared.{AllByRecursion, Bool, Contains, IsTrue, List, None, Some, [], and_parts, ap, arith, cases_Bool, false, filter, find, flat_map, inl, inr, length, list_all, list_any, map, or_cases, range_with_len, refl, remove, slice_get, subst, suc, sym, take, true, zero, ℕ, ◌++◌, ◌+◌, ◌<◌, ◌∙◌, ◌∷◌, ◌≡◌, ◌⊎◌}
 
 -- one that passes the test, of those of which each has P
 pub record Found {A : Type 0} (P : A → Type 0) (test : A → Bool) : Type 0 where
@@ -141,19 +138,6 @@ in-else (z ∷ zs) (suc j) y x is at differ =
       | inl here ↦ inl here
       | inr there ↦ inr (in-else zs j y x there at differ)
     ]
-
-in-removed : {A : Type 0} (xs : List A) (j : ℕ) (x : A) → In x (remove xs j) → In x xs
-in-removed [] zero x is = is
-in-removed [] (suc j) x is = is
-in-removed (z ∷ zs) zero x is = inr is
-in-removed (z ∷ zs) (suc j) x is =
-    elim is [
-      | inl here ↦ inl here
-      | inr there ↦ inr (in-removed zs j x there)
-    ]
-
-pub contains-removed : {A : Type 0} (xs : List A) (j : ℕ) (x : A) → Contains (remove xs j) x → Contains xs x
-contains-removed xs j x is = contains_from_in xs x (in-removed xs j x (in_from_contains (remove xs j) x is))
 
 in-found : {A : Type 0} (p : A → Bool) (xs : List A) (x : A) → find p xs ≡ Some x → In x xs
 in-found p [] x found = absurd (cc)

@@ -1,11 +1,5 @@
 -- The marks of what is kept, as the code reads them.
-use Rattle.std.proofs.Common.{◌≡◌, ◌+◌, ◌-◌, ℕ, zero, suc, Bool, List, [], ◌∷◌, length, map, Some, refl, inl, inr, arith}
-use Rattle.std.specs.Prelude.{position, slice_get}
-use Rattle.std.specs.List.{position_or_len}
-use Rattle.std.proofs.lemmas.Bool.{cases_Bool}
-use Rattle.std.proofs.lemmas.List.{length-map}
-use Rattle.tmw_part.specs.declared.piece.Piece.{Piece}
-use Rattle.tmw_part.specs.Kept.{keeps_last, without_from}
+use Rattle.tmw_part.proofs.Shared.{Bool, List, Piece, Some, [], arith, cases_Bool, inl, inr, keeps_last, length, length-map, map, position, position_or_len, refl, slice_get, suc, without_from, zero, ℕ, ◌+◌, ◌-◌, ◌∷◌, ◌≡◌}
 
 keeps_last-at : (marks : List Bool) (i : ℕ) (mark : Bool) → i + 1 ≡ length marks → slice_get marks i ≡ Some mark → mark ≡ keeps_last marks
 keeps_last-at [] i mark last got = absurd (omega (arith, last))

@@ -1,18 +1,8 @@
 -- What holds of the transactions that a serial order places.
-use Rattle.std.proofs.Common.{◌≡◌, ◌==◌, ◌<◌, ◌⊎◌, ℕ, zero, suc, Bool, false, not, List, [], ◌∷◌, Some, IsTrue, refl, sym, ap, ◌∙◌, inl, inr, arith}
-use Rattle.std.specs.Prelude.{remove, slice_get}
-use Rattle.std.specs.List.{list_all}
-use Rattle.std.proofs.lemmas.Bool.{and_parts, and_from, cases_Bool, not-true, eq-eqb, eqb-true}
-use Rattle.tmw_defs.specs.declared.criterion.Criterion.{Criterion}
-use Rattle.tmw_defs.specs.declared.criterion.Criterion.TheVariants.{Opacity, Strict}
-use Rattle.tmw_defs.specs.declared.status.Status.TheVariants.{Committed}
-use Rattle.tmw_defs.specs.Criteria.{ExplainsBy}
-use Rattle.tmw_defs.specs.History.{Txn, status_of}
-use Rattle.tmw_defs.specs.Opaque.{State, Placed, precedes, may_hold, may_be, PlacesEach, keeps_order, is_legal}
+use Rattle.tmw_part.proofs.Shared.{Bool, Committed, Criterion, ExplainsBy, IsTrue, List, Opacity, Placed, PlacesEach, Some, State, Strict, Txn, [], and_from, and_parts, ap, arith, begin_apart, cases_Bool, eq-eqb, eqb-true, false, inl, inr, is_legal, keeps_order, list_all, may_be, may_hold, not, not-true, precedes, refl, remove, slice_get, status_of, suc, sym, zero, ℕ, ◌<◌, ◌==◌, ◌∙◌, ◌∷◌, ◌≡◌, ◌⊎◌}
 use Rattle.tmw_defs.specs.Strict.{AreHeld}
 use Rattle.tmw_defs.proofs.Held.{list_all-held}
 use Rattle.tmw_defs.proofs.Removals.{list_all-remove}
-use Rattle.tmw_part.specs.Reasons.{begin_apart}
 
 -- what holds of each holds of the one at a place
 pub all_at : {A : Type 0} (p : A → Bool) (xs : List A) (i : ℕ) (x : A) → IsTrue (list_all p xs) → slice_get xs i ≡ Some x → IsTrue (p x)

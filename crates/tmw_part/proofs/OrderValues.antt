@@ -1,18 +1,5 @@
 -- What the registers hold along a serial order: what the last that is held and changes them left, or what the start has.
-use Rattle.std.proofs.Common.{◌≡◌, ◌==◌, ◌+◌, ◌%◌, ◌^◌, ◌<◌, ◌⊎◌, ℕ, zero, suc, false, List, [], ◌∷◌, length, Option, Some, None, IsTrue, refl, sym, ap, ◌∙◌, inl, inr, arith}
-use Rattle.std.specs.Prelude.{slice_get, slice_index, slice_set, take, if◌then◌else◌}
-use Rattle.std.proofs.lemmas.Bool.{and_parts, or_parts, cases_Bool, eqb-true, eqb-false, eq-eqb}
-use Rattle.std.proofs.lemmas.List.{get_or-set_same, get_or-set_other, length-set}
-use Rattle.tmw_events.specs.declared.ix.Ix.{Ix}
-use Rattle.tmw_defs.specs.declared.op.Op.{Op}
-use Rattle.tmw_defs.specs.declared.op.Op.TheVariants.{Read, Write, Add}
-use Rattle.tmw_defs.specs.History.{operations}
-use Rattle.tmw_defs.specs.Opaque.{State, Placed, reads_hold, after_writes, after, is_legal}
-use Rattle.tmw_defs.specs.Outcomes.{end_state}
-use Rattle.tmw_cuts.specs.Written.{writes, left_by}
-use Rattle.tmw_part.specs.Steps.{needed_of, is_some_of}
-use Rattle.tmw_part.specs.Unlike.{first_unlike, unlike_or}
-use Rattle.tmw_part.specs.Reasons.{Changes, IsUnchanged}
+use Rattle.tmw_part.proofs.Shared.{Add, Changes, IsTrue, IsUnchanged, Ix, List, None, Op, Option, Placed, Read, Some, State, Write, [], after, after_writes, and_parts, ap, arith, cases_Bool, end_state, eq-eqb, eqb-false, eqb-true, false, first_unlike, get_or-set_other, get_or-set_same, if◌then◌else◌, inl, inr, is_legal, is_some_of, left_by, length, length-set, needed_of, operations, or_parts, reads_hold, refl, slice_get, slice_index, slice_set, suc, sym, take, unlike_or, writes, zero, ℕ, ◌%◌, ◌+◌, ◌<◌, ◌==◌, ◌^◌, ◌∙◌, ◌∷◌, ◌≡◌, ◌⊎◌}
 
 -- a register that is set, and another
 set_here : (s : State) (q : Ix) (r v : ℕ) → length s ≡ 8 → IsTrue (q.number == r) → slice_index (slice_set s q.number v) r ≡ v
@@ -121,10 +108,6 @@ needed_holds s r v (Add q d w ∷ ops) reads needs =
 abbrev pub Fits : State → ℕ → Option ℕ → Type 0
 Fits s r None = Unit {0}
 Fits s r (Some v) = slice_index s r ≡ v
-
--- the state after one operation
-abbrev after_op : State → Op → State
-after_op s op = after_writes s (op ∷ [])
 
 fits-set : (s : State) (q : Ix) (r v : ℕ) (known : Option ℕ) → length s ≡ 8 → Fits s r known
     → Fits (slice_set s q.number v) r (if q.number == r then Some v else known)

@@ -1,10 +1,6 @@
 -- The whole of a window is a part of it, and no part has more transactions than the whole.
-use Rattle.std.proofs.Common.{◌≡◌, ◌<◌, ◌≤◌, ℕ, zero, suc, Bool, List, [], ◌∷◌, length, Some, refl, ap, inl, inr, arith}
-use Rattle.std.specs.Prelude.{remove, slice_get}
+use Rattle.tmw_part.proofs.Shared.{AreOpsLeft, AreStaying, Bool, Each, IsLeftOf, IsPart, List, Op, Some, Txn, [], ap, arith, inl, inr, is_unread, length, operations, refl, remove, slice_get, suc, zero, ℕ, ◌<◌, ◌∷◌, ◌≡◌, ◌≤◌}
 use Rattle.std.proofs.lemmas.List.Edits.{length-remove}
-use Rattle.tmw_defs.specs.declared.op.Op.{Op}
-use Rattle.tmw_defs.specs.History.{Txn, operations}
-use Rattle.tmw_defs.specs.Part.{is_unread, AreOpsLeft, IsLeftOf, AreStaying, Each, IsPart}
 
 each-long : {A B : Type 0} (Rel : A → B → Type 0) (xs : List A) (ys : List B) → Each Rel xs ys → length xs ≡ length ys
 each-long Rel [] [] each = refl

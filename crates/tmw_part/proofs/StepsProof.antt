@@ -1,26 +1,5 @@
 -- Steps that follow from those before them hold in each serial order, and contradict each other in none.
-use Rattle.std.proofs.Common.{◌≡◌, ◌==◌, ◌&&◌, ◌||◌, ◌+◌, ◌<◌, ◌≤◌, ℕ, zero, suc, Bool, true, false, not, List, [], ◌∷◌, length, Option, Some, None, IsTrue, refl, sym, ap, ◌∙◌, inl, inr, subst, arith}
-use Rattle.std.specs.Prelude.{slice_get, slice_index, take, All}
-use Rattle.std.specs.List.{Contains, list_all, list_any, range_with_len, AllByRecursion}
-use Rattle.std.proofs.lemmas.List.Folds.{list_any_at}
-use Rattle.std.proofs.lemmas.List.Elements.{All-contains, All-from_recursion}
-use Rattle.std.proofs.lemmas.List.{take_all}
-use Rattle.std.proofs.lemmas.Bool.{and_parts, and_from, or_cases, cases_Bool, cases_order, eqb-true, eq-eqb, ltb-true, not-true}
-use Rattle.tmw_defs.specs.declared.criterion.Criterion.{Criterion}
-use Rattle.tmw_defs.specs.declared.criterion.Criterion.TheVariants.{Opacity, Strict}
-use Rattle.tmw_defs.specs.declared.status.Status.{Status}
-use Rattle.tmw_defs.specs.declared.status.Status.TheVariants.{Live, Pending, Committed, Aborted}
-use Rattle.tmw_defs.specs.Criteria.{ExplainsBy}
-use Rattle.tmw_defs.specs.History.{Txn, status_of, operations}
-use Rattle.tmw_defs.specs.Opaque.{State, Placed, may_hold}
-use Rattle.tmw_cuts.specs.Written.{writes, left_by}
-use Rattle.tmw_part.specs.declared.step.Source.{Source}
-use Rattle.tmw_part.specs.declared.step.Step.{Step}
-use Rattle.tmw_part.specs.declared.step.Step.TheVariants.{RealTime, From, ReadFirst, ChangedFirst, Through}
-use Rattle.tmw_part.specs.declared.step.Contradiction.{Contradiction}
-use Rattle.tmw_part.specs.declared.step.Contradiction.TheVariants.{Cycle, NoSource, Unlike}
-use Rattle.tmw_part.specs.Steps.{txn_at, ops_at, needed_of, is_some_of, is_same_writer, orders, gives, supplies, is_before, begins_before, ends_before, is_committed, is_held, has_place, may_come_from, is_rival, is_excluded, from_else, comes_not_else, is_asked, is_known_rival, is_pair, has_writer, follows, contradicts, Derives}
-use Rattle.tmw_part.specs.Reasons.{StandsAt, StandsBefore, Changes, ComesFrom, StandsBeforeWriter, HoldsIn, begin_apart, ReasonLaw}
+use Rattle.tmw_part.proofs.Shared.{Aborted, All, All-contains, All-from_recursion, AllByRecursion, Bool, ChangedFirst, Changes, ComesFrom, Committed, Contains, Contradiction, Criterion, Cycle, Derives, ExplainsBy, From, HoldsIn, IsTrue, List, Live, NoSource, None, Opacity, Option, Pending, Placed, ReadFirst, RealTime, ReasonLaw, Some, Source, StandsAt, StandsBefore, StandsBeforeWriter, State, Status, Step, Strict, Through, Txn, Unlike, [], and_from, and_parts, ap, arith, begin_apart, begins_before, cases_Bool, cases_order, comes_not_else, contradicts, ends_before, eq-eqb, eqb-true, false, follows, from_else, gives, has_place, has_writer, inl, inr, is_asked, is_before, is_committed, is_excluded, is_held, is_known_rival, is_pair, is_rival, is_same_writer, is_some_of, left_by, length, list_all, list_any, list_any_at, ltb-true, may_come_from, may_hold, needed_of, not, not-true, operations, ops_at, or_cases, orders, range_with_len, refl, slice_get, slice_index, status_of, subst, suc, supplies, sym, take, take_all, true, txn_at, writes, zero, ℕ, ◌&&◌, ◌+◌, ◌<◌, ◌==◌, ◌||◌, ◌∙◌, ◌∷◌, ◌≡◌, ◌≤◌}
 use Rattle.tmw_part.proofs.ListFacts.{find_any, find_place, each_place, none_all, all-more, get_some}
 use Rattle.tmw_part.proofs.OrderFacts.{IsIn, IsSerial, apart, serial}
 use Rattle.tmw_part.proofs.OrderValues.{state_at, reads_at, length-state_at, value_at, needed_holds, reads_alike}

@@ -1,16 +1,5 @@
 -- The test of a part is right.
-use Rattle.std.proofs.Common.{◌≡◌, ◌==◌, ◌+◌, ◌<◌, ℕ, zero, suc, Bool, true, false, List, [], ◌∷◌, length, map, Some, IsTrue, refl, sym, ap, ◌∙◌, inl, inr, arith}
-use Rattle.std.specs.Prelude.{remove, slice_get, slice_index_or}
-use Rattle.std.proofs.lemmas.Bool.{and_parts, cases_Bool, eqb-true}
-use Rattle.tmw_events.proofs.Same.{same_ix}
-use Rattle.tmw_defs.specs.declared.op.Op.{Op}
-use Rattle.tmw_defs.specs.declared.op.Op.TheVariants.{Read, Write, Add}
-use Rattle.tmw_defs.specs.declared.status.Status.{Status}
-use Rattle.tmw_defs.specs.declared.status.Status.TheVariants.{Live, Pending, Committed, Aborted}
-use Rattle.tmw_defs.specs.History.{Txn, status_of, operations}
-use Rattle.tmw_defs.specs.Opaque.{precedes}
-use Rattle.tmw_defs.specs.Part.{is_unread, may_go, may_go_whole, AreOpsLeft, IsLeftOf, AreStaying, Each, IsPart}
-use Rattle.tmw_part.specs.Test.{is_same_op, are_ops_left, is_same_status, agree, is_left_of, are_left_of, is_same, is_same_row, are_same_rows, is_among, without_number, are_placed, nothing, staying_of, is_part_at}
+use Rattle.tmw_part.proofs.Shared.{Aborted, Add, AreOpsLeft, AreStaying, Bool, Committed, Each, IsLeftOf, IsPart, IsTrue, List, Live, Op, Pending, Read, Some, Status, Txn, Write, [], agree, and_parts, ap, are_left_of, are_ops_left, are_placed, are_same_rows, arith, cases_Bool, eqb-true, false, inl, inr, is_among, is_left_of, is_part_at, is_same, is_same_op, is_same_row, is_same_status, is_unread, length, map, may_go, may_go_whole, nothing, operations, precedes, refl, remove, same_ix, slice_get, slice_index_or, status_of, staying_of, suc, sym, true, without_number, zero, ℕ, ◌+◌, ◌<◌, ◌==◌, ◌∙◌, ◌∷◌, ◌≡◌}
 
 same_op : (x y : Op) → is_same_op x y ≡ true → x ≡ y
 same_op (Read q w) (Read r v) same =

@@ -1,25 +1,12 @@
 -- What a search for an end state tells of events that were taken into its window.
-use Rattle.std.proofs.Common.{◌≡◌, ◌≤◌, Bool, true, false, not, ℕ, List, length, IsTrue, Result, Ok, Err, IfOk, refl, inl, inr, arith}
-use Rattle.std.specs.Prelude.{IsFalse}
-use Rattle.std.proofs.lemmas.Bool.{and_parts}
-use Rattle.tmw_events.specs.declared.event.Event.{Event}
-use Rattle.tmw_defs.specs.declared.criterion.Criterion.{Criterion}
-use Rattle.tmw_defs.specs.Outcomes.{end_state}
+use Rattle.tmw_part.proofs.Shared.{AreTaken, AreUnfit, Bool, Criterion, Err, Event, Fails, IfOk, IsFalse, IsPart, IsTrue, IsViolated, IsViolatedPart, List, Ok, Result, State, TellsViolated, all_kept, and_parts, are_whole, arith, calls_from, end_state, false, inl, inr, keeps_last, keeps_part, kept_of, length, may_miss_all, members, not, owners, refl, transactions, true, ℕ, ◌≡◌, ◌≤◌}
 use Rattle.tmw_wellformed.specs.declared.tracker.Tracker.{Tracker}
 use Rattle.tmw_cuts.specs.declared.states.States.{States}
 use Rattle.tmw_cuts.specs.declared.window.Window.{Window}
-use Rattle.tmw_cuts.specs.Members.{members}
 use Rattle.tmw_search.specs.Ended.{TellsEnd}
-use Rattle.tmw_part.specs.Finding.{TellsViolated, IsViolated, IsViolatedPart, Fails}
-use Rattle.tmw_defs.specs.Part.{IsPart}
-use Rattle.tmw_part.specs.Kept.{all_kept, are_whole, kept_of, keeps_last, keeps_part, may_miss_all, owners}
-use Rattle.tmw_part.specs.Pieces.{calls_from}
 use Rattle.tmw_part.proofs.Fewer.{kept-all, length-all}
 use Rattle.tmw_part.proofs.Parts.{part-fewer, part-whole}
 use Rattle.tmw_part.proofs.TestProof.{part-test}
-use Rattle.tmw_defs.specs.History.{transactions}
-use Rattle.tmw_defs.specs.Opaque.{State}
-use Rattle.tmw_part.specs.Taking.{AreTaken, AreUnfit}
 
 pub tells-searched : (criterion : Criterion) (registers : ℕ) (states : States) (events : List Event) (tracker : Tracker) (window : Window) (found : Bool)
     → AreTaken registers events tracker window → TellsEnd criterion states window found
@@ -38,11 +25,6 @@ tells-searched criterion registers states events tracker window false taken tell
       let bad = (tells events taken.stands).1 (end_state s order, (s, has, (order, explains, refl))) in
       absurd (cc);
 }
-
-pub tells-unfit : (criterion : Criterion) (registers : ℕ) (states : States) (events : List Event) → AreUnfit registers events
-    → TellsViolated criterion registers (members states) events false
-tells-unfit criterion registers states events (inl ill_formed) = inl ill_formed
-tells-unfit criterion registers states events (inr many) = inr (inl many)
 
 -- what passes the test of a part is one
 part-kept : (marks : List Bool) (window : List Event) → IsTrue (keeps_part marks window)

@@ -1,13 +1,6 @@
 -- Those that come before one of a mask's, gathered place by place.
-use Rattle.std.proofs.Common.{◌≡◌, ◌-◌, ◌*◌, ◌%◌, ◌^◌, ◌<◌, ℕ, List, bit_or, bit_and, w8, sym, ap, subst, ◌∙◌, inl, inr, arith}
-use Rattle.std.specs.Int.{bit_at, bit_not}
-use Rattle.std.specs.Prelude.{slice_index}
-use Rattle.std.proofs.lemmas.Nat.Bits.{bit_at-zero, bit_at_clear_same, bit_at_clear_other}
-use Rattle.tmw_cuts.proofs.Bits.{shift_is}
-use Rattle.tmw_search.specs.LastWrites.{ComeBefore}
-use Rattle.tmw_search.proofs.BlindProof.{IsLess, less_of, less_has}
-use Rattle.tmw_search.proofs.Choosing.{or-left, or-right, or_either}
-use Rattle.tmw_search.proofs.LayersProof.{same_place}
+use Rattle.tmw_search.proofs.Shared.{ComeBefore, List, ap, arith, bit_and, bit_at, bit_at-zero, bit_at_clear_other, bit_at_clear_same, bit_not, bit_or, inl, inr, slice_index, sym, w8, ℕ, ◌%◌, ◌*◌, ◌-◌, ◌<◌, ◌^◌, ◌∙◌, ◌≡◌}
+use Rattle.tmw_search.proofs.Bits.{same_place, less_of, less_has, or-left, or-right, or_either}
 
 -- those that come before one that isn't left
 pub record FindsBefore (reach : List ℕ) (these left before : ℕ) : Type 0 where
@@ -30,7 +23,7 @@ pub finds-more : (reach : List ℕ) (these left before place : ℕ) → place < 
 finds-more reach these left before place within one f =
     let own = bit_and (slice_index reach place) (bit_not w8 (1 * 2 ^ place % 2 ^ 8)) in
     let rest = left - 1 * 2 ^ place % 2 ^ 8 in
-    let less : IsLess left place rest = subst (λ (n : ℕ). IsLess left place (left - n)) (sym (shift_is place within)) (less_of left place one) in
+    let less = less_of left place within one in
     record {
       only = λ i within_i is. elim (or_either before own i is) [
         | inl was ↦ f.only i within_i was

@@ -1,204 +1,197 @@
--- What is made of a pair is just what one step makes of it.
-use Rattle.std.proofs.Common.{◌≡◌, ◌&&◌, ◌+◌, ◌*◌, ◌%◌, ◌^◌, ◌<◌, ◌≤◌, ℕ, zero, suc, Bool, true, false, List, [], ◌∷◌, length, flat_map, Some, IsTrue, bit_or, refl, sym, ap, subst, ◌∙◌, inl, inr, arith}
-use Rattle.std.specs.Int.{bit_at}
-use Rattle.std.specs.List.{Contains, enumerate_from}
-use Rattle.std.specs.Prelude.{slice_get}
-use Rattle.std.proofs.lemmas.Bool.{and_parts, and_from, cases_Bool}
-use Rattle.std.proofs.lemmas.List.Elements.{Contains-append_left, Contains-append_right, Contains-append_cases}
-use Rattle.std.proofs.Math.Pow.{pow_mono}
-use Rattle.std.proofs.lemmas.Option.{slice_get_within}
-use Rattle.tmw_defs.specs.declared.criterion.Criterion.{Criterion}
-use Rattle.tmw_defs.specs.History.{Txn, operations}
-use Rattle.tmw_search.specs.Layers.{reads_asked, IsStep}
-use Rattle.tmw_defs.specs.Opaque.{State, precedes, may_hold, after, after_writes}
-use Rattle.tmw_cuts.specs.Views.{View}
-use Rattle.tmw_search.specs.Nexts.{is_next, end_at, way, ways, next_at, nexts_of, Follows}
-use Rattle.tmw_search.specs.ShownTransactions.{ShowsTransaction, ShowsTransactions}
-use Rattle.tmw_search.proofs.LayersProof.{same_place}
-use Rattle.tmw_search.proofs.FreeNext.{next_free, free-next}
-use Rattle.tmw_cuts.proofs.Bits.{mask-set}
-use Rattle.tmw_cuts.proofs.FirstMembers.{contains_here, contains_cases, contains_none}
+-- A pair is on the way to another where an order of just the transactions that it lacks leads there: each way begins with a step,
+-- and each step begins a way.
+use Rattle.tmw_search.proofs.Shared.{Bool, Follows, Leads, LeavesNone, List, NoneBeforeItself, Placed, ShowsTransaction, ShowsTransactions, Some, State, Txn, View, [], after, ap, arith, bit, bit_at, bit_at-lt, bit_at-zero, bit_at_above, bit_at_set_other, bit_at_set_same, bit_or, cases_Bool, cases_lt, chosen, false, inl, inr, length, mask-set, precedes, refl, same_from_bits, slice_get, slice_get_within, suc, sym, true, w8, zero, ℕ, ◌%◌, ◌*◌, ◌+◌, ◌<◌, ◌^◌, ◌∙◌, ◌∷◌, ◌≡◌, ◌≤◌}
+use Rattle.tmw_search.proofs.Bits.{IsLess, bit_cases, same_place}
+use Rattle.tmw_search.proofs.Chosen.{chosen-at, chosen-zero, chosen_none, length-chosen}
+use Rattle.tmw_search.proofs.LayersProof.{leads-first, BeginsWith, leads_first}
+use Rattle.tmw_search.proofs.Masks.{more_fits}
 
--- a way to place a transaction, held or left out, where a completion may do so and what is asked of its reads holds
-pub record IsWay (criterion : Criterion) (x : View) (above : ℕ) (s : State) (p : ℕ × State) : Type 0 where
-  pub by : Bool
-  pub may : IsTrue (may_hold x.status by)
-  pub reads : IsTrue (reads_asked criterion by s x.ops)
-  pub mask : p.0 ≡ above
-  pub state : p.1 ≡ end_at x s by
-
-way_is : (criterion : Criterion) (x : View) (above : ℕ) (s : State) (by : Bool) (p : ℕ × State) → Contains (way criterion x above s by) p
-    → IsWay criterion x above s p
-way_is criterion x above s by p has =
-    elim (cases_Bool (may_hold x.status by && reads_asked criterion by s x.ops)) [
-      | inl is ↦
-          let (may, reads) = and_parts (may_hold x.status by) _ is in
-          let r : ℕ × State = (above, end_at x s by) in
-          let one : Contains (r ∷ []) p = rw is at has in
-          elim (contains_cases r p [] one) [
-            | inl same ↦ record {
-              by = by;
-              may = may;
-              reads = reads;
-              mask = ap (λ (q : ℕ × State). q.0) (sym same);
-              state = ap (λ (q : ℕ × State). q.1) (sym same);
-            }
-            | inr none ↦ absurd (contains_none p none)
-          ]
-      | inr other ↦ absurd (contains_none p (rw other at has))
-    ]
-
-pub way_of : (criterion : Criterion) (x : View) (above : ℕ) (s : State) (p : ℕ × State) → Contains (ways criterion x above s) p
-    → IsWay criterion x above s p
-way_of criterion x above s p has =
-    elim (Contains-append_cases (way criterion x above s true) (way criterion x above s false) p has) [
-      | inl held ↦ way_is criterion x above s true p held
-      | inr left_out ↦ way_is criterion x above s false p left_out
-    ]
-
-is-way : (criterion : Criterion) (x : View) (above : ℕ) (s : State) (by : Bool) → IsTrue (may_hold x.status by)
-    → IsTrue (reads_asked criterion by s x.ops) → Contains (way criterion x above s by) (let r : ℕ × State = (above, end_at x s by) in r)
-is-way criterion x above s by may reads =
-    let is = and_from (may_hold x.status by) (reads_asked criterion by s x.ops) may reads in
-    let r : ℕ × State = (above, end_at x s by) in
-    rw is (contains_here r [])
-
-way-in : (criterion : Criterion) (x : View) (above : ℕ) (s : State) (by : Bool) → IsTrue (may_hold x.status by)
-    → IsTrue (reads_asked criterion by s x.ops) → Contains (ways criterion x above s) (let r : ℕ × State = (above, end_at x s by) in r)
-way-in criterion x above s true may reads =
-    Contains-append_left (way criterion x above s true) (way criterion x above s false) _ (is-way criterion x above s true may reads)
-way-in criterion x above s false may reads =
-    Contains-append_right (way criterion x above s true) (way criterion x above s false) _ (is-way criterion x above s false may reads)
-
--- what placing each of them makes, where the first is at this place
-abbrev pub nexts_at : Criterion → ℕ → List View → ℕ × State → List (ℕ × State)
-nexts_at criterion base xs p = flat_map (λ (at : ℕ × View). next_at criterion at.1 at.0 p) (enumerate_from base xs)
-
--- members of the whole come from one place
-record ComesFrom (criterion : Criterion) (base : ℕ) (xs : List View) (p q : ℕ × State) : Type 0 where
-  place : ℕ
-  shown : View
-  at : slice_get xs place ≡ Some shown
-  made : Contains (next_at criterion shown (base + place) p) q
-
-comes_from : (criterion : Criterion) (base : ℕ) (xs : List View) (p q : ℕ × State) → Contains (nexts_at criterion base xs p) q → ComesFrom criterion base xs p q
-comes_from criterion base [] p q has = absurd (contains_none q has)
-comes_from criterion base (x ∷ xs) p q has =
-    elim (Contains-append_cases (next_at criterion x base p) (nexts_at criterion (base + 1) xs p) q has) [
-      | inl here ↦
-          let same : base + 0 ≡ base = omega arith in
-          record { place = zero; shown = x; at = refl; made = rw same here }
-      | inr later ↦
-          let c = comes_from criterion (base + 1) xs p q later in
-          let same : base + suc c.place ≡ base + 1 + c.place = omega arith in
-          record { place = suc c.place; shown = c.shown; at = c.at; made = rw same c.made }
-    ]
-
-comes-from : (criterion : Criterion) (base : ℕ) (xs : List View) (p q : ℕ × State) (place : ℕ) (x : View) → slice_get xs place ≡ Some x
-    → Contains (next_at criterion x (base + place) p) q → Contains (nexts_at criterion base xs p) q
-comes-from criterion base [] p q place x at made = absurd (cc)
-comes-from criterion base (y ∷ xs) p q zero x at made =
-    let is : y ≡ x = cc in
-    let same : base + 0 ≡ base = omega arith in
-    Contains-append_left (next_at criterion y base p) (nexts_at criterion (base + 1) xs p) q (rw (is, ← same) made)
-comes-from criterion base (y ∷ xs) p q (suc place) x at made =
-    let same : base + suc place ≡ base + 1 + place = omega arith in
-    Contains-append_right (next_at criterion y base p) (nexts_at criterion (base + 1) xs p) q
-    (comes-from criterion (base + 1) xs p q place x at (rw same at made))
-
-pub follows_of : (criterion : Criterion) (xs : List View) (p q : ℕ × State) → Contains (nexts_of criterion xs p) q → Follows criterion xs p q
-follows_of criterion xs p q has =
-    let c = comes_from criterion 0 xs p q has in
-    let same : 0 + c.place ≡ c.place = omega arith in
-    let made : Contains (next_at criterion c.shown c.place p) q = rw same at c.made in
-    elim (cases_Bool (is_next c.shown c.place p.0)) [
-      | inl is ↦ record { place = c.place; shown = c.shown; at = c.at; next = is; way = rw is at made }
-      | inr other ↦ absurd (contains_none q (rw other at made))
-    ]
-
-pub follows-in : (criterion : Criterion) (xs : List View) (p q : ℕ × State) → Follows criterion xs p q → Contains (nexts_of criterion xs p) q
-follows-in criterion xs p q f =
-    let same : f.place ≡ 0 + f.place = omega arith in
-    let made : Contains (next_at criterion f.shown f.place p) q = rw f.next f.way in
-    comes-from criterion 0 xs p q f.place f.shown f.at
-    (subst (λ (k : ℕ). Contains (next_at criterion f.shown k p) q) same made)
-
--- what is made at a place, where it is made
-pub record IsMade (criterion : Criterion) (x : View) (place : ℕ) (p q : ℕ × State) : Type 0 where
-  pub next : IsTrue (is_next x place p.0)
-  pub way : IsWay criterion x (bit_or p.0 (1 * 2 ^ place % 2 ^ 8)) p.1 q
-
--- a place of the one list is one of the other
 pub slice_get_some : {A : Type 0} (xs : List A) (i : ℕ) → i < length xs → (x : A) × (slice_get xs i ≡ Some x)
 slice_get_some [] i within = absurd (omega arith)
 slice_get_some (x ∷ xs) zero within = (x, refl)
 slice_get_some (x ∷ xs) (suc i) within = slice_get_some xs i (omega arith)
 
-pub eight_bits : (n bound : ℕ) → bound ≤ 8 → n < 2 ^ bound → n < 2 ^ 8
-eight_bits n bound few fits = omega (arith, fits, pow_mono few)
+-- The mask is one of these, and leaves none that precedes one of its own.
+pub record IsFront (ts : List Txn) (mask : ℕ) : Type 0 where
+  pub fits : mask < 2 ^ length ts
+  pub closed : LeavesNone mask ts
 
-pub after-way : (r : State) (x : View) (t : Txn) (by : Bool) → x.ops ≡ operations t.text
-    → end_at x r by ≡ after r (record { txn = t; held = by })
-after-way r x t true ops = ap (after_writes r) ops
-after-way r x t false ops = refl
+-- Some order of n transactions, which are those that the mask of the one pair lacks of the other's, leads from the one to the other.
+pub record IsOnWay (ts : List Txn) (n : ℕ) (q p : ℕ × State) : Type 0 where
+  pub left : ℕ
+  pub parts : (i : ℕ) → bit_at p.0 i ≡ bit_at q.0 i + bit_at left i
+  pub size : length (chosen left ts) ≡ n
+  pub leads : Leads q.1 (chosen left ts) p.1
 
-pub step-made_at : (criterion : Criterion) (ts : List Txn) (x : View) (t : Txn) (place mask above : ℕ) (r u : State) → ShowsTransaction ts x t → slice_get ts place ≡ Some t
-    → length ts ≤ 8 → mask < 2 ^ length ts → IsMade criterion x place (mask, r) (above, u) → IsStep criterion ts mask r above u
-step-made_at criterion ts x t place mask above r u one at few fits made =
-    let free = next_free ts x t place mask few one (eight_bits mask (length ts) few fits) (eight_bits x.before (length ts) few one.fits)
-    made.next in
+shown_bit : (ts : List Txn) (x : View) (t : Txn) (i : ℕ) → ShowsTransaction ts x t → bit_at x.before i ≡ 1
+    → (u : Txn) × (slice_get ts i ≡ Some u) × (precedes u t ≡ true)
+shown_bit ts x t i one has =
+    elim (cases_lt i (length ts)) [
+      | inr past ↦ absurd (omega (arith, has, bit_at_above x.before (length ts) i one.fits past))
+      | inl within ↦
+          let (u, at) = slice_get_some ts i within in
+          (u, at, is_true (precedes u t) (sym (one.bits i u at) ∙ has))
+    ]
+  where
+    is_true : (b : Bool) → bit b ≡ 1 → b ≡ true
+    is_true true is = refl
+    is_true false is = absurd (omega (arith, is))
+
+-- each way begins with a step
+pub way_step : (xs : List View) (ts : List Txn) (n : ℕ) (q p : ℕ × State) → ShowsTransactions xs ts → NoneBeforeItself ts → length ts ≤ 8
+    → LeavesNone p.0 ts → IsOnWay ts (n + 1) q p → (r : ℕ × State) × Follows xs q r × IsOnWay ts n r p
+way_step xs ts n q p shows none_self few closed w =
+    let b = leads_first ts w.left q.1 p.1 few (omega (arith, w.size)) w.leads in
+    let f = b.first in
+    let place = b.place in
+    let t = b.placed.txn in
+    let within = slice_get_within ts place t f.at in
+    let low : place < 8 = omega (arith, within, few) in
+    let (x, shown) = slice_get_some xs place (omega (arith, within, shows.same_length)) in
+    let one = shows.each place x t shown f.at in
+    let new : bit_at q.0 place ≡ 0 = omega (arith, w.parts place, f.has, bit_at-lt p.0 place) in
+    let r : ℕ × State = (bit_or q.0 (1 * 2 ^ place % 2 ^ 8), after q.1 b.placed) in (
+      r,
+      (
+        place,
+        (
+          x,
+          shown,
+          b.placed.held,
+          record {
+            comes = record { new = new; later = λ i has. later x b one i has };
+            may = rw one.status f.may;
+            reads = rw one.ops f.reads;
+            mask = refl;
+            state = rw one.ops refl;
+          },
+        ),
+      ),
+      record {
+        left = b.rest;
+        parts = λ i. elim (same_place i place) [
+          | inl same ↦ rw same (omega (arith, w.parts place, f.has, new, bit_at_set_same w8 q.0 place low, f.less.new))
+          | inr apart ↦ omega (arith, w.parts i, bit_at_set_other w8 q.0 place low i apart, f.less.other i apart)
+        ];
+        size = omega (arith, b.fewer, w.size);
+        leads = b.leads;
+      },
+    )
+  where
+    later : (x : View) (b : BeginsWith ts w.left q.1 p.1) → ShowsTransaction ts x b.placed.txn → (i : ℕ) → bit_at x.before i ≡ 1 → bit_at q.0 i ≡ 1
+    later x b one i has =
+        let f = b.first in
+        let t = b.placed.txn in
+        let (u, at, before) = shown_bit ts x t i one has in
+        elim (bit_cases q.0 i) [
+          | inr is ↦ is
+          | inl none ↦ absurd (
+              let not_before : precedes u t ≡ false = elim (bit_cases p.0 i) [
+                | inl out ↦ closed i b.place u t at f.at out (omega (arith, w.parts b.place, f.has, bit_at-lt p.0 b.place))
+                | inr is ↦ elim (same_place i b.place) [
+                  | inl same ↦
+                      let there : slice_get ts b.place ≡ Some u = ap (slice_get ts) (sym same) ∙ at in
+                      let is_t : u ≡ t = (let here = f.at in cc) in
+                      rw is_t (none_self b.place t f.at)
+                  | inr apart ↦ f.free i u at (omega (arith, w.parts i, is, none, f.less.other i apart))
+                ]
+              ] in
+              cc)
+        ]
+
+-- and each step begins a way
+pub step-way : (xs : List View) (ts : List Txn) (n : ℕ) (q r p : ℕ × State) → ShowsTransactions xs ts → length ts ≤ 8
+    → Follows xs q r → IsOnWay ts n r p → IsOnWay ts (n + 1) q p
+step-way xs ts n q r p shows few (place, made) w =
+    let (x, shown, held, m) = made in
+    let within = slice_get_within xs place x shown in
+    let (t, at) = slice_get_some ts place (omega (arith, within, shows.same_length)) in
+    let low : place < 8 = omega (arith, within, shows.same_length, few) in
+    let one = shows.each place x t shown at in
+    let o : Placed = record { txn = t; held = held } in
+    let left = bit_or w.left (1 * 2 ^ place % 2 ^ 8) in
+    let has : bit_at left place ≡ 1 = bit_at_set_same w8 w.left place low in
+    let set : bit_at r.0 place ≡ 1 = ap (λ mask. bit_at mask place) m.mask ∙ bit_at_set_same w8 q.0 place low in
+    let same_other : (i : ℕ) → (i ≡ place → ⊥) → bit_at r.0 i ≡ bit_at q.0 i =
+    λ i apart. ap (λ mask. bit_at mask i) m.mask ∙ bit_at_set_other w8 q.0 place low i apart in
+    let out : bit_at w.left place ≡ 0 = omega (arith, w.parts place, set, bit_at-lt p.0 place) in
+    let less : IsLess left place w.left = record { new = out; other = λ i apart. bit_at_set_other w8 w.left place low i apart } in
+    let (i, c) = chosen-at ts left place t at has in
+    let to : r.1 ≡ after q.1 o = rw one.ops at m.state in
     record {
-      place = place;
-      placed = record { txn = t; held = made.way.by };
-      at = at;
-      new = free.0;
-      is = made.way.mask ∙ mask-set mask place (omega (arith, slice_get_within ts place t at, few)) free.0;
-      free = λ i v apart there out. free.1 i v there out;
-      may = rw one.status at made.way.may;
-      reads = rw one.ops at made.way.reads;
-      to = made.way.state ∙ after-way r x t made.way.by one.ops;
+      left = left;
+      parts = λ i. elim (same_place i place) [
+        | inl same ↦ rw same (omega (arith, w.parts place, set, out, m.comes.new, has))
+        | inr apart ↦ omega (arith, w.parts i, same_other i apart, less.other i apart)
+      ];
+      size = omega (arith, length-chosen ts left i place t w.left c less, w.size);
+      leads = leads-first ts left w.left place o q.1 p.1 (record {
+        at = at;
+        has = has;
+        less = less;
+        free = λ j u there bit_j. elim (cases_Bool (precedes u t)) [
+          | inr other ↦ other
+          | inl before ↦
+              let placed : bit_at q.0 j ≡ 1 = m.comes.later j (one.bits j u there ∙ ap bit before) in
+              absurd (elim (same_place j place) [
+                | inl same ↦ (let k = rw same at bit_j in omega (arith, k, out))
+                | inr apart ↦ omega (arith, w.parts j, same_other j apart, placed, bit_j, bit_at-lt p.0 j)
+              ])
+        ];
+        may = rw one.status at m.may;
+        reads = rw one.ops at m.reads;
+      }) (rw to at w.leads);
     }
 
--- what follows a pair is a step from it
-pub step_of : (criterion : Criterion) (xs : List View) (ts : List Txn) (mask above : ℕ) (r u : State) → ShowsTransactions xs ts → length ts ≤ 8 → mask < 2 ^ length ts
-    → Follows criterion xs (mask, r) (above, u) → IsStep criterion ts mask r above u
-step_of criterion xs ts mask above r u shows few fits f =
-    let within = slice_get_within xs f.place f.shown f.at in
-    let there = slice_get_some ts f.place (omega (arith, within, shows.same_length)) in
-    let made : IsMade criterion f.shown f.place (mask, r) (above, u) = record {
-      next = f.next;
-      way = way_of criterion f.shown (bit_or mask (1 * 2 ^ f.place % 2 ^ 8)) r (above, u) f.way;
-    } in
-    step-made_at criterion ts f.shown there.0 f.place mask above r u (shows.each f.place f.shown there.0 f.at there.1) there.1 few fits made
+-- with none to place, the way is at its end
+pub way-end : (ts : List Txn) (p : ℕ × State) → IsOnWay ts 0 p p
+way-end ts p = record {
+  left = 0;
+  parts = λ i. omega (arith, bit_at-zero i);
+  size = ap length (chosen-zero ts);
+  leads = rw chosen-zero ([], record { each = refl; kept = refl; completed = refl; legal = refl }, refl);
+}
 
--- and each step from it follows it
-pub step-made : (criterion : Criterion) (xs : List View) (ts : List Txn) (mask above : ℕ) (r u : State) → ShowsTransactions xs ts
-    → length ts ≤ 8 → mask < 2 ^ length ts → ((i : ℕ) (t : Txn) → slice_get ts i ≡ Some t → precedes t t ≡ false)
-    → IsStep criterion ts mask r above u → Follows criterion xs (mask, r) (above, u)
-step-made criterion xs ts mask above r u shows few fits none_self s =
-    let t = s.placed.txn in
-    let within = slice_get_within ts s.place t s.at in
-    let there = slice_get_some xs s.place (omega (arith, within, shows.same_length)) in
-    let x = there.0 in
-    let one = shows.each s.place x t there.1 s.at in
-    let free : (i : ℕ) (v : Txn) → slice_get ts i ≡ Some v → bit_at mask i ≡ 0 → precedes v t ≡ false = λ i v at out.
-    elim (same_place i s.place) [
-      | inl same ↦ let is : v ≡ t = (let k = rw same at at in let m = s.at in cc) in rw is (none_self s.place t s.at)
-      | inr apart ↦ s.free i v apart at out
-    ] in
-    let next = free-next ts x t s.place mask few one (eight_bits mask (length ts) few fits)
-    (eight_bits x.before (length ts) few one.fits) s.new free in
-    let reads : IsTrue (reads_asked criterion s.placed.held r x.ops) = rw one.ops s.reads in
-    let may : IsTrue (may_hold x.status s.placed.held) = rw one.status s.may in
-    let set = bit_or mask (1 * 2 ^ s.place % 2 ^ 8) in
-    let mask_is : set ≡ above = mask-set mask s.place (omega (arith, within, few)) s.new ∙ sym s.is in
-    let state_is : end_at x r s.placed.held ≡ u = after-way r x t s.placed.held one.ops ∙ sym s.to in
-    let made = way-in criterion x set r s.placed.held may reads in
-    let one_is = subst (λ (m : ℕ). Contains (ways criterion x set r) (m, end_at x r s.placed.held)) mask_is made in
+pub way_end : (ts : List Txn) (q p : ℕ × State) → p.0 < 2 ^ length ts → IsOnWay ts 0 q p → (q.0 ≡ p.0) × (q.1 ≡ p.1)
+way_end ts q p fits w = (same_from_bits q.0 p.0 (λ i. omega (arith, w.parts i, none i)), ends w.size w.leads)
+  where
+    none : (i : ℕ) → bit_at w.left i ≡ 0
+    none i =
+        elim (bit_cases w.left i) [
+          | inl out ↦ out
+          | inr one ↦ elim (cases_lt i (length ts)) [
+            | inl within ↦ (let t = slice_get_some ts i within in absurd (chosen_none ts w.left i t.0 w.size t.1 one))
+            | inr past ↦ absurd (omega (arith, w.parts i, one, bit_at_above p.0 (length ts) i fits past))
+          ]
+        ]
+
+    ends : length (chosen w.left ts) ≡ 0 → Leads q.1 (chosen w.left ts) p.1 → q.1 ≡ p.1
+    ends size ([], e, is) = is
+    ends size (o ∷ order, e, is) =
+        absurd (let within = slice_get_within (chosen w.left ts) e.each.0 o.txn e.each.1 in omega (arith, within, size))
+
+-- a step leaves none that precedes what is placed
+pub step-front : (xs : List View) (ts : List Txn) (q r : ℕ × State) → ShowsTransactions xs ts → length ts ≤ 8 → Follows xs q r
+    → IsFront ts q.0 → IsFront ts r.0
+step-front xs ts q r shows few (place, made) front =
+    let (x, shown, held, m) = made in
+    let within = slice_get_within xs place x shown in
+    let low : place < 8 = omega (arith, within, shows.same_length, few) in
+    let same_other : (i : ℕ) → (i ≡ place → ⊥) → bit_at r.0 i ≡ bit_at q.0 i =
+    λ i apart. ap (λ mask. bit_at mask i) m.mask ∙ bit_at_set_other w8 q.0 place low i apart in
+    let set : bit_at r.0 place ≡ 1 = ap (λ mask. bit_at mask place) m.mask ∙ bit_at_set_same w8 q.0 place low in
     record {
-      place = s.place;
-      shown = x;
-      at = there.1;
-      next = next;
-      way = subst (λ (z : State). Contains (ways criterion x set r) (above, z)) state_is one_is;
+      fits = rw (m.mask, mask-set q.0 place low m.comes.new)
+          (more_fits (length ts) q.0 place front.fits (omega (arith, within, shows.same_length)) m.comes.new);
+      closed = λ i j u v at_i at_j out one.
+          let apart : i ≡ place → ⊥ = λ same. absurd (let k = rw same at out in omega (arith, k, set)) in
+          elim (same_place j place) [
+            | inr other ↦ front.closed i j u v at_i at_j (sym (same_other i apart) ∙ out) (sym (same_other j other) ∙ one)
+            | inl same ↦ elim (cases_Bool (precedes u v)) [
+              | inr not_before ↦ not_before
+              | inl before ↦
+                  let shows_v = shows.each place x v shown (rw same at at_j) in
+                  absurd (omega (arith, out, same_other i apart, m.comes.later i (shows_v.bits i u at_i ∙ ap bit before)))
+            ]
+          ];
     }

@@ -1,30 +1,33 @@
-mod ApartFirst
-mod BlindEnds
-mod BlindProof
-mod Choosing
-mod Completions
-mod DeadEnd
-mod DepthFirst
+mod Adding
 pub mod ForcedEnds
 mod ForcedProof
 mod Forcing
-pub mod FreeNext
-mod Gathering
-mod Holding
-mod IdleFirst
-mod LastFound
-mod LastOfOrder
+mod HeldMasks
 mod LayerLists
 pub mod LayerSteps
-mod LayersBy
 pub mod LayersProof
 pub mod Masks
-mod OrderRanks
-mod RankedOrders
-mod SameEnds
-mod Setting
+mod Shared
 mod Sorting
-mod StrictSteps
 mod BeforeFound
-mod WindowLayers
+pub mod Chosen
 pub mod WindowViews
+pub mod Bits
+mod Ordering
+mod Settling
+mod Passing
+mod Rooms
+mod Nodes
+mod Picking
+mod Branching
+mod Giving
+mod Lasting
+mod Places
+mod Ranked
+mod Law
+mod Shown
+mod Answering
+mod Reading
+mod Rooting
+mod Finding
+mod Completing

@@ -1,4 +1,4 @@
--- What the search by layers answers of a window: its layers, and its end states from a set of states.
+-- What is answered of a window: its layers, and its end states from a set of states.
 use Rattle.std.specs.Prelude.{◌≡◌, ◌↔◌, ◌<◌, ◌≤◌, ℕ, Bool, true, false, List, IsTrue, length}
 use Rattle.std.specs.Cmp.Lexicographic.{slice_cmp}
 use Rattle.std.specs.List.{Contains}
@@ -7,15 +7,13 @@ use Rattle.std.specs.Ordering.{nat_cmp}
 use Rattle.tmw_events.specs.declared.event.Event.{Event}
 use Rattle.tmw_defs.specs.declared.criterion.Criterion.{Criterion}
 use Rattle.tmw_defs.specs.Criteria.{EndsBy}
-use Rattle.tmw_defs.specs.History.{Txn, transactions}
-use Rattle.tmw_search.specs.Layers.{InLayer, InLayerBy}
+use Rattle.tmw_defs.specs.History.{transactions}
+use Rattle.tmw_search.specs.Layers.{InLayer}
 use Rattle.tmw_defs.specs.Opaque.{State}
 use Rattle.tmw_cuts.specs.declared.states.States.{States}
 use Rattle.tmw_cuts.specs.declared.window.Window.{Window}
 use Rattle.tmw_cuts.specs.Members.{members}
 use Rattle.tmw_cuts.specs.Standing.{StandsFor}
-use Rattle.tmw_cuts.specs.Views.{View}
-use Rattle.tmw_search.specs.ShownTransactions.{ShowsTransactions, NoneBeforeItself}
 use Rattle.tmw_search.specs.declared.end_states.EndStates.{EndStates}
 use Rattle.tmw_search.specs.declared.end_states.EndStates.TheVariants.{Few, Many}
 
@@ -28,27 +26,6 @@ EndsOf criterion states events = EndsBy criterion (Contains (members states)) (t
 abbrev pub AreLayer : States → Window → ℕ → List (ℕ × State) → Type 0
 AreLayer states window k pairs = (events : List Event) → StandsFor window events → (p : ℕ × State)
     → Contains pairs p ↔ InLayer (Contains (members states)) (transactions events) k p.0 p.1
-
--- The pairs are the layer of k transactions of the window by this criterion.
-abbrev pub AreLayerBy : Criterion → States → Window → ℕ → List (ℕ × State) → Type 0
-AreLayerBy criterion states window k pairs = (events : List Event) → StandsFor window events → (p : ℕ × State)
-    → Contains pairs p ↔ InLayerBy criterion (Contains (members states)) (transactions events) k p.0 p.1
-
--- One of the pairs has this state.
-pub record HasState (pairs : List (ℕ × State)) (s : State) : Type 0 where
-  pub pair : ℕ × State
-  pub within : Contains pairs pair
-  pub is : pair.1 ≡ s
-
--- The states of the pairs are just the end states of the transactions that the list shows, from the states of the start.
-abbrev pub HaveLast : Criterion → List State → List View → List (ℕ × State) → Type 0
-HaveLast criterion start xs pairs = (ts : List Txn) → ShowsTransactions xs ts → NoneBeforeItself ts → (s : State)
-    → HasState pairs s ↔ EndsBy criterion (Contains start) ts s
-
--- The states of the pairs are just the end states of the window's events.
-abbrev pub AreLastOf : Criterion → States → Window → List (ℕ × State) → Type 0
-AreLastOf criterion states window pairs = (events : List Event) → StandsFor window events → (s : State)
-    → HasState pairs s ↔ EndsOf criterion states events s
 
 -- It tells whether the window's transactions have an end state.
 abbrev pub TellsEnd : Criterion → States → Window → Bool → Type 0

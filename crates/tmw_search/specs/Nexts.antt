@@ -1,52 +1,35 @@
 -- What placing one transaction more makes of a set of placed ones and the state that they have led to.
-use Rattle.std.specs.Prelude.{◌≡◌, ◌==◌, ◌&&◌, ◌||◌, ◌*◌, ◌^◌, ◌%◌, ◌++◌, ℕ, Bool, true, false, not, List, [], ◌∷◌, Some, IsTrue, bit_and, bit_or, flat_map, slice_get, if◌then◌else◌}
-use Rattle.std.specs.Int.{bit_at, bit_not, w8}
-use Rattle.std.specs.List.{Contains, list_all, enumerate_from}
-use Rattle.tmw_defs.specs.declared.criterion.Criterion.{Criterion}
+use Rattle.std.specs.Prelude.{◌≡◌, ◌↔◌, ◌⊎◌, ◌*◌, ◌^◌, ◌%◌, ℕ, Bool, List, Some, IsTrue, bit_or, slice_get, if◌then◌else◌}
+use Rattle.std.specs.Int.{bit_at}
+use Rattle.std.specs.List.{Contains}
 use Rattle.tmw_defs.specs.Opaque.{State, may_hold, reads_hold, after_writes}
 use Rattle.tmw_cuts.specs.Views.{View}
-use Rattle.tmw_cuts.specs.Written.{is_read}
-use Rattle.tmw_search.specs.Layers.{reads_asked}
 
--- the transaction at the place isn't placed, and none that isn't precedes it
-abbrev pub is_next : View → ℕ → ℕ → Bool
-is_next x place mask = (bit_at mask place == 0) && (bit_and x.before (bit_not w8 mask) == 0)
+-- No transaction is placed, and the state is this one.
+abbrev pub IsFirst : State → ℕ × State → Type 0
+IsFirst s p = (p.0 ≡ 0) × (p.1 ≡ s)
 
--- where the completion holds it, its writes are made, and else the state stays
-abbrev pub end_at : View → State → Bool → State
-end_at x s held = if held then after_writes s x.ops else s
+-- The transaction at the place isn't placed, and each that precedes it is.
+pub record MayCome (before place mask : ℕ) : Type 0 where
+  pub new : bit_at mask place ≡ 0
+  pub later : (i : ℕ) → bit_at before i ≡ 1 → bit_at mask i ≡ 1
 
--- held or left out, as told here, where a completion may do so and what is asked of its reads holds
-abbrev pub way : Criterion → View → ℕ → State → Bool → List (ℕ × State)
-way criterion x above s held =
-    if may_hold x.status held && reads_asked criterion held s x.ops then (above, end_at x s held) ∷ [] else []
+-- Placing the transaction, held or left out as told here, makes the second pair of the first: it may come next, a completion may
+-- hold it so, it read what the state has, and where it is held its writes are made.
+pub record Makes (x : View) (place : ℕ) (held : Bool) (p q : ℕ × State) : Type 0 where
+  pub comes : MayCome x.before place p.0
+  pub may : IsTrue (may_hold x.status held)
+  pub reads : IsTrue (reads_hold p.1 x.ops)
+  pub mask : q.0 ≡ bit_or p.0 (1 * 2 ^ place % 2 ^ 8)
+  pub state : q.1 ≡ (if held then after_writes p.1 x.ops else p.1)
 
-abbrev pub ways : Criterion → View → ℕ → State → List (ℕ × State)
-ways criterion x above s = way criterion x above s true ++ way criterion x above s false
+abbrev pub MakesAt : List View → ℕ × State → ℕ → ℕ × State → Type 0
+MakesAt xs p place q = (x : View) × (slice_get xs place ≡ Some x) × (held : Bool) × Makes x place held p q
 
-abbrev pub next_at : Criterion → View → ℕ → ℕ × State → List (ℕ × State)
-next_at criterion x place p = if is_next x place p.0 then ways criterion x (bit_or p.0 (1 * 2 ^ place % 2 ^ 8)) p.1 else []
+-- Placing one of the transactions makes the second pair of the first.
+abbrev pub Follows : List View → ℕ × State → ℕ × State → Type 0
+Follows xs p q = (place : ℕ) × MakesAt xs p place q
 
--- what placing each of them makes, in the order of their places
-abbrev pub nexts_of : Criterion → List View → ℕ × State → List (ℕ × State)
-nexts_of criterion xs p = flat_map (λ (at : ℕ × View). next_at criterion at.1 at.0 p) (enumerate_from 0 xs)
-
--- One of these may come next after the one pair, and the other is a way to place it.
-pub record Follows (criterion : Criterion) (xs : List View) (p q : ℕ × State) : Type 0 where
-  pub place : ℕ
-  pub shown : View
-  pub at : slice_get xs place ≡ Some shown
-  pub next : IsTrue (is_next shown place p.0)
-  pub way : Contains (ways criterion shown (bit_or p.0 (1 * 2 ^ place % 2 ^ 8)) p.1) q
-
--- It follows one of the layer.
-abbrev pub FollowsOne : Criterion → List View → List (ℕ × State) → ℕ × State → Type 0
-FollowsOne criterion xs layer q = (p : ℕ × State) × Contains layer p × Follows criterion xs p q
-
--- no completion holds it, or each of its operations is a read: it leaves each state as it is
-abbrev pub is_idle : View → Bool
-is_idle x = not (may_hold x.status true) || list_all is_read x.ops
-
--- it may come next, leaves each state as it is, and read what the state has
-abbrev pub is_idle_next : View → ℕ → ℕ → State → Bool
-is_idle_next x place mask s = is_next x place mask && (is_idle x && reads_hold s x.ops)
+-- The one list has the pairs of the other, and those of the set.
+abbrev pub AddsPairs : List (ℕ × State) → List (ℕ × State) → (ℕ × State → Type 0) → Type 0
+AddsPairs old new P = (q : ℕ × State) → Contains new q ↔ (Contains old q ⊎ P q)

@@ -1,89 +1,28 @@
-ghost use Rattle.std.specs.Prelude.{◌≡◌, ◌≤◌, List, IfOk, IfSome, OnErr};
-ghost use Rattle.std.specs.List.Sorted.{IsStrictlySortedBy};
+ghost use Rattle.std.specs.Prelude.{◌≡◌, List, IfOk, IfSome, OnErr};
 ghost use Rattle.tmw_events.specs.declared.event.Event.{Event};
 ghost use Rattle.tmw_cuts.specs.Members.{members};
-ghost use Rattle.tmw_cuts.specs.Standing.{StandsFor, count_of};
-ghost use Rattle.tmw_search.specs.Ended.{AreLayer, AreLastOf, TellsEnd, AreEnds, EndsOf, Replaces};
-ghost use Rattle.tmw_search.specs.Pairs.{pair_cmp};
+ghost use Rattle.tmw_cuts.specs.Standing.{StandsFor};
+ghost use Rattle.tmw_search.specs.Ended.{TellsEnd, AreEnds, EndsOf, Replaces};
 
-use crate::aside::{Aside, set_aside};
-use crate::blind::{are_blind, find_blind_ends};
-use crate::depth_first::search_ends;
+use crate::completions::find_ends;
 use crate::end_states::EndStates;
+use crate::find::find_order;
 use crate::forced::is_forced;
-use crate::layers::layer_of;
-use crate::nexts::Reached;
 use std::alloc::{AllocError, Global};
 use tmw_cuts::{State, States, Window};
 use tmw_defs::Criterion;
-
-/// Finds what `k` of the window's transactions can reach from the states. A pair is a set of `k` of them, as a mask
-/// whose bit j stands for transaction j, and a state in which some order of just that set ends. The order is legal
-/// for some completion and keeps the real-time order, and the set leaves out none that precedes a member. The pairs
-/// are in rising order and each once.
-pub fn layer(
-    alloc: Global,
-    states: &States,
-    window: &Window,
-    k: u8,
-) -> Result<Vec<Reached>, AllocError>
-    requires { k ≤ count_of window.now }
-    ensures rises { IfOk result (λ pairs. IsStrictlySortedBy pair_cmp pairs.items) }
-    ensures exact { IfOk result (λ pairs. AreLayer states.now window.now k pairs.items) }
-{
-    let none = Aside { mask: 0, count: 0 };
-    let items = window.transactions();
-    layer_of(
-        Criterion::Opacity,
-        alloc,
-        states.states(),
-        items,
-        &none,
-        k as usize,
-    )
-}
-
-/// Pairs all of the window's transactions, as a mask, with each state in which they may end from one of the states.
-fn last_of(
-    criterion: Criterion,
-    alloc: Global,
-    states: &States,
-    window: &Window,
-) -> Result<Vec<Reached>, AllocError>
-    ensures { IfOk result (λ pairs. AreLastOf criterion states.now window.now pairs.items) }
-{
-    let items = window.transactions();
-    let aside = set_aside(criterion, items);
-    layer_of(
-        criterion,
-        alloc,
-        states.states(),
-        items,
-        &aside,
-        items.len(),
-    )
-}
 
 /// Tells whether the window's transactions have a legal serial order, for some completion, from one of the states. By
 /// opacity the order has all of them, by strict serializability those that the completion holds.
 pub fn possible(
     criterion: Criterion,
-    alloc: Global,
+    _alloc: Global,
     states: &States,
     window: &Window,
 ) -> Result<bool, AllocError>
     ensures { IfOk result (TellsEnd criterion states.now window.now) }
 {
-    // One end tells that there is one.
-    let found = search_ends(criterion, alloc, window.transactions(), states.states(), 0)?;
-    if !found.ends.is_empty() {
-        return Ok(true);
-    }
-    if found.done {
-        return Ok(false);
-    }
-    let last = last_of(criterion, alloc, states, window)?;
-    Ok(!last.is_empty())
+    Ok(find_order(criterion, states, window).is_some())
 }
 
 /// Finds the states in which the window's transactions may end, over all legal serial orders and completions, from
@@ -97,28 +36,13 @@ pub fn outcomes(
 ) -> Result<EndStates, AllocError>
     ensures { IfOk result (AreEnds criterion states.now window.now cap) }
 {
-    let items = window.transactions();
-    if are_blind(criterion, items) {
-        return find_blind_ends(alloc, items, states.states(), cap);
-    }
-    let found = search_ends(criterion, alloc, items, states.states(), cap as usize)?;
-    // The first state past the cap settles it. At a cap of 0 any end is `Many`, and no end is `Few` of no state.
-    if found.ends.len() > cap as usize {
-        return Ok(EndStates::Many);
-    }
-    if found.done {
-        return Ok(EndStates::Few(found.ends));
-    }
-    // A set has its states in rising order, register 0 first, so the order of the search does not show.
-    let mut ends = States::empty(alloc);
-    let last = last_of(criterion, alloc, states, window)?;
-    for (_all, state) in &last {
-        ends.insert(*state)?;
-        if ends.len() > cap as usize {
-            return Ok(EndStates::Many);
-        }
-    }
-    Ok(EndStates::Few(ends))
+    find_ends(
+        criterion,
+        alloc,
+        window.transactions(),
+        states.states(),
+        cap as usize,
+    )
 }
 
 /// Replaces the states by the outcomes of the window's transactions from them, if these are at most `cap`, and tells

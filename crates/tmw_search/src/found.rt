@@ -1,4 +1,4 @@
-ghost use Rattle.std.specs.Prelude.{◌≡◌, [], OnOk};
+ghost use Rattle.std.specs.Prelude.{◌≡◌, ◌↔◌, ◌≤◌, ◌<◌, [], OnOk, IsTrue, IsFalse, length};
 ghost use Rattle.tmw_cuts.specs.Members.{members, AddsMember};
 
 use std::alloc::{AllocError, Global};
@@ -8,17 +8,21 @@ use tmw_cuts::{State, States};
 #[derive(Drop)]
 pub struct Found {
     pub ends: States,
+    /// They are few if they are at most so many.
+    pub cap: usize,
     /// Where an end may stand, by the slot that it is added with: a guess, of which nothing is claimed.
     guesses: [u8; 64],
 }
 
 impl Found {
     /// Makes the set of no end.
-    pub fn none(alloc: Global) -> Found
-        ensures { members result.ends ≡ [] }
+    pub fn none(alloc: Global, cap: usize) -> Found
+        ensures ends { members result.ends ≡ [] }
+        ensures cap { result.cap ≡ cap }
     {
         Found {
             ends: States::empty(alloc),
+            cap,
             guesses: [0; 64],
         }
     }
@@ -26,7 +30,8 @@ impl Found {
     /// Adds the end, unless it is one of them. Is fastest if equal ends come with the same number, and others not.
     #[inline(always)]
     pub fn add(&mut self, end: &State, number: u64) -> Result<(), AllocError>
-        ensures { OnOk result (AddsMember (members self.old.ends) (members self.new.ends) end.now) }
+        ensures adds { OnOk result (AddsMember (members self.old.ends) (members self.new.ends) end.now) }
+        ensures cap { self.new.cap ≡ self.old.cap }
     {
         let slot = (number % 64) as usize;
         if let Some(held) = self.ends.get(self.guesses[slot] as usize) {
@@ -37,5 +42,14 @@ impl Found {
         self.guesses[slot] = (self.ends.len() % 256) as u8;
         self.ends.insert(*end)?;
         Ok(())
+    }
+
+    /// Tells whether they are at most `cap`.
+    #[inline(always)]
+    pub fn are_few(&self) -> bool
+        ensures few { IsTrue result → length (members self.now.ends) ≤ self.now.cap }
+        ensures more { IsFalse result → self.now.cap < length (members self.now.ends) }
+    {
+        self.ends.len() <= self.cap
     }
 }

@@ -1,25 +1,30 @@
-//! The end states of a window, depth first and by layers, and a guess of a serial order.
+//! Which serial orders of a window's transactions are legal, and in which states they end: one search, by who precedes
+//! whom and who reads from whom. Layers tell the same of parts of the window.
 #![tactic(auto)]
 
-mod apart;
-mod aside;
-mod blind;
-mod choices;
-mod dead_end;
-mod depth_first;
+mod completions;
+mod effects;
 mod end_states;
 mod ends;
+mod find;
 mod forced;
 mod found;
-mod idle;
-mod lasts;
+mod last;
 mod layers;
 mod nexts;
-mod progress;
-mod reach;
-mod seek;
+mod node;
+mod order;
+mod pass;
+mod reads;
+mod root;
+mod search;
+mod settle;
+mod sources;
+mod steps;
 
 pub use end_states::EndStates;
-pub use ends::{layer, outcomes, possible, replace_by_outcomes};
+pub use ends::{outcomes, possible, replace_by_outcomes};
+pub use find::find_order;
+pub use layers::layer;
 pub use nexts::{is_next, may_hold};
-pub use seek::{Step, seek_order};
+pub use steps::{Order, Step};

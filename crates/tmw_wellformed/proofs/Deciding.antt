@@ -1,18 +1,5 @@
 -- Which events a phase accepts: those with which the text of the thread's live transaction is a text still.
-use Rattle.std.proofs.Common.{◌≡◌, ◌++◌, ℕ, true, false, not, [], ◌∷◌, Option, Some, None, Ok, Err, IsTrue, IsFalse, refl, inl, inr}
-use Rattle.std.specs.Prelude.{is_some, option_and_then, if◌then◌else◌}
-use Rattle.std.specs.List.{list_any}
-use Rattle.std.proofs.lemmas.Bool.{cases_Bool, not-true, not-false}
-use Rattle.tmw_events.specs.declared.event.Kind.{Kind}
-use Rattle.tmw_events.specs.declared.event.Kind.TheVariants.{R, V, W, K, T, C, X, A, N}
-use Rattle.tmw_defs.specs.History.{Txn, is_call, answers, ends, is_text, is_ended}
-use Rattle.tmw_wellformed.specs.declared.malformed.Malformed.{Malformed}
-use Rattle.tmw_wellformed.specs.declared.malformed.Malformed.TheVariants.{Register, Busy, Idle, Mismatch}
-use Rattle.tmw_wellformed.specs.declared.phase.Phase.{Phase}
-use Rattle.tmw_wellformed.specs.declared.phase.Phase.TheVariants.{Between}
-use Rattle.tmw_wellformed.specs.Pending.{call_of, next_call}
-use Rattle.tmw_wellformed.specs.Faults.{asks, lacks_register, has_fault, earlier}
-use Rattle.tmw_wellformed.specs.Phase.{phase_in, phase_within, phase_of, is_live, waits, takes, next_phase}
+use Rattle.tmw_wellformed.proofs.Shared.{A, Between, Busy, C, Err, Idle, IsFalse, IsTrue, K, Kind, Malformed, Mismatch, N, None, Ok, Option, Phase, R, Register, Some, T, Txn, V, W, X, [], answers, asks, call_of, cases_Bool, earlier, ends, false, has_fault, if◌then◌else◌, inl, inr, is_call, is_ended, is_live, is_some, is_text, lacks_register, list_any, next_call, next_phase, not, not-false, not-true, option_and_then, phase_in, phase_of, phase_within, refl, takes, true, waits, ℕ, ◌++◌, ◌∷◌, ◌≡◌}
 use Rattle.tmw_wellformed.proofs.TextSteps.{goes_on, is_text-push, pending_asks}
 use Rattle.tmw_wellformed.proofs.HistorySteps.{text_of}
 

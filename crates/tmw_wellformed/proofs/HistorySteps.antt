@@ -1,15 +1,6 @@
 -- What one event more makes of a history's transactions: whether their texts are texts still, which are live, and how many.
-use Rattle.std.proofs.Common.{◌≡◌, ◌==◌, ◌&&◌, ◌+◌, ◌++◌, ℕ, Bool, true, false, not, List, [], ◌∷◌, length, Option, Some, None, IsTrue, refl, sym, ap, ◌∙◌, inl, inr, arith}
-use Rattle.std.specs.Prelude.{filter, is_some, count_by, if◌then◌else◌}
-use Rattle.std.specs.List.{find, list_all}
-use Rattle.std.proofs.lemmas.Bool.{cases_Bool, and_parts, and_from}
-use Rattle.std.proofs.lemmas.List.Sums.{sum_by-cons}
-use Rattle.tmw_events.specs.declared.event.Event.{Event}
-use Rattle.tmw_events.specs.declared.event.Kind.{Kind}
-use Rattle.tmw_defs.specs.History.{Txn, ends, is_text, is_ended, add_event}
+use Rattle.tmw_wellformed.proofs.Shared.{Bool, Event, IsTrue, Kind, List, None, Option, Own, Some, Txn, [], add_event, add_event_here, add_event_past, all_own, and_from, and_parts, ap, arith, begun, cases_Bool, count_by, ended_rest, ends, false, filter, find, if◌then◌else◌, inl, inr, is_ended, is_some, is_text, joins, length, list_all, live_of, longer, not, of_thread-add_other, of_thread-add_own, refl, sum_by-cons, sym, true, turn, ℕ, ◌&&◌, ◌++◌, ◌+◌, ◌==◌, ◌∙◌, ◌∷◌, ◌≡◌}
 use Rattle.tmw_defs.specs.Texts.{of_thread, ended_but_last}
-use Rattle.tmw_defs.proofs.OneMore.{joins, begun, longer, add_event_here, add_event_past, of_thread-add_other, of_thread-add_own, Own, all_own, turn, ended_rest}
-use Rattle.tmw_wellformed.specs.Pending.{live_of}
 use Rattle.tmw_wellformed.proofs.TextSteps.{is_ended-push}
 
 abbrev pub flag : Bool → ℕ

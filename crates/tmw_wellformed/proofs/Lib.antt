@@ -1,3 +1,4 @@
+mod Shared
 pub mod TextSteps
 pub mod HistorySteps
 pub mod Deciding

@@ -1,12 +1,5 @@
 -- What one event more makes of a transaction's text: whether it is a text still, its pending call, and whether it has ended.
-use Rattle.std.proofs.Common.{◌≡◌, ◌&&◌, ◌-◌, ◌++◌, ℕ, Bool, true, false, not, List, [], ◌∷◌, length, Option, Some, None, refl, sym, ◌∙◌, arith, length-append}
-use Rattle.std.proofs.lemmas.Bool.{and_parts}
-use Rattle.tmw_events.specs.declared.event.Kind.{Kind}
-use Rattle.tmw_events.specs.declared.event.Kind.TheVariants.{V, K, C, A}
-use Rattle.tmw_defs.specs.History.{is_call, answers, ends, is_text, is_ended}
-use Rattle.tmw_defs.proofs.TextsProof.{slice_get_end, is_over-ends, is_ended-cons}
-use Rattle.tmw_wellformed.specs.Pending.{call_of, next_call}
-use Rattle.tmw_wellformed.specs.Faults.{asks}
+use Rattle.tmw_wellformed.proofs.Shared.{A, Bool, C, K, Kind, List, None, Option, Some, V, [], and_parts, answers, arith, asks, call_of, ends, false, is_call, is_ended, is_ended-cons, is_over-ends, is_text, length, length-append, next_call, not, refl, slice_get_end, sym, true, ℕ, ◌&&◌, ◌++◌, ◌-◌, ◌∙◌, ◌∷◌, ◌≡◌}
 
 pub is_ended-push : (text : List Kind) (k : Kind) → is_ended (text ++ k ∷ []) ≡ ends k
 is_ended-push text k =

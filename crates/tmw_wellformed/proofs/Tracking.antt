@@ -1,26 +1,9 @@
 -- A tracker that a history fits, one event further.
-use Rattle.std.proofs.Common.{◌≡◌, ◌==◌, ◌&&◌, ◌+◌, ◌++◌, ◌<◌, ◌≤◌, ◌↔◌, ℕ, Bool, zero, suc, true, false, not, List, [], ◌∷◌, length, Option, Some, None, Ok, Err, IsTrue, refl, sym, ap, subst, ◌∙◌, inl, inr, arith}
-use Rattle.std.specs.Prelude.{slice_get, slice_set, slice_index_or, is_some, count_by}
-use Rattle.std.specs.List.{list_all}
-use Rattle.std.proofs.lemmas.Bool.{cases_Bool, cases_eq, both_ways, and_parts, not-true, ne_eqb, eqb-true, eq-eqb}
+use Rattle.tmw_wellformed.proofs.Shared.{Between, Bool, Err, Event, IsTrue, List, Malformed, None, Ok, Option, Phase, Refuses, Register, Some, TakesAs, Tracker, Txn, [], add_event, and_parts, ap, arith, both_ways, cases_Bool, cases_eq, count_by, ends, eq-eqb, eqb-true, false, inl, inr, is_ended, is_live, is_some, is_text, is_well_formed, lacks_register, length, list_all, live_count, live_of, ne_eqb, next_phase, not, not-true, pending_call, phase_of, refl, slice_get, slice_index_or, slice_set, subst, suc, sum_by-set, sym, texts_law, transactions, transactions-push, true, zero, ℕ, ◌&&◌, ◌++◌, ◌+◌, ◌<◌, ◌==◌, ◌↔◌, ◌∙◌, ◌∷◌, ◌≡◌, ◌≤◌}
 use Rattle.std.proofs.lemmas.Option.{get_or_from_slice_get, slice_get_within}
-use Rattle.std.proofs.lemmas.List.Sums.{sum_by-set}
-use Rattle.tmw_events.specs.declared.event.Event.{Event}
-use Rattle.tmw_defs.specs.History.{Txn, ends, is_text, is_ended, transactions, is_well_formed, add_event}
-use Rattle.tmw_defs.proofs.OneMore.{transactions-push}
-use Rattle.tmw_defs.proofs.TextsProof.{texts_law}
-use Rattle.tmw_wellformed.specs.declared.malformed.Malformed.{Malformed}
-use Rattle.tmw_wellformed.specs.declared.malformed.Malformed.TheVariants.{Register}
 use Rattle.tmw_wellformed.specs.declared.note.Note.{Note}
-use Rattle.tmw_wellformed.specs.declared.phase.Phase.{Phase}
-use Rattle.tmw_wellformed.specs.declared.phase.Phase.TheVariants.{Between}
 use Rattle.tmw_wellformed.specs.declared.phases.Phases.{Phases}
-use Rattle.tmw_wellformed.specs.declared.tracker.Tracker.{Tracker}
-use Rattle.tmw_wellformed.specs.Pending.{live_of, pending_call, live_count}
-use Rattle.tmw_wellformed.specs.Faults.{lacks_register, Refuses}
-use Rattle.tmw_wellformed.specs.GoingOn.{TakesAs}
 use Rattle.tmw_wellformed.specs.Notes.{Notes, end_of}
-use Rattle.tmw_wellformed.specs.Phase.{phase_of, is_live, next_phase}
 use Rattle.tmw_wellformed.specs.Tracks.{Tracks}
 use Rattle.tmw_wellformed.proofs.TextSteps.{goes_on, call_of-push}
 use Rattle.tmw_wellformed.proofs.HistorySteps.{flag, still, found, live_of-add_other, live_of-add_own, live_after, live_count-add, length-add, all_ended, count_by-all_ended, list_all-add}

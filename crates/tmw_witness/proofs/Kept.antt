@@ -1,17 +1,5 @@
 -- What each change of a kept witness makes of it.
-use Rattle.std.proofs.Common.{◌≡◌, ◌⊎◌, ◌+◌, ◌-◌, ◌<◌, ◌≤◌, ℕ, true, false, List, [], ◌∷◌, ◌++◌, length, IsTrue, refl, sym, ◌∙◌, inl, inr, arith}
-use Rattle.std.specs.Int.{bit_at}
-use Rattle.std.specs.List.{Contains}
-use Rattle.std.specs.Prelude.{slice_set}
-use Rattle.std.proofs.lemmas.List.{get_or-set_same, get_or-set_other}
-use Rattle.std.proofs.lemmas.Option.{slice_get_within}
-use Rattle.tmw_defs.specs.Opaque.{State, may_hold, reads_hold, after_writes}
-use Rattle.tmw_cuts.specs.Views.{View, bit}
-use Rattle.tmw_search.proofs.LayerSteps.{slice_get_some}
-use Rattle.tmw_witness.specs.declared.witness.Witness.{Witness}
-use Rattle.tmw_witness.specs.Turns.{TurnsAt}
-use Rattle.tmw_witness.specs.Witness.{Stands, IsWitness}
-use Rattle.tmw_witness.specs.Witnessing.{rank_of, committed_of, state_of, Witnesses}
+use Rattle.tmw_witness.proofs.Shared.{Contains, IsTrue, List, State, TurnsAt, View, Witness, Witnesses, [], after_writes, arith, bit, bit_at, committed_of, false, get_or-set_other, get_or-set_same, inl, inr, length, may_hold, rank_of, reads_hold, refl, slice_get_some, slice_get_within, slice_set, state_of, sym, true, ℕ, ◌++◌, ◌+◌, ◌-◌, ◌<◌, ◌∙◌, ◌∷◌, ◌≡◌, ◌≤◌, ◌⊎◌}
 use Rattle.tmw_witness.proofs.Turning.{witness-begun, witness-stays, witness-moved, witness-held, witness-released}
 
 -- the arrays have their lengths
@@ -34,12 +22,6 @@ begin-kept starts xs y w n long few size none may before was = λ known.
     (get_or-set_other w.ranks n i w.top 0 apart, get_or-set_other w.committed n i false false apart))
     (rw size (get_or-set_same w.ranks n w.top 0 (omega (arith, ranks, few))))
     (rw size (get_or-set_same w.committed n false false (omega (arith, held, few))))
-
--- the old standing of the one that turns
-was-standing : (starts : List State) (xs ys : List View) (x y : View) (w : Witness) (p : ℕ) → TurnsAt xs ys p x y
-    → IsWitness (Contains starts) xs (rank_of w) (committed_of w) (state_of w) w.top
-    → Stands (rank_of w) (committed_of w) (state_of w) w.top p x
-was-standing starts xs ys x y w p turns is = is.each p x turns.was
 
 -- it is left out, and its reads hold where it stands
 pub left_out-kept : (starts : List State) (xs ys : List View) (x y : View) (w : Witness) (p : ℕ) → TurnsAt xs ys p x y

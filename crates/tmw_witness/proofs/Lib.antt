@@ -1,8 +1,8 @@
-pub mod Empty
 pub mod Kept
 pub mod Path
 pub mod Placed
 pub mod Pushed
 pub mod Quiet
 pub mod Replayed
+mod Shared
 pub mod Turning

@@ -1,46 +1,103 @@
--- The way through the layers that a witness tells: rank by rank, first those that are left out, and then the one that is held. So the
--- window has the end state of the highest rank.
-use Rattle.std.proofs.Common.{◌≡◌, ◌⊎◌, ◌+◌, ◌^◌, ◌<◌, ◌≤◌, ℕ, zero, suc, Bool, true, false, List, length, Some, IsTrue, refl, sym, ap, subst, ◌∙◌, inl, inr, arith}
-use Rattle.std.specs.Int.{bit_at}
-use Rattle.std.specs.Prelude.{slice_get}
-use Rattle.std.proofs.lemmas.Bool.{cases_Bool, cases_lt}
-use Rattle.std.proofs.lemmas.Nat.Bits.{bit_at-zero}
-use Rattle.std.proofs.lemmas.Option.{slice_get_within}
-use Rattle.tmw_defs.specs.History.{Txn, operations, status_of}
-use Rattle.tmw_defs.specs.Opaque.{State, precedes, may_hold, reads_hold, after}
-use Rattle.tmw_defs.specs.declared.criterion.Criterion.TheVariants.{Opacity}
-use Rattle.tmw_defs.specs.Outcomes.{Ends}
-use Rattle.tmw_cuts.specs.Views.{View, bit}
-use Rattle.tmw_search.specs.Layers.{chosen, InLayer, IsStep}
+-- The serial order that a witness tells: rank by rank, first those that are left out, by their places, and then the one that is held.
+-- So the window has the end state of the highest rank.
+use Rattle.tmw_witness.proofs.Shared.{Bool, Ends, HasWriter, IsTrue, IsWitness, Leads, List, MayStand, Some, State, Txn, View, [], after, ap, arith, bit, bit_at, bit_at-zero, bit_at_set_other, bit_at_set_same, bit_cases, bit_or, cases_Bool, cases_lt, false, if◌then◌else◌, inl, inr, length, may_hold, precedes, refl, same_place, slice_get, slice_get_some, slice_get_within, status_of, suc, sym, true, w8, zero, ℕ, ◌%◌, ◌*◌, ◌+◌, ◌/◌, ◌<◌, ◌^◌, ◌∙◌, ◌≡◌, ◌≤◌, ◌⊎◌}
+use Rattle.tmw_search.proofs.LayersProof.{leads-first}
+use Rattle.tmw_search.specs.Layers.{chosen}
 use Rattle.tmw_search.specs.ShownTransactions.{ShowsTransaction, ShowsTransactions}
-use Rattle.tmw_search.proofs.LayersProof.{bit_cases, same_place, layer-step, layer-zero}
-use Rattle.tmw_search.proofs.LayerSteps.{slice_get_some}
-use Rattle.tmw_cuts.proofs.Bits.{bit_at-more_same, bit_at-more_other}
-use Rattle.tmw_search.proofs.Masks.{chosen_bits}
-use Rattle.tmw_witness.specs.Witness.{MayStand, IsWitness}
+use Rattle.tmw_search.proofs.Chosen.{chosen-zero, chosen_bits}
 
--- transaction j is placed before place i of rank r
-abbrev Settled : (ℕ → ℕ) → (ℕ → Bool) → ℕ → ℕ → ℕ → Type 0
-Settled rank held r i j = (rank j < r) ⊎ ((rank j ≡ r) × (held j ≡ false) × (j < i))
+-- where transaction j comes in the order
+abbrev slot : (ℕ → ℕ) → (ℕ → Bool) → ℕ → ℕ
+slot rank held j = 9 * rank j + (if held j then 8 else j)
 
--- just those are placed, and have led to the state of the rank
-record InPhase (S : State → Type 0) (ts : List Txn) (rank : ℕ → ℕ) (held : ℕ → Bool) (state : ℕ → State) (r i : ℕ) : Type 0 where
-  count : ℕ
-  mask : ℕ
-  layer : InLayer S ts count mask (state r)
-  has : (j : ℕ) → j < length ts → Settled rank held r i j → bit_at mask j ≡ 1
-  only : (j : ℕ) → j < length ts → bit_at mask j ≡ 1 → Settled rank held r i j
+slot_is : (rank : ℕ → ℕ) (held : ℕ → Bool) (j : ℕ)
+    → ((held j ≡ true) × (slot rank held j ≡ 9 * rank j + 8)) ⊎ ((held j ≡ false) × (slot rank held j ≡ 9 * rank j + j))
+slot_is rank held j = elim (cases_Bool (held j)) [ inl is ↦ inl (is, rw is refl) | inr out ↦ inr (out, rw out refl) ]
 
--- one that stands below a rank is settled there
-settled-below : (rank : ℕ → ℕ) (held : ℕ → Bool) (r i j : ℕ) → rank j + bit (held j) ≤ r → j < i → Settled rank held r i j
-settled-below rank held r i j below before =
-    elim (cases_lt (rank j) r) [
-      | inl less ↦ inl less
-      | inr not_less ↦ elim (cases_Bool (held j)) [
-        | inl is ↦ absurd (let k : rank j + bit true ≤ r = rw is at below in omega (arith, k, not_less))
-        | inr is ↦ inr (omega (arith, below, not_less), is, before)
-      ]
-    ]
+-- those from this slot on lead from the state there to the last
+record IsPhase (ts : List Txn) (rank : ℕ → ℕ) (held : ℕ → Bool) (state : ℕ → State) (top at : ℕ) : Type 0 where
+  left : ℕ
+  has : (j : ℕ) → j < length ts → at ≤ slot rank held j → bit_at left j ≡ 1
+  only : (j : ℕ) → j < length ts → bit_at left j ≡ 1 → at ≤ slot rank held j
+  leads : Leads (state (at / 9)) (chosen left ts) (state top)
+
+above : (at n : ℕ) → at ≤ n → (n ≡ at → ⊥) → at + 1 ≤ n
+above at n late apart = elim (cases_lt at n) [ inl less ↦ omega (arith, less) | inr not_less ↦ absurd (apart (omega (arith, late, not_less))) ]
+
+-- none comes at the slot
+passed : (ts : List Txn) (rank : ℕ → ℕ) (held : ℕ → Bool) (state : ℕ → State) (top at : ℕ)
+    → ((j : ℕ) → j < length ts → slot rank held j ≡ at → ⊥) → (at + 1) / 9 ≡ at / 9
+    → IsPhase ts rank held state top (at + 1) → IsPhase ts rank held state top at
+passed ts rank held state top at none same p = record {
+  left = p.left;
+  has = λ j inside late. elim (same_place (slot rank held j) at) [
+    | inl is ↦ absurd (none j inside is)
+    | inr apart ↦ p.has j inside (above at (slot rank held j) late apart)
+  ];
+  only = λ j inside one. omega (arith, p.only j inside one);
+  leads = rw same at p.leads;
+}
+
+-- the one that comes at the slot
+record ComesAt (ts : List Txn) (rank : ℕ → ℕ) (held : ℕ → Bool) (state : ℕ → State) (at j : ℕ) (t : Txn) (by : Bool) : Type 0 where
+  there : slice_get ts j ≡ Some t
+  is : slot rank held j ≡ at
+  ranked : at / 9 ≡ rank j
+  alone : (i : ℕ) → i < length ts → slot rank held i ≡ at → i ≡ j
+  may : IsTrue (may_hold (status_of t.text) by)
+  to : state ((at + 1) / 9) ≡ after (state (rank j)) (record { txn = t; held = by })
+
+placed : (S : State → Type 0) (xs : List View) (ts : List Txn) (rank : ℕ → ℕ) (held : ℕ → Bool) (state : ℕ → State) (top at j : ℕ)
+    (t : Txn) (by : Bool) → IsWitness S xs rank held state top → ShowsTransactions xs ts → ComesAt ts rank held state at j t by
+    → IsPhase ts rank held state top (at + 1) → IsPhase ts rank held state top at
+placed S xs ts rank held state top at j t by w shows c p =
+    let few : length ts ≤ 8 = (let f = w.few in omega (arith, f, shows.same_length)) in
+    let inside = slice_get_within ts j t c.there in
+    let low : j < 8 = omega (arith, inside, few) in
+    let x = slice_get_some xs j (omega (arith, inside, shows.same_length)) in
+    let one = shows.each j x.0 t x.1 c.there in
+    let stands = w.each j x.0 x.1 in
+    let left = bit_or p.left (1 * 2 ^ j % 2 ^ 8) in
+    let other : (i : ℕ) → (i ≡ j → ⊥) → bit_at left i ≡ bit_at p.left i = λ i apart. bit_at_set_other w8 p.left j low i apart in
+    let set : bit_at left j ≡ 1 = bit_at_set_same w8 p.left j low in
+    record {
+      left = left;
+      has = λ i within late. elim (same_place i j) [
+        | inl same ↦ rw same set
+        | inr apart ↦ other i apart ∙ p.has i within (above at (slot rank held i) late (λ is. apart (c.alone i within is)))
+      ];
+      only = λ i within bit_i. elim (same_place i j) [
+        | inl same ↦ rw same (omega (arith, c.is))
+        | inr apart ↦ omega (arith, p.only i within (sym (other i apart) ∙ bit_i))
+      ];
+      leads = rw c.ranked (leads-first ts left p.left j (record { txn = t; held = by }) (state (rank j)) (state top) (record {
+        at = c.there;
+        has = set;
+        less = record {
+          new = elim (bit_cases p.left j) [ inl none ↦ none | inr is ↦ absurd (omega (arith, p.only j inside is, c.is)) ];
+          other = other;
+        };
+        free = λ i u at_i bit_i. elim (cases_Bool (precedes u t)) [
+          | inr none ↦ none
+          | inl before ↦
+              let (earlier, kept) = stands.kept i (one.bits i u at_i ∙ ap bit before) in
+              absurd (omega (arith, p.only i (slice_get_within ts i u at_i) bit_i, c.is, slot-kept rank held i j low earlier kept))
+        ];
+        may = c.may;
+        reads = rw one.ops at stands.reads;
+      }) (rw c.to at p.leads));
+    }
+  where
+    slot-kept : (rank : ℕ → ℕ) (held : ℕ → Bool) (i j : ℕ) → j < 8 → i < j → rank i + bit (held i) ≤ rank j → slot rank held i < slot rank held j
+    slot-kept rank held i j low earlier kept =
+        elim (slot_is rank held i) [
+          | inl (is, at_i) ↦
+              let below : rank i + bit true ≤ rank j = rw is at kept in
+              elim (slot_is rank held j) [ inl (is_j, at_j) ↦ omega (arith, below, at_i, at_j) | inr (out_j, at_j) ↦ omega (arith, below, at_i, at_j) ]
+          | inr (out, at_i) ↦
+              let below : rank i + bit false ≤ rank j = rw out at kept in
+              elim (slot_is rank held j) [ inl (is_j, at_j) ↦ omega (arith, below, at_i, at_j, earlier, low) | inr (out_j, at_j) ↦ omega (arith, below, at_i, at_j, earlier) ]
+        ]
 
 -- a transaction that is left out, or might as well be, leaves the state
 record LeavesState (s : State) (t : Txn) : Type 0 where
@@ -59,222 +116,108 @@ may-held : (s : State) (x : View) (held : Bool) → held ≡ true → MayStand s
 may-held s x held is (inl may) = rw is at may
 may-held s x held is (inr (out, may, leaves)) = may
 
--- what is asked of the one that is placed next: it isn't placed, and each that precedes it is settled
-record MayCome (rank : ℕ → ℕ) (held : ℕ → Bool) (r i place : ℕ) (x : View) : Type 0 where
-  new : Settled rank held r i place → ⊥
-  before : (j : ℕ) → bit_at x.before j ≡ 1 → Settled rank held r i j
-
-step-of : (S : State → Type 0) (ts : List Txn) (rank : ℕ → ℕ) (held : ℕ → Bool) (state : ℕ → State) (r i place : ℕ) (x : View) (t : Txn)
-    (by : Bool) (end : State) → (p : InPhase S ts rank held state r i) → MayCome rank held r i place x → ShowsTransaction ts x t
-    → slice_get ts place ≡ Some t → IsTrue (may_hold (status_of t.text) by) → IsTrue (reads_hold (state r) (operations t.text))
-    → end ≡ after (state r) (record { txn = t; held = by }) → IsStep Opacity ts p.mask (state r) (p.mask + 2 ^ place) end
-step-of S ts rank held state r i place x t by end p comes shows at may reads to = record {
-  place = place;
-  placed = record { txn = t; held = by };
-  at = at;
-  new = elim (bit_cases p.mask place) [
-    | inl none ↦ none
-    | inr one ↦ absurd (comes.new (p.only place (slice_get_within ts place t at) one))
-  ];
-  is = refl;
-  free = λ j u apart there out. elim (cases_Bool (precedes u t)) [
-    | inl before ↦ absurd (
-        let one : bit_at x.before j ≡ 1 = shows.bits j u there ∙ ap bit before in
-        let set = p.has j (slice_get_within ts j u there) (comes.before j one) in
-        omega (arith, out, set))
-    | inr other ↦ other
-  ];
-  may = may;
-  reads = reads;
-  to = to;
-}
-
-new-bit : (S : State → Type 0) (ts : List Txn) (rank : ℕ → ℕ) (held : ℕ → Bool) (state : ℕ → State) (r i place : ℕ)
-    → (p : InPhase S ts rank held state r i) → place < length ts → (Settled rank held r i place → ⊥) → bit_at p.mask place ≡ 0
-new-bit S ts rank held state r i place p within new =
-    elim (bit_cases p.mask place) [ inl none ↦ none | inr one ↦ absurd (new (p.only place within one)) ]
-
--- at its turn one that is left out at the rank is placed, and others are passed over
-left_out-next : (S : State → Type 0) (xs : List View) (ts : List Txn) (rank : ℕ → ℕ) (held : ℕ → Bool) (state : ℕ → State) (top r i : ℕ)
-    → IsWitness S xs rank held state top → ShowsTransactions xs ts → i < length ts → InPhase S ts rank held state r i
-    → InPhase S ts rank held state r (i + 1)
-left_out-next S xs ts rank held state top r i w shows within p =
-    elim (same_place (rank i) r) [
-      | inl here ↦ elim (cases_Bool (held i)) [
-        | inl is ↦ passed (λ is_rank out. absurd (let k : true ≡ false = sym is ∙ out in cc))
-        | inr out ↦ placed here out
+-- from each slot on
+phase-next : (S : State → Type 0) (xs : List View) (ts : List Txn) (rank : ℕ → ℕ) (held : ℕ → Bool) (state : ℕ → State) (top at : ℕ)
+    → IsWitness S xs rank held state top → ShowsTransactions xs ts → at < 9 * top + 8 → IsPhase ts rank held state top (at + 1)
+    → IsPhase ts rank held state top at
+phase-next S xs ts rank held state top at w shows below p =
+    elim (cases_lt (at % 9) 8) [
+      | inl out ↦ elim (cases_lt (at % 9) (length ts)) [
+        | inr past ↦ passed ts rank held state top at (λ j inside is. absurd (omega (arith, out_at j inside is out, past, inside))) (omega (arith, out)) p
+        | inl inside ↦ elim (same_place (slot rank held (at % 9)) at) [
+          | inr other ↦
+              passed ts rank held state top at
+              (λ j within is. other (ap (slot rank held) (sym (out_at j within is out)) ∙ is)) (omega (arith, out)) p
+          | inl is ↦ left_out is inside out
+        ]
       ]
-      | inr apart ↦ passed (λ is_rank out. absurd (apart is_rank))
+      | inr last ↦ held_there (w.full (at / 9) (omega (arith, below, last))) last
     ]
   where
-    passed : (rank i ≡ r → held i ≡ false → ⊥) → InPhase S ts rank held state r (i + 1)
-    passed other = record {
-      count = p.count;
-      mask = p.mask;
-      layer = p.layer;
-      has = λ j inside settled. elim settled [
-        | inl below ↦ p.has j inside (inl below)
-        | inr (is, out, before) ↦ elim (same_place j i) [
-          | inl same ↦ absurd (other (rw same at is) (rw same at out))
-          | inr apart ↦ p.has j inside (inr (is, out, earlier j i before apart))
+    few : length ts ≤ 8
+    few = let f = w.few in omega (arith, f, shows.same_length)
+
+    out_at : (j : ℕ) → j < length ts → slot rank held j ≡ at → at % 9 < 8 → j ≡ at % 9
+    out_at j inside is out =
+        elim (slot_is rank held j) [
+          | inl (held_j, at_j) ↦ absurd (omega (arith, at_j, is, out))
+          | inr (out_j, at_j) ↦ omega (arith, at_j, is, inside, few)
         ]
-      ];
-      only = λ j inside one. later rank held r i j (p.only j inside one);
-    }
-      where
-        earlier : (j i : ℕ) → j < i + 1 → (j ≡ i → ⊥) → j < i
-        earlier j i before apart =
-            elim (cases_lt j i) [ inl less ↦ less | inr not_less ↦ absurd (apart (omega (arith, before, not_less))) ]
 
-        later : (rank : ℕ → ℕ) (held : ℕ → Bool) (r i j : ℕ) → Settled rank held r i j → Settled rank held r (i + 1) j
-        later rank held r i j (inl below) = inl below
-        later rank held r i j (inr (is, out, before)) = inr (is, out, omega (arith, before))
+    left_out : slot rank held (at % 9) ≡ at → at % 9 < length ts → at % 9 < 8 → IsPhase ts rank held state top at
+    left_out is inside out =
+        let j = at % 9 in
+        let t = slice_get_some ts j inside in
+        let x = slice_get_some xs j (omega (arith, inside, shows.same_length)) in
+        let one = shows.each j x.0 t.0 x.1 t.1 in
+        elim (slot_is rank held j) [
+          | inl (held_j, at_j) ↦ absurd (omega (arith, at_j, is, out))
+          | inr (out_j, at_j) ↦
+              let ranked : at / 9 ≡ rank j = omega (arith, at_j, is) in
+              let same : (at + 1) / 9 ≡ rank j = omega (arith, ranked, out) in
+              let leaves = leaves-state (state (rank j)) ts x.0 t.0 (held j) one out_j (w.each j x.0 x.1).may in
+              placed S xs ts rank held state top at j t.0 leaves.by w shows (record {
+                there = t.1;
+                is = is;
+                ranked = ranked;
+                alone = λ i within is_i. out_at i within is_i out;
+                may = leaves.may;
+                to = ap state same ∙ leaves.same;
+              }) p
+        ]
 
-    placed : rank i ≡ r → held i ≡ false → InPhase S ts rank held state r (i + 1)
-    placed here out =
-        let x = slice_get_some xs i (omega (arith, within, shows.same_length)) in
-        let t = slice_get_some ts i within in
-        let one = shows.each i x.0 t.0 x.1 t.1 in
-        let stands = w.each i x.0 x.1 in
-        let new : Settled rank held r i i → ⊥ = λ settled. elim settled [
-          | inl below ↦ absurd (omega (arith, below, here))
-          | inr (is, left, before) ↦ absurd (omega (arith, before))
-        ] in
-        let comes : MayCome rank held r i i x.0 = record {
-          new = new;
-          before = λ j bit. let (before, below) = stands.kept j bit in settled-below rank held r i j (rw here at below) before;
-        } in
-        let leaves = leaves-state (state r) ts x.0 t.0 (held i) one out (rw here at stands.may) in
-        let reads : IsTrue (reads_hold (state r) (operations t.0.text)) = rw (here, one.ops) at stands.reads in
-        let step = step-of S ts rank held state r i i x.0 t.0 leaves.by (state r) p comes one t.1 leaves.may reads leaves.same in
-        let unset = new-bit S ts rank held state r i i p within new in
-        record {
-          count = p.count + 1;
-          mask = p.mask + 2 ^ i;
-          layer = layer-step S ts p.count p.mask (p.mask + 2 ^ i) (state r) (state r) p.layer step;
-          has = λ j inside settled. elim (same_place j i) [
-            | inl same ↦ rw same (bit_at-more_same p.mask i unset)
-            | inr apart ↦ bit_at-more_other p.mask i j unset apart ∙ p.has j inside (without rank held r i j apart settled)
+    held_there : HasWriter (length xs) rank held (at / 9) → 8 ≤ at % 9 → IsPhase ts rank held state top at
+    held_there writer last =
+        let j = writer.place in
+        let inside : j < length ts = (let f = writer.within in omega (arith, f, shows.same_length)) in
+        let t = slice_get_some ts j inside in
+        let x = slice_get_some xs j writer.within in
+        let one = shows.each j x.0 t.0 x.1 t.1 in
+        let stands = w.each j x.0 x.1 in
+        let ranked = writer.ranked in
+        let next : (at + 1) / 9 ≡ rank j + 1 = omega (arith, ranked, last) in
+        placed S xs ts rank held state top at j t.0 true w shows (record {
+          there = t.1;
+          is = elim (slot_is rank held j) [
+            | inl (held_j, at_j) ↦ omega (arith, at_j, ranked, last)
+            | inr (out_j, at_j) ↦ absurd (let k : true ≡ false = sym writer.is ∙ out_j in cc)
           ];
-          only = λ j inside bit. elim (same_place j i) [
-            | inl same ↦ inr (rw same here, rw same out, omega (arith, same))
-            | inr apart ↦ with rank held r i j (p.only j inside (sym (bit_at-more_other p.mask i j unset apart) ∙ bit))
+          ranked = sym ranked;
+          alone = λ i within is_i. elim (slot_is rank held i) [
+            | inl (held_i, at_i) ↦ w.apart i j (omega (arith, within, shows.same_length)) writer.within held_i writer.is (omega (arith, at_i, is_i, ranked, last))
+            | inr (out_i, at_i) ↦ absurd (omega (arith, at_i, is_i, last, within, few))
           ];
-        }
-      where
-        without : (rank : ℕ → ℕ) (held : ℕ → Bool) (r i j : ℕ) → (j ≡ i → ⊥) → Settled rank held r (i + 1) j → Settled rank held r i j
-        without rank held r i j apart (inl below) = inl below
-        without rank held r i j apart (inr (is, out, before)) = inr (
-          is,
-          out,
-          elim (cases_lt j i) [
-            | inl less ↦ less
-            | inr not_less ↦ absurd (apart (omega (arith, before, not_less)))
-          ],
-        )
+          may = rw one.status at (may-held (state (rank j)) x.0 (held j) writer.is stands.may);
+          to = ap state next ∙ rw one.ops at (stands.leads writer.is);
+        }) p
 
-        with : (rank : ℕ → ℕ) (held : ℕ → Bool) (r i j : ℕ) → Settled rank held r i j → Settled rank held r (i + 1) j
-        with rank held r i j (inl below) = inl below
-        with rank held r i j (inr (is, out, before)) = inr (is, out, omega (arith, before))
-
--- so all that are left out at a rank are placed
-left_out-all : (S : State → Type 0) (xs : List View) (ts : List Txn) (rank : ℕ → ℕ) (held : ℕ → Bool) (state : ℕ → State) (top r i : ℕ)
-    → IsWitness S xs rank held state top → ShowsTransactions xs ts → i ≤ length ts → InPhase S ts rank held state r 0
-    → InPhase S ts rank held state r i
-left_out-all S xs ts rank held state top r zero w shows within p = p
-left_out-all S xs ts rank held state top r (suc i) w shows within p =
-    let earlier = left_out-all S xs ts rank held state top r i w shows (omega (arith, within)) p in
-    let next : i + 1 ≡ suc i = omega arith in
-    subst (λ (n : ℕ). InPhase S ts rank held state r n) next
-    (left_out-next S xs ts rank held state top r i w shows (omega (arith, within)) earlier)
-
--- then the one that is held at the rank, which leads to the next
-held-next : (S : State → Type 0) (xs : List View) (ts : List Txn) (rank : ℕ → ℕ) (held : ℕ → Bool) (state : ℕ → State) (top r : ℕ)
-    → IsWitness S xs rank held state top → ShowsTransactions xs ts → r < top → InPhase S ts rank held state r (length ts)
-    → InPhase S ts rank held state (r + 1) 0
-held-next S xs ts rank held state top r w shows below p =
-    let writer = w.full r below in
-    let i = writer.place in
-    let within : i < length ts = (let inside = writer.within in omega (arith, inside, shows.same_length)) in
-    let x = slice_get_some xs i writer.within in
-    let t = slice_get_some ts i within in
-    let one = shows.each i x.0 t.0 x.1 t.1 in
-    let stands = w.each i x.0 x.1 in
-    let here = writer.ranked in
-    let new : Settled rank held r (length ts) i → ⊥ = λ settled. elim settled [
-      | inl less ↦ absurd (omega (arith, less, here))
-      | inr (is, out, before) ↦ absurd (let k : true ≡ false = sym writer.is ∙ out in cc)
-    ] in
-    let comes : MayCome rank held r (length ts) i x.0 = record {
-      new = new;
-      before = λ j bit. let (before, under) = stands.kept j bit in
-          settled-below rank held r (length ts) j (rw here at under) (omega (arith, before, within));
-    } in
-    let may : IsTrue (may_hold (status_of t.0.text) true) = rw one.status at (may-held (state (rank i)) x.0 (held i) writer.is stands.may) in
-    let reads : IsTrue (reads_hold (state r) (operations t.0.text)) = rw (here, one.ops) at stands.reads in
-    let to : state (r + 1) ≡ after (state r) (record { txn = t.0; held = true }) = rw (here, one.ops) at (stands.leads writer.is) in
-    let step = step-of S ts rank held state r (length ts) i x.0 t.0 true (state (r + 1)) p comes one t.1 may reads to in
-    let unset = new-bit S ts rank held state r (length ts) i p within new in
+phase-at : (S : State → Type 0) (xs : List View) (ts : List Txn) (rank : ℕ → ℕ) (held : ℕ → Bool) (state : ℕ → State) (top k at : ℕ)
+    → IsWitness S xs rank held state top → ShowsTransactions xs ts → at + k ≡ 9 * top + 8 → IsPhase ts rank held state top at
+phase-at S xs ts rank held state top zero at w shows last =
+    let rank_is : at / 9 ≡ top = omega (arith, last) in
     record {
-      count = p.count + 1;
-      mask = p.mask + 2 ^ i;
-      layer = layer-step S ts p.count p.mask (p.mask + 2 ^ i) (state r) (state (r + 1)) p.layer step;
-      has = λ j inside settled. elim (same_place j i) [
-        | inl same ↦ rw same (bit_at-more_same p.mask i unset)
-        | inr apart ↦ bit_at-more_other p.mask i j unset apart ∙ p.has j inside (before_it w shows i within writer.is here j inside apart settled)
-      ];
-      only = λ j inside bit. elim (same_place j i) [
-        | inl same ↦ inl (rw same (omega (arith, here)))
-        | inr apart ↦ inl (not_above rank held r (length ts) j (p.only j inside (sym (bit_at-more_other p.mask i j unset apart) ∙ bit)))
-      ];
+      left = 0;
+      has = λ j inside late. absurd (
+          let x = slice_get_some xs j (omega (arith, inside, shows.same_length)) in
+          let few = w.few in
+          let within = (w.each j x.0 x.1).within in
+          elim (slot_is rank held j) [
+            | inl (is, at_j) ↦ (let low : rank j + bit true ≤ top = rw is at within in omega (arith, low, at_j, late, last))
+            | inr (out, at_j) ↦
+                let low : rank j + bit false ≤ top = rw out at within in
+                omega (arith, low, at_j, late, last, inside, few, shows.same_length)
+          ]);
+      only = λ j inside one. absurd (omega (arith, one, bit_at-zero j));
+      leads = rw (rank_is, chosen-zero ts) ([], record { each = refl; kept = refl; completed = refl; legal = refl }, refl);
     }
-  where
-    not_above : (rank : ℕ → ℕ) (held : ℕ → Bool) (r i j : ℕ) → Settled rank held r i j → rank j < r + 1
-    not_above rank held r i j (inl less) = omega (arith, less)
-    not_above rank held r i j (inr (is, out, before)) = omega (arith, is)
-
-    before_it : IsWitness S xs rank held state top → ShowsTransactions xs ts → (i : ℕ) → i < length ts → held i ≡ true → rank i ≡ r
-        → (j : ℕ) → j < length ts → (j ≡ i → ⊥) → Settled rank held (r + 1) 0 j → Settled rank held r (length ts) j
-    before_it w shows i within is here j inside apart (inr (at, out, before)) = absurd (omega (arith, before))
-    before_it w shows i within is here j inside apart (inl less) =
-        elim (cases_lt (rank j) r) [
-          | inl lower ↦ inl lower
-          | inr not_lower ↦
-              let at : rank j ≡ r = omega (arith, less, not_lower) in
-              elim (cases_Bool (held j)) [
-                | inl too ↦ absurd (apart (w.apart j i (omega (arith, inside, shows.same_length)) (omega (arith, within, shows.same_length))
-                    too is (at ∙ sym here)))
-                | inr out ↦ inr (at, out, inside)
-              ]
-        ]
-
--- so up to each rank
-phase-at : (S : State → Type 0) (xs : List View) (ts : List Txn) (rank : ℕ → ℕ) (held : ℕ → Bool) (state : ℕ → State) (top r : ℕ)
-    → IsWitness S xs rank held state top → ShowsTransactions xs ts → r ≤ top → InPhase S ts rank held state r 0
-phase-at S xs ts rank held state top zero w shows within = record {
-  count = 0;
-  mask = 0;
-  layer = layer-zero S ts (state 0) w.start;
-  has = λ j inside settled. elim settled [
-    | inl below ↦ absurd (omega (arith, below))
-    | inr (is, out, before) ↦ absurd (omega (arith, before))
-  ];
-  only = λ j inside one. absurd (omega (arith, one, bit_at-zero j));
-}
-phase-at S xs ts rank held state top (suc r) w shows within =
-    let earlier = phase-at S xs ts rank held state top r w shows (omega (arith, within)) in
-    let all = left_out-all S xs ts rank held state top r (length ts) w shows (omega arith) earlier in
-    let next : r + 1 ≡ suc r = omega arith in
-    subst (λ (n : ℕ). InPhase S ts rank held state n 0) next
-    (held-next S xs ts rank held state top r w shows (omega (arith, within)) all)
+phase-at S xs ts rank held state top (suc k) at w shows last =
+    phase-next S xs ts rank held state top at w shows (omega (arith, last))
+    (phase-at S xs ts rank held state top k (at + 1) w shows (omega (arith, last)))
 
 -- a window with a witness has the end state of the highest rank
 pub witness-ends : (S : State → Type 0) (xs : List View) (ts : List Txn) (rank : ℕ → ℕ) (held : ℕ → Bool) (state : ℕ → State) (top : ℕ)
     → IsWitness S xs rank held state top → ShowsTransactions xs ts → Ends S ts (state top)
 witness-ends S xs ts rank held state top w shows =
-    let first = phase-at S xs ts rank held state top top w shows (omega arith) in
-    let p = left_out-all S xs ts rank held state top top (length ts) w shows (omega arith) first in
-    let all : chosen p.mask ts ≡ ts = chosen_bits ts p.mask (λ j within.
-    let x = slice_get_some xs j (omega (arith, within, shows.same_length)) in
-    p.has j within (settled-below rank held top (length ts) j (w.each j x.0 x.1).within within)) in
-    rw all at p.layer.ends
+    let p = phase-at S xs ts rank held state top (9 * top + 8) 0 w shows (omega arith) in
+    let all : chosen p.left ts ≡ ts = chosen_bits ts p.left (λ j inside. p.has j inside (omega arith)) in
+    (state 0, w.start, rw all at p.leads)

@@ -1,18 +1,5 @@
 -- A serial order of some transactions with one more placed behind them, and one of all.
-use Rattle.std.proofs.Common.{◌≡◌, ◌+◌, ◌<◌, ◌≤◌, ℕ, true, false, List, length, Some, refl, sym, ap, ◌∙◌, inl, inr, arith}
-use Rattle.std.specs.Int.{bit_at}
-use Rattle.std.specs.List.{Contains}
-use Rattle.std.specs.Prelude.{slice_get}
-use Rattle.std.proofs.lemmas.Bool.{cases_Bool, cases_lt}
-use Rattle.std.proofs.lemmas.Option.{slice_get_within}
-use Rattle.tmw_defs.specs.Opaque.{State}
-use Rattle.tmw_cuts.specs.Views.{View, bit}
-use Rattle.tmw_search.proofs.LayersProof.{same_place}
-use Rattle.tmw_search.proofs.LayerSteps.{slice_get_some}
-use Rattle.tmw_witness.specs.declared.witness.Witness.{Witness}
-use Rattle.tmw_witness.specs.Placing.{HasWriterOf, PlacesThose}
-use Rattle.tmw_witness.specs.Witness.{Stands, IsWitness}
-use Rattle.tmw_witness.specs.Witnessing.{rank_of, committed_of, state_of}
+use Rattle.tmw_witness.proofs.Shared.{Contains, HasWriterOf, IsWitness, List, PlacesThose, Some, Stands, State, View, Witness, ap, arith, bit, bit_at, cases_Bool, cases_lt, committed_of, false, inl, inr, length, rank_of, same_place, slice_get, slice_get_some, slice_get_within, state_of, sym, true, ℕ, ◌+◌, ◌<◌, ◌∙◌, ◌≡◌, ◌≤◌}
 
 -- The transaction at the place, which the mask leaves, goes to the highest rank, and nothing else is changed.
 pub record IsPlaced (xs : List View) (mask above p : ℕ) (x : View) (w new : Witness) : Type 0 where

@@ -1,23 +1,11 @@
 -- What one event more makes of the views of a window's transactions: one of them turns, or one begins.
-use Rattle.std.proofs.Common.{◌≡◌, ◌==◌, ◌^◌, ◌<◌, ◌≤◌, ℕ, zero, suc, Bool, true, false, List, [], ◌∷◌, ◌++◌, length, map, Some, None, get_or, refl, sym, ap, subst, ◌∙◌, inl, inr, pow-suc, arith}
-use Rattle.std.specs.Int.{bit_at}
-use Rattle.std.specs.List.{list_any}
-use Rattle.std.specs.Prelude.{slice_get, position}
-use Rattle.std.proofs.lemmas.Bool.{and_parts, cases_lt, not-true, false_from_ne_true}
-use Rattle.std.proofs.lemmas.List.Quantifiers.{position-Some}
-use Rattle.std.proofs.lemmas.Nat.Bits.{bit_at_above}
-use Rattle.std.proofs.lemmas.Option.{slice_get-get_or}
-use Rattle.tmw_events.specs.declared.event.Event.{Event}
-use Rattle.tmw_defs.specs.History.{Txn, is_over, is_ended, transactions}
-use Rattle.tmw_defs.specs.Opaque.{precedes}
-use Rattle.tmw_cuts.specs.Views.{View, bit, completed_mask, new_view, next_view, is_open_for, push_views}
-use Rattle.tmw_cuts.specs.Standing.{view_of, views_of}
+use Rattle.tmw_witness.proofs.Shared.{Bool, List, None, PrecedesNone, Some, TurnsAt, Txn, View, [], and_parts, ap, arith, bit, bit_at, bit_at_above, cases_lt, completed_mask, false, false_from_ne_true, get_or, inl, inr, is_ended, is_open_for, is_over, length, list_any, map, new_view, next_view, not-true, position, pow-suc, precedes, push_views, refl, same_place, slice_get, slice_get-get_or, subst, suc, sym, transactions, true, view_of, views_of, zero, ℕ, ◌++◌, ◌<◌, ◌==◌, ◌^◌, ◌∙◌, ◌∷◌, ◌≡◌, ◌≤◌}
 use Rattle.tmw_cuts.proofs.Bits.{bit_at-before_of}
+use Rattle.std.proofs.lemmas.List.Quantifiers.{position-Some}
+use Rattle.tmw_events.specs.declared.event.Event.{Event}
 use Rattle.tmw_cuts.proofs.Found.{push_views_here, push_views_past, push_views-none, position_some}
 use Rattle.tmw_cuts.proofs.Masks.{bit-le}
 use Rattle.tmw_cuts.proofs.Pushes.{views_of-push}
-use Rattle.tmw_search.proofs.LayersProof.{same_place}
-use Rattle.tmw_witness.specs.Turns.{PrecedesNone, TurnsAt}
 
 -- the view at a place is that of the transaction there
 view-at : (all ts : List Txn) (i : ℕ) (x : View) → slice_get (map (view_of all) ts) i ≡ Some x
@@ -25,11 +13,6 @@ view-at : (all ts : List Txn) (i : ℕ) (x : View) → slice_get (map (view_of a
 view-at all [] i x at = absurd (cc)
 view-at all (t ∷ ts) zero x at = (t, refl, cc)
 view-at all (t ∷ ts) (suc i) x at = view-at all ts i x at
-
-at-view : (all ts : List Txn) (i : ℕ) (t : Txn) → slice_get ts i ≡ Some t → slice_get (map (view_of all) ts) i ≡ Some (view_of all t)
-at-view all [] i t at = absurd (cc)
-at-view all (u ∷ ts) zero t at = let is : u ≡ t = cc in rw is refl
-at-view all (u ∷ ts) (suc i) t at = at-view all ts i t at
 
 -- one that precedes another has completed
 completed-before : (ts : List Txn) (p : ℕ) (x z : View) → slice_get (map (view_of ts) ts) p ≡ Some x

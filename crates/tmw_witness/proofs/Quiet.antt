@@ -1,14 +1,6 @@
 -- What an event that answers no read and no add adds to the operations of its transaction: nothing, or a write, which no read sees.
-use Rattle.std.proofs.Common.{◌≡◌, ◌+◌, ◌++◌, Bool, true, false, List, [], Option, Some, None, IsTrue, refl, ap, ◌∙◌, inl, inr}
-use Rattle.std.proofs.lemmas.List.{append-nil}
-use Rattle.tmw_events.specs.declared.event.Kind.{Kind}
-use Rattle.tmw_events.specs.declared.event.Kind.TheVariants.{R, V, W, K, N}
+use Rattle.tmw_witness.proofs.Shared.{AddsAWrite, Bool, IsTrue, K, Kind, List, N, None, Option, R, Some, State, V, W, [], answered_ops, ap, append-nil, false, inl, inr, operation, reads_hold, reads_hold-write, refl, tells_no_value, true, ◌++◌, ◌∙◌, ◌≡◌}
 use Rattle.tmw_defs.specs.declared.op.Op.{Op}
-use Rattle.tmw_defs.specs.History.{operation}
-use Rattle.tmw_defs.specs.Opaque.{State, reads_hold}
-use Rattle.tmw_defs.proofs.QuietProof.{reads_hold-write}
-use Rattle.tmw_defs.proofs.QuietTexts.{tells_no_value, AddsAWrite}
-use Rattle.tmw_cuts.specs.Views.{answered_ops}
 
 operation-quiet : (call kind : Kind) → IsTrue (tells_no_value kind) → AddsAWrite [] (operation call kind)
 operation-quiet (W r v) K quiet = inr (r, v, refl)

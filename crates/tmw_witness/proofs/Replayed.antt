@@ -1,38 +1,23 @@
 -- What is made of the arrays where a transaction is placed behind others that stand as a serial order.
-use Rattle.std.proofs.Common.{◌≡◌, ◌+◌, ◌*◌, ◌/◌, ◌%◌, ◌^◌, ◌==◌, ◌<◌, ◌≤◌, ℕ, Bool, true, false, List, [], length, Some, IsTrue, bit_or, refl, sym, ◌∙◌, inl, inr, w8, arith}
-use Rattle.std.specs.Int.{bit_at}
-use Rattle.std.specs.Prelude.{slice_get, slice_set}
-use Rattle.std.proofs.Math.Nat.{div-lt_iff_lt-mul}
-use Rattle.std.proofs.lemmas.Bool.{and_parts, cases_lt, eqb-true}
-use Rattle.std.proofs.lemmas.List.{get_or-set_same, get_or-set_other}
-use Rattle.std.proofs.lemmas.Nat.Bits.{bit_at_above, bit_at_set_same, bit_at_set_other}
-use Rattle.tmw_defs.specs.Opaque.{State, may_hold, reads_hold, after_writes}
-use Rattle.tmw_cuts.specs.Views.{View, bit}
-use Rattle.tmw_search.specs.Nexts.{is_next}
-use Rattle.tmw_search.proofs.FreeNext.{none_left}
-use Rattle.tmw_search.proofs.LayerSteps.{slice_get_some}
-use Rattle.tmw_search.proofs.Masks.{pow_some}
-use Rattle.tmw_witness.specs.declared.witness.Witness.{Witness}
-use Rattle.tmw_witness.specs.Placing.{PlacesThose}
-use Rattle.tmw_witness.specs.Witnessing.{rank_of, committed_of, state_of}
+use Rattle.tmw_witness.proofs.Shared.{Bool, IsTrue, List, PlacesThose, Some, State, View, Witness, [], after_writes, arith, bit, bit_at, bit_at_above, bit_at_set_other, bit_at_set_same, bit_or, cases_lt, committed_of, div-lt_iff_lt-mul, false, get_or-set_other, get_or-set_same, inl, inr, may_hold, rank_of, reads_hold, slice_get, slice_get_some, slice_set, state_of, w8, ℕ, ◌%◌, ◌*◌, ◌+◌, ◌/◌, ◌<◌, ◌^◌, ◌∙◌, ◌≡◌, ◌≤◌}
+use Rattle.std.proofs.lemmas.Nat.{pow_pos}
+use Rattle.tmw_search.specs.Nexts.{MayCome}
 use Rattle.tmw_witness.proofs.Kept.{AreLong}
 use Rattle.tmw_witness.proofs.Placed.{placed-more}
 
 -- a number without a bit from a place on has only lower ones
 lower-bits : (n p j : ℕ) → n / 2 ^ p ≡ 0 → bit_at n j ≡ 1 → j < p
 lower-bits n p j none one =
-    let small : n < 1 * 2 ^ p = (div-lt_iff_lt-mul {k = 2 ^ p} {x = n} {y = 1} (pow_some p)).0 (omega (arith, none)) in
+    let small : n < 1 * 2 ^ p = (div-lt_iff_lt-mul {k = 2 ^ p} {x = n} {y = 1} (pow_pos p)).0 (omega (arith, none)) in
     elim (cases_lt j p) [ inl low ↦ low | inr high ↦ absurd (omega (arith, one, bit_at_above n p j (omega (arith, small)) high)) ]
 
 -- What is asked of a transaction that is placed at the end, held or left out.
 pub record MayFollow (xs : List View) (mask p : ℕ) (x : View) (held : Bool) (end : State) (w : Witness) : Type 0 where
   pub room : w.top < 8
   pub few : p < 8
-  pub small : mask < 2 ^ 8
-  pub fits : x.before < 2 ^ 8
   pub at : slice_get xs p ≡ Some x
   pub lower : x.before / 2 ^ p ≡ 0
-  pub next : IsTrue (is_next x p mask)
+  pub next : MayCome x.before p mask
   pub may : IsTrue (may_hold x.status held)
   pub reads : IsTrue (reads_hold (state_of w w.top) x.ops)
   pub to : end ≡ after_writes (state_of w w.top) x.ops
@@ -64,9 +49,8 @@ replayed-more starts xs mask p more x held end w long one_more f those =
     let low : (r : ℕ) → r ≤ w.top → state_of new r ≡ state_of w r = λ r below.
     get_or-set_other w.states (w.top + 1) r end [] (λ same. absurd (omega (arith, below, same))) in
     let last : state_of new (w.top + 1) ≡ end = get_or-set_same w.states (w.top + 1) end [] (omega (arith, states, room)) in
-    let (out, none) = and_parts (bit_at mask p == 0) _ f.next in
-    let unset : bit_at mask p ≡ 0 = eqb-true (bit_at mask p) 0 out in
-    let before = none_left x.before mask f.fits f.small (eqb-true _ 0 none) in
+    let unset = f.next.new in
+    let before = f.next.later in
     let not_here : (j : ℕ) → bit_at mask j ≡ 1 → j ≡ p → ⊥ =
     λ j one same. absurd (let k = rw same at one in omega (arith, k, unset)) in
     placed-more starts xs mask (bit_or mask (1 * 2 ^ p % 2 ^ 8)) p x w new those (record {

@@ -1,16 +1,5 @@
 -- One transaction of a window that has a witness gets an event more: what has to hold of it for the others to stand as before.
-use Rattle.std.proofs.Common.{◌≡◌, ◌+◌, ◌<◌, ◌≤◌, ℕ, zero, suc, Bool, true, false, List, [], ◌∷◌, ◌++◌, length, Some, IsTrue, refl, sym, ap, ◌∙◌, inl, inr, arith}
-use Rattle.std.specs.Int.{bit_at}
-use Rattle.std.specs.Prelude.{slice_get}
-use Rattle.std.proofs.lemmas.Bool.{cases_Bool, cases_lt}
-use Rattle.std.proofs.lemmas.List.{length-append}
-use Rattle.std.proofs.lemmas.Option.{slice_get_within}
-use Rattle.tmw_defs.specs.Opaque.{State, may_hold}
-use Rattle.tmw_cuts.specs.Views.{View, bit}
-use Rattle.tmw_search.proofs.LayersProof.{same_place}
-use Rattle.tmw_search.proofs.LayerSteps.{slice_get_some}
-use Rattle.tmw_witness.specs.Turns.{TurnsAt}
-use Rattle.tmw_witness.specs.Witness.{Stands, HasWriter, IsWitness}
+use Rattle.tmw_witness.proofs.Shared.{Bool, HasWriter, IsTrue, IsWitness, List, Some, Stands, State, TurnsAt, View, [], ap, arith, bit, bit_at, cases_Bool, cases_lt, false, inl, inr, length, length-append, may_hold, refl, same_place, slice_get, slice_get_some, slice_get_within, suc, sym, true, zero, ℕ, ◌++◌, ◌+◌, ◌<◌, ◌∙◌, ◌∷◌, ◌≡◌, ◌≤◌}
 
 -- The new ranks are the old ones but at the place, where they are well told; the states are as before up to a rank that is above all
 -- others.

@@ -72,23 +72,8 @@ impl Witness {
         }
     }
 
-    /// Tells whether an order is known and, as it stands, is one with the next event too. After `false` it may still
-    /// be one.
-    #[inline(always)]
-    pub fn explains(&self, window: &Window, event: Event) -> bool
-        ensures known { IsTrue result → IsTrue self.now.known }
-        ensures stands { IsTrue result → (starts : List State) (events : List Event)
-            → StandsFor window.now events → Witnesses starts (views_of events) self.now
-            → Witnesses starts (views_of (events ++ event ∷ [])) self.now }
-    {
-        match window.open_place(event.thread) {
-            Some(place) => self.explains_open(window, place, event),
-            None => false,
-        }
-    }
-
-    /// Tells whether an order is known and stays one with an event of the transaction at this place, which is open
-    /// for its thread.
+    /// Tells whether an order is known and, as it stands, is one with an event more of the transaction at this place, which is
+    /// open for its thread. After `false` it may still be one.
     #[inline(always)]
     pub fn explains_open(&self, window: &Window, place: usize, event: Event) -> bool
         requires { place < count_of window.now }

@@ -1,16 +1,16 @@
 ghost use Rattle.std.specs.Prelude.{◌≡◌, ◌≤◌, List, IfSome, IsTrue, length, map};
 ghost use Rattle.std.specs.List.{Contains};
 ghost use Rattle.tmw_events.specs.declared.event.Event.{Event};
-ghost use Rattle.tmw_defs.specs.History.{transactions};
 ghost use Rattle.tmw_defs.specs.Opaque.{State};
-ghost use Rattle.tmw_defs.specs.Outcomes.{Ends};
 ghost use Rattle.tmw_cuts.specs.Members.{members};
 ghost use Rattle.tmw_cuts.specs.Standing.{StandsFor, views_of};
 ghost use Rattle.tmw_cuts.specs.Views.{view};
+ghost use Rattle.tmw_search.specs.Ended.{TellsEnd};
 
 use crate::witness::Witness;
 use tmw_cuts::{State, States, Txn, Window};
-use tmw_search::{Step, is_next, may_hold, seek_order};
+use tmw_defs::Criterion;
+use tmw_search::{Step, find_order, is_next, may_hold};
 
 impl Witness {
     ghost use Rattle.tmw_witness.specs.Witnessing.{Witnesses};
@@ -68,37 +68,22 @@ impl Witness {
         self.known = usize::from(mask) + 1 == 1 << items.len();
     }
 
-    /// Looks for a serial order of the window's transactions from one of the states.
-    fn find(&mut self, starts: &States, window: &Window)
-        ensures { (events : List Event) → StandsFor window.now events
+    /// Looks for a legal serial order of the window's transactions, for some completion, from one of the states, and tells
+    /// whether there is one. The order is kept if it is one of all transactions.
+    pub fn finds(&mut self, criterion: Criterion, starts: &States, window: &Window) -> bool
+        ensures tells { TellsEnd criterion starts.now window.now result }
+        ensures known { (events : List Event) → StandsFor window.now events
             → Witnesses (members starts.now) (views_of events) self.new }
     {
         self.known = false;
-        let items = window.transactions();
-        for start in starts.states() {
-            if let Some(steps) = seek_order(items, start) {
-                self.take(items, start, &steps);
-                return;
-            }
-        }
-    }
-
-    /// Tells whether an order of the window's transactions is known. If none is, it guesses one, checks the
-    /// guess and keeps it if it is one. A known order stays as it was.
-    pub fn finds(&mut self, starts: &States, window: &Window) -> bool
-        ensures known { result ≡ self.new.known }
-        ensures keeps { IsTrue self.old.known → self.new ≡ self.old }
-        ensures stays { (events : List Event) → StandsFor window.now events
-            → Witnesses (members starts.now) (views_of events) self.old
-            → Witnesses (members starts.now) (views_of events) self.new }
-        ensures ends { IsTrue result → (events : List Event) → StandsFor window.now events
-            → Witnesses (members starts.now) (views_of events) self.old
-            → (end : State) × Ends (Contains (members starts.now)) (transactions events) end }
-    {
-        if self.is_known() {
+        // Transactions that have an order by opacity have one by strict serializability, and only an order of all is kept.
+        if let Some(order) = find_order(Criterion::Opacity, starts, window) {
+            self.take(window.transactions(), &order.start, &order.steps);
             return true;
         }
-        self.find(starts, window);
-        self.is_known()
+        match criterion {
+            Criterion::Opacity => false,
+            Criterion::Strict => find_order(Criterion::Strict, starts, window).is_some(),
+        }
     }
 }

@@ -1,12 +1,7 @@
 -- Each event that is counted keeps the history well-formed.
-use Rattle.std.proofs.Common.{◌≡◌, ◌<◌, ◌≤◌, ◌+◌, ◌-◌, ◌^◌, ◌++◌, ℕ, List, [], ◌∷◌, length, take, IsTrue, sym, subst, ap, ◌∙◌, arith}
-use Rattle.std.proofs.lemmas.List.{length-take, take_more}
-use Rattle.tmw_counts.specs.Counting.{CountsSo}
-use Rattle.tmw_counts.specs.Parts.{counted_by}
+use Rattle.tmw_counts.proofs.Shared.{CountsSo, Event, IsTrue, List, [], ap, arith, counted_by, is_well_formed, length, length-take, subst, sym, take, take_more, ℕ, ◌++◌, ◌+◌, ◌-◌, ◌<◌, ◌^◌, ◌∙◌, ◌∷◌, ◌≡◌, ◌≤◌}
 use Rattle.tmw_counts.proofs.Covered.{counted_within, formed-part}
 use Rattle.tmw_counts.proofs.Taking.{taken-formed}
-use Rattle.tmw_defs.specs.History.{is_well_formed}
-use Rattle.tmw_events.specs.declared.event.Event.{Event}
 use Rattle.tmw_counts.proofs.whole.count_part.Goals as goal
 
 pub loop-place-preserved : goal.loop-place-preserved

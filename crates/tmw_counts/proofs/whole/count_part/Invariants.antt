@@ -1,7 +1,5 @@
 -- The events so far are counted.
-use Rattle.std.proofs.Common.{◌≡◌, ◌<◌, ◌-◌, ◌^◌, length, take}
-use Rattle.tmw_counts.specs.Counting.{CountsSo}
-use Rattle.tmw_defs.specs.Verdict.{IsVerdict, Rules}
+use Rattle.tmw_counts.proofs.Shared.{CountsSo, IsVerdict, Rules, length, take, ◌-◌, ◌<◌, ◌^◌, ◌≡◌}
 use Rattle.tmw_counts.proofs.whole.count_part.Given as goal
 
 abbrev pub invariant-loop-place : goal.invariant-loop-place

@@ -1,6 +1,5 @@
 -- The mask has the bits of those that are behind.
-use Rattle.std.proofs.Common.{◌≡◌, ◌≤◌, length, map, drop}
-use Rattle.tmw_cuts.specs.Views.{view, completed_mask}
+use Rattle.tmw_cuts.proofs.Shared.{completed_mask, drop, length, map, view, ◌≡◌, ◌≤◌}
 use Rattle.tmw_cuts.proofs.mask.completed_mask.Given as goal
 
 abbrev pub invariant-loop-left : goal.invariant-loop-left

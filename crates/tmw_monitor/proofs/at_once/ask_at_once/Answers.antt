@@ -1,6 +1,5 @@
 -- A quiet event of an open transaction leaves the history open and fine.
-use Rattle.std.proofs.Common.{false, drop, refl, sym, ◌∙◌, inl}
-use Rattle.tmw_cuts.specs.Members.{members}
+use Rattle.tmw_monitor.proofs.Shared.{drop, false, inl, members, refl, sym, ◌∙◌}
 use Rattle.tmw_monitor.proofs.AtOnce.{open-fine}
 use Rattle.tmw_monitor.proofs.at_once.ask_at_once.Goals as goal
 

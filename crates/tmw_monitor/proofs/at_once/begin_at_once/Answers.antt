@@ -1,7 +1,5 @@
 -- An event that begins a transaction is quiet and leads to no cut, and the window has room for it.
-use Rattle.std.proofs.Common.{true, drop, refl, sym, ◌∙◌, inl, arith}
-use Rattle.std.specs.List.{Contains}
-use Rattle.tmw_cuts.specs.Members.{members}
+use Rattle.tmw_monitor.proofs.Shared.{Contains, arith, drop, inl, members, refl, sym, true, ◌∙◌}
 use Rattle.tmw_monitor.proofs.AtOnce.{open-fine}
 use Rattle.tmw_monitor.proofs.Opening.{notes_open}
 use Rattle.tmw_monitor.proofs.at_once.begin_at_once.Goals as goal

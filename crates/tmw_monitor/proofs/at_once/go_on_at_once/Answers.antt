@@ -1,17 +1,8 @@
 -- An event that the order which is kept explains leaves the history open and fine; where it ends the only transaction, the order leads to
 -- the only outcome.
-use Rattle.std.proofs.Common.{◌≡◌, ◌++◌, ◌∷◌, [], false, drop, refl, sym, ◌∙◌, inr, arith}
-use Rattle.std.specs.List.{Contains}
-use Rattle.tmw_defs.specs.History.{transactions}
-use Rattle.tmw_defs.specs.Outcomes.{Ends}
-use Rattle.tmw_wellformed.specs.Tracks.{Tracks}
-use Rattle.tmw_cuts.specs.Members.{members}
-use Rattle.tmw_cuts.specs.Standing.{views_of}
-use Rattle.tmw_cuts.proofs.FirstMembers.{contains_here}
+use Rattle.tmw_monitor.proofs.Shared.{Contains, Ends, Tracks, [], arith, committed_of, contains_here, drop, ends-by, false, inr, members, rank_of, refl, state_of, sym, transactions, views_of, ◌++◌, ◌∙◌, ◌∷◌, ◌≡◌}
 use Rattle.tmw_search.proofs.WindowViews.{shows-views_of}
-use Rattle.tmw_witness.specs.Witnessing.{rank_of, committed_of, state_of}
 use Rattle.tmw_witness.proofs.Path.{witness-ends}
-use Rattle.tmw_defs.proofs.Weaker.{ends-by}
 use Rattle.tmw_monitor.proofs.AtOnce.{open-fine, last-fine}
 use Rattle.tmw_monitor.proofs.at_once.go_on_at_once.Goals as goal
 

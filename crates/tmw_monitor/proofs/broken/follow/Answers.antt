@@ -1,4 +1,4 @@
-use Rattle.std.proofs.Common.{sym, ◌∙◌}
+use Rattle.tmw_monitor.proofs.Shared.{sym, ◌∙◌}
 use Rattle.tmw_monitor.proofs.Breaking.{broken-here, tracked-stays, tracks-still}
 use Rattle.tmw_monitor.proofs.broken.follow.Goals as goal
 

@@ -1,8 +1,5 @@
 -- The monitor was fed one event more.
-use Rattle.std.proofs.Common.{◌≡◌, ◌+◌, List, [], ◌∷◌, ◌++◌, take, subst, sym, ap, ◌∙◌}
-use Rattle.std.proofs.lemmas.List.{take_more}
-use Rattle.tmw_events.specs.declared.event.Event.{Event}
-use Rattle.tmw_monitor.specs.Fitting.{Fits, rules_for}
+use Rattle.tmw_monitor.proofs.Shared.{Event, Fits, List, [], ap, rules_for, subst, sym, take, take_more, ◌++◌, ◌+◌, ◌∙◌, ◌∷◌, ◌≡◌}
 use Rattle.tmw_monitor.proofs.judging.judge_for.Goals as goal
 
 pub loop-event-preserved : goal.loop-event-preserved

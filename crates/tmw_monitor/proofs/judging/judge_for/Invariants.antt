@@ -1,6 +1,5 @@
 -- The monitor has been fed the events so far.
-use Rattle.std.proofs.Common.{take}
-use Rattle.tmw_monitor.specs.Fitting.{Fits, rules_for}
+use Rattle.tmw_monitor.proofs.Shared.{Fits, rules_for, take}
 use Rattle.tmw_monitor.proofs.judging.judge_for.Given as goal
 
 abbrev pub invariant-loop-event : goal.invariant-loop-event

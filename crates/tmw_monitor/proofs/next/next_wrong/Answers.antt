@@ -1,26 +1,11 @@
 -- An event that is refused makes the history ill-formed, one that begins one transaction too many makes the window too wide, and else
 -- what is found of the window tells the verdict.
-use Rattle.std.proofs.Common.{◌≡◌, true, false, List, [], ◌∷◌, ◌++◌, length, drop, refl, sym, subst, ◌∙◌, arith}
-use Rattle.std.specs.List.{Contains}
-use Rattle.tmw_defs.specs.History.{transactions}
-use Rattle.tmw_defs.specs.Opaque.{State}
-use Rattle.tmw_defs.specs.Summary.{SumsUp}
-use Rattle.tmw_defs.proofs.VerdictProof.{verdict-malformed, verdict-wide}
-use Rattle.tmw_wellformed.specs.Tracks.{Tracks}
-use Rattle.tmw_cuts.specs.Members.{members}
-use Rattle.tmw_cuts.specs.Standing.{views_of}
-use Rattle.tmw_witness.specs.Witnessing.{Witnesses}
+use Rattle.tmw_monitor.proofs.Shared.{Contains, List, State, SumsUp, Tracks, Witnesses, [], arith, drop, false, length, members, refl, subst, sym, transactions, true, verdict-wide, views_of, ◌++◌, ◌∙◌, ◌∷◌, ◌≡◌}
 use Rattle.tmw_monitor.proofs.Opening.{notes_open, cut_open, narrow-push, wide-push}
 use Rattle.tmw_monitor.proofs.SoFar.{so_far-apart}
 use Rattle.tmw_monitor.proofs.Told.{follows-told}
 use Rattle.tmw_monitor.proofs.next.next_wrong.Goals.{else-note-via-then-note+else-count-bounds, else-note-via-else-note}
 use Rattle.tmw_monitor.proofs.next.next_wrong.Goals as goal
-
-pub returns-in_default-clause-ok : goal.returns-in_default-clause-ok
-returns-in_default-clause-ok c rules history criterion window states at keeps =
-    let S = Contains (members c.args.kept.now.states) in
-    let ill_formed = (c.in_default.ensures.refuses rules.registers history keeps.tracks).ill_formed in
-    (rw at (verdict-malformed rules S keeps.cut history c.args.event keeps.sums_up ill_formed), so_far-apart rules.criterion _ (λ is. cc) (λ is. cc))
 
 pub returns-then-count-bounds-clause-ok : goal.returns-then-count-bounds-clause-ok
 returns-then-count-bounds-clause-ok c rules history criterion window states at keeps =

@@ -1,10 +1,5 @@
 -- The first of the states is one of them.
-use Rattle.std.proofs.Common.{◌≡◌, List, [], ◌∷◌, Some, subst, sym, ◌∙◌}
-use Rattle.std.specs.List.{Contains}
-use Rattle.std.specs.Prelude.{slice_get}
-use Rattle.tmw_defs.specs.Opaque.{State}
-use Rattle.tmw_cuts.specs.Members.{members}
-use Rattle.tmw_cuts.proofs.FirstMembers.{contains_here}
+use Rattle.tmw_monitor.proofs.Shared.{Contains, List, Some, State, [], contains_here, members, slice_get, subst, sym, ◌∙◌, ◌∷◌, ◌≡◌}
 use Rattle.tmw_monitor.proofs.weigh.begin_again.Goals as goal
 
 first_contained : (xs : List State) (x : State) → slice_get xs 0 ≡ Some x → Contains xs x

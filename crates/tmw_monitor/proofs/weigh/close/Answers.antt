@@ -1,17 +1,5 @@
 -- No outcome is a violation, and else the set becomes that of the outcomes.
-use Rattle.std.proofs.Common.{◌≡◌, true, false, List, [], ◌∷◌, Option, Some, None, IfSome, refl, sym, subst, ◌∙◌, inr, arith}
-use Rattle.std.specs.List.{Contains}
-use Rattle.tmw_events.specs.declared.event.Event.{Event}
-use Rattle.tmw_defs.specs.History.{transactions}
-use Rattle.tmw_defs.specs.Outcomes.{Ends}
-use Rattle.tmw_defs.specs.declared.criterion.Criterion.{Criterion}
-use Rattle.tmw_defs.specs.Opaque.{State}
-use Rattle.tmw_defs.proofs.Weaker.{ends-by}
-use Rattle.tmw_cuts.specs.Members.{members}
-use Rattle.tmw_cuts.specs.declared.states.States.{States}
-use Rattle.tmw_cuts.specs.Standing.{views_of}
-use Rattle.tmw_search.specs.Ended.{EndsOf}
-use Rattle.tmw_witness.specs.Witnessing.{Witnesses}
+use Rattle.tmw_monitor.proofs.Shared.{Contains, Criterion, Ends, EndsOf, Event, IfSome, List, None, Option, Some, State, States, Witnesses, [], arith, ends-by, false, inr, members, refl, subst, sym, transactions, true, views_of, ◌∙◌, ◌∷◌, ◌≡◌}
 use Rattle.tmw_witness.specs.declared.witness.Witness.{Witness}
 use Rattle.tmw_monitor.proofs.weigh.close.Goals as goal
 

@@ -1,6 +1,4 @@
-use Rattle.std.proofs.Common.{◌≡◌, ◌++◌, drop}
-use Rattle.std.specs.List.{flat_map}
-use Rattle.tmw_part.specs.Candidates.{firsts}
+use Rattle.tmw_part.proofs.Shared.{drop, firsts, flat_map, ◌++◌, ◌≡◌}
 use Rattle.tmw_part.proofs.candidates.push_all_firsts.Given as goal
 
 abbrev pub invariant-loop-source : goal.invariant-loop-source

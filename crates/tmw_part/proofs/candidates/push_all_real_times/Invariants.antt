@@ -1,6 +1,4 @@
-use Rattle.std.proofs.Common.{◌≡◌, ◌++◌, drop}
-use Rattle.std.specs.List.{flat_map}
-use Rattle.tmw_part.specs.Candidates.{real_times}
+use Rattle.tmw_part.proofs.Shared.{drop, flat_map, real_times, ◌++◌, ◌≡◌}
 use Rattle.tmw_part.proofs.candidates.push_all_real_times.Given as goal
 
 abbrev pub invariant-loop-one : goal.invariant-loop-one

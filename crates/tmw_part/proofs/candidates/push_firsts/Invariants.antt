@@ -1,6 +1,4 @@
-use Rattle.std.proofs.Common.{◌≡◌, ◌++◌, drop}
-use Rattle.std.specs.List.{flat_map}
-use Rattle.tmw_part.specs.Candidates.{firsts_with}
+use Rattle.tmw_part.proofs.Shared.{drop, firsts_with, flat_map, ◌++◌, ◌≡◌}
 use Rattle.tmw_part.proofs.candidates.push_firsts.Given as goal
 
 abbrev pub invariant-loop-rival : goal.invariant-loop-rival

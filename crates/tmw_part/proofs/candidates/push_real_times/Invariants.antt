@@ -1,5 +1,4 @@
-use Rattle.std.proofs.Common.{◌≡◌, ◌++◌, drop, map}
-use Rattle.tmw_part.specs.declared.step.Step.TheVariants.{RealTime}
+use Rattle.tmw_part.proofs.Shared.{RealTime, drop, map, ◌++◌, ◌≡◌}
 use Rattle.tmw_part.proofs.candidates.push_real_times.Given as goal
 
 abbrev pub invariant-loop-other : goal.invariant-loop-other

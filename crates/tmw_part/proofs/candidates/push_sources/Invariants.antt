@@ -1,5 +1,4 @@
-use Rattle.std.proofs.Common.{◌≡◌, ◌++◌, drop, map}
-use Rattle.tmw_part.specs.declared.step.Step.TheVariants.{From}
+use Rattle.tmw_part.proofs.Shared.{From, drop, map, ◌++◌, ◌≡◌}
 use Rattle.tmw_part.proofs.candidates.push_sources.Given as goal
 
 abbrev pub invariant-loop-source : goal.invariant-loop-source

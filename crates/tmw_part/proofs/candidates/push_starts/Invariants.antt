@@ -1,7 +1,4 @@
-use Rattle.std.proofs.Common.{◌≡◌, ◌++◌, not, drop, map}
-use Rattle.std.specs.List.{filter}
-use Rattle.tmw_part.specs.declared.step.Step.TheVariants.{From}
-use Rattle.tmw_part.specs.Steps.{has_writer}
+use Rattle.tmw_part.proofs.Shared.{From, drop, filter, has_writer, map, not, ◌++◌, ◌≡◌}
 use Rattle.tmw_part.proofs.candidates.push_starts.Given as goal
 
 abbrev pub invariant-loop-source : goal.invariant-loop-source

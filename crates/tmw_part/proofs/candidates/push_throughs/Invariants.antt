@@ -1,6 +1,4 @@
-use Rattle.std.proofs.Common.{◌≡◌, ◌++◌, drop}
-use Rattle.std.specs.List.{flat_map}
-use Rattle.tmw_part.specs.Candidates.{throughs_between}
+use Rattle.tmw_part.proofs.Shared.{drop, flat_map, throughs_between, ◌++◌, ◌≡◌}
 use Rattle.tmw_part.proofs.candidates.push_throughs.Given as goal
 
 abbrev pub invariant-loop-between : goal.invariant-loop-between

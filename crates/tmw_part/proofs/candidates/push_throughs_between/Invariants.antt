@@ -1,5 +1,4 @@
-use Rattle.std.proofs.Common.{◌≡◌, ◌++◌, drop, map}
-use Rattle.tmw_part.specs.declared.step.Step.TheVariants.{Through}
+use Rattle.tmw_part.proofs.Shared.{Through, drop, map, ◌++◌, ◌≡◌}
 use Rattle.tmw_part.proofs.candidates.push_throughs_between.Given as goal
 
 abbrev pub invariant-loop-other : goal.invariant-loop-other

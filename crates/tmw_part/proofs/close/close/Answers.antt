@@ -1,9 +1,4 @@
-use Rattle.std.proofs.Common.{◌≡◌, Some, sym, ◌∙◌, inl, inr, subst}
-use Rattle.std.specs.List.{Contains}
-use Rattle.std.proofs.lemmas.List.Elements.{Contains-push_cases}
-use Rattle.std.specs.Prelude.{find}
-use Rattle.tmw_part.specs.Candidates.{is_new}
-use Rattle.tmw_part.specs.Shown.{txns_of}
+use Rattle.tmw_part.proofs.Shared.{Contains, Contains-push_cases, Some, find, inl, inr, is_new, subst, sym, txns_of, ◌∙◌, ◌≡◌}
 use Rattle.tmw_part.proofs.Closing.{untold-falls, derives-new}
 use Rattle.tmw_part.proofs.ListFacts.{contains-found}
 use Rattle.tmw_part.proofs.close.close.Goals as goal

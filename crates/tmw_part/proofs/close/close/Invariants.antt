@@ -1,7 +1,4 @@
-use Rattle.std.specs.List.{Contains}
-use Rattle.tmw_part.specs.declared.step.Step.{Step}
-use Rattle.tmw_part.specs.Shown.{txns_of}
-use Rattle.tmw_part.specs.Steps.{Derives}
+use Rattle.tmw_part.proofs.Shared.{Contains, Derives, Step, txns_of}
 use Rattle.tmw_part.proofs.Closing.{untold}
 use Rattle.tmw_part.proofs.close.close.Given as goal
 

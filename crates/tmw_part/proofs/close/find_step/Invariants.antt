@@ -1,7 +1,4 @@
-use Rattle.std.proofs.Common.{◌≡◌, drop}
-use Rattle.std.specs.Prelude.{find}
-use Rattle.tmw_part.specs.Candidates.{is_new}
-use Rattle.tmw_part.specs.Shown.{txns_of}
+use Rattle.tmw_part.proofs.Shared.{drop, find, is_new, txns_of, ◌≡◌}
 use Rattle.tmw_part.proofs.close.find_step.Given as goal
 
 abbrev pub invariant-loop-candidate : goal.invariant-loop-candidate

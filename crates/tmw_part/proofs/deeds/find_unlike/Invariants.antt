@@ -1,6 +1,4 @@
-use Rattle.std.proofs.Common.{◌≡◌, None, length}
-use Rattle.tmw_defs.specs.History.{operations}
-use Rattle.tmw_part.specs.Unlike.{first_unlike}
+use Rattle.tmw_part.proofs.Shared.{None, first_unlike, length, operations, ◌≡◌}
 use Rattle.tmw_part.proofs.deeds.find_unlike.Given as goal
 
 abbrev pub invariant-loop-rest : goal.invariant-loop-rest

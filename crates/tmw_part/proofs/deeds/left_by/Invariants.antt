@@ -1,6 +1,4 @@
-use Rattle.std.proofs.Common.{◌≡◌, None, length}
-use Rattle.tmw_defs.specs.History.{operations}
-use Rattle.tmw_cuts.specs.Written.{left_by}
+use Rattle.tmw_part.proofs.Shared.{None, left_by, length, operations, ◌≡◌}
 use Rattle.tmw_part.proofs.deeds.left_by.Given as goal
 
 abbrev pub invariant-loop-rest : goal.invariant-loop-rest

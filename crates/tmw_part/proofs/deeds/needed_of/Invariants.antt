@@ -1,6 +1,4 @@
-use Rattle.std.proofs.Common.{◌≡◌, length}
-use Rattle.tmw_defs.specs.History.{operations}
-use Rattle.tmw_part.specs.Steps.{needed_of}
+use Rattle.tmw_part.proofs.Shared.{length, needed_of, operations, ◌≡◌}
 use Rattle.tmw_part.proofs.deeds.needed_of.Given as goal
 
 abbrev pub invariant-loop-rest : goal.invariant-loop-rest

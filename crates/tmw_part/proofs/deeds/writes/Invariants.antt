@@ -1,6 +1,4 @@
-use Rattle.std.proofs.Common.{◌≡◌, length}
-use Rattle.tmw_defs.specs.History.{operations}
-use Rattle.tmw_cuts.specs.Written.{writes}
+use Rattle.tmw_part.proofs.Shared.{length, operations, writes, ◌≡◌}
 use Rattle.tmw_part.proofs.deeds.writes.Given as goal
 
 abbrev pub invariant-loop-rest : goal.invariant-loop-rest

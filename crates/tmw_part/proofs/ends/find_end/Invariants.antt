@@ -1,7 +1,4 @@
-use Rattle.std.proofs.Common.{◌≡◌, drop}
-use Rattle.std.specs.Prelude.{find}
-use Rattle.tmw_part.specs.Shown.{txns_of}
-use Rattle.tmw_part.specs.Steps.{contradicts}
+use Rattle.tmw_part.proofs.Shared.{contradicts, drop, find, txns_of, ◌≡◌}
 use Rattle.tmw_part.proofs.ends.find_end.Given as goal
 
 abbrev pub invariant-loop-end : goal.invariant-loop-end

@@ -1,5 +1,4 @@
-use Rattle.std.proofs.Common.{◌≡◌, ◌++◌, drop, map}
-use Rattle.tmw_part.specs.declared.step.Contradiction.TheVariants.{Cycle}
+use Rattle.tmw_part.proofs.Shared.{Cycle, drop, map, ◌++◌, ◌≡◌}
 use Rattle.tmw_part.proofs.ends.push_cycles.Given as goal
 
 abbrev pub invariant-loop-place : goal.invariant-loop-place

@@ -1,7 +1,4 @@
-use Rattle.std.proofs.Common.{◌≡◌, ◌++◌, drop}
-use Rattle.std.specs.List.{flat_map}
-use Rattle.tmw_part.specs.Candidates.{unlikes_at}
-use Rattle.tmw_part.specs.Shown.{txns_of}
+use Rattle.tmw_part.proofs.Shared.{drop, flat_map, txns_of, unlikes_at, ◌++◌, ◌≡◌}
 use Rattle.tmw_part.proofs.ends.push_unlikes.Given as goal
 
 abbrev pub invariant-loop-reader : goal.invariant-loop-reader

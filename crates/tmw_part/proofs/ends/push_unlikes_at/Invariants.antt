@@ -1,6 +1,4 @@
-use Rattle.std.proofs.Common.{◌≡◌, ◌++◌, drop}
-use Rattle.tmw_part.specs.Candidates.{unlikes_at}
-use Rattle.tmw_part.specs.Shown.{txns_of}
+use Rattle.tmw_part.proofs.Shared.{drop, txns_of, unlikes_at, ◌++◌, ◌≡◌}
 use Rattle.tmw_part.proofs.ends.push_unlikes_at.Given as goal
 
 abbrev pub invariant-loop-register : goal.invariant-loop-register

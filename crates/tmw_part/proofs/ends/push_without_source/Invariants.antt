@@ -1,5 +1,4 @@
-use Rattle.std.proofs.Common.{◌≡◌, ◌++◌, drop, map}
-use Rattle.tmw_part.specs.Candidates.{without_source}
+use Rattle.tmw_part.proofs.Shared.{drop, map, without_source, ◌++◌, ◌≡◌}
 use Rattle.tmw_part.proofs.ends.push_without_source.Given as goal
 
 abbrev pub invariant-loop-source : goal.invariant-loop-source

@@ -1,6 +1,4 @@
-use Rattle.std.proofs.Common.{rules, ◌≡◌}
-use Rattle.tmw_cuts.specs.Members.{members}
-use Rattle.tmw_part.specs.Kept.{all_kept}
+use Rattle.tmw_part.proofs.Shared.{all_kept, members, rules, ◌≡◌}
 use Rattle.tmw_part.proofs.Violation.{violated-whole}
 use Rattle.tmw_part.proofs.find.find_part.Goals as goal
 

@@ -1,6 +1,4 @@
-use Rattle.std.proofs.Common.{◌≡◌, List, Bool, All, sym, subst}
-use Rattle.tmw_cuts.specs.Members.{members}
-use Rattle.tmw_part.specs.Finding.{IsNeeded}
+use Rattle.tmw_part.proofs.Shared.{All, Bool, IsNeeded, List, members, subst, sym, ◌≡◌}
 use Rattle.tmw_part.proofs.find.take_all_out.Goals as goal
 
 pub loop-took-preserved : goal.loop-took-preserved

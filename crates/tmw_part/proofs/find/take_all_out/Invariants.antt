@@ -1,8 +1,4 @@
-use Rattle.std.proofs.Common.{◌+◌, All, length}
-use Rattle.std.specs.Prelude.{IsFalse, if◌then◌else◌}
-use Rattle.tmw_cuts.specs.Members.{members}
-use Rattle.tmw_part.specs.Finding.{IsNeeded, IsViolatedPart}
-use Rattle.tmw_part.specs.Kept.{kept_of}
+use Rattle.tmw_part.proofs.Shared.{All, IsFalse, IsNeeded, IsViolatedPart, if◌then◌else◌, kept_of, length, members, ◌+◌}
 use Rattle.tmw_part.proofs.find.take_all_out.Given as goal
 
 abbrev pub invariant-loop-took : goal.invariant-loop-took

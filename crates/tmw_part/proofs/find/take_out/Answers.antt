@@ -1,9 +1,4 @@
-use Rattle.std.proofs.Common.{◌≡◌, ◌∙◌, true, false, sym, inl, inr, arith}
-use Rattle.std.proofs.lemmas.Bool.{cases_Bool}
-use Rattle.std.proofs.lemmas.List.{take_all}
-use Rattle.std.proofs.lemmas.List.Elements.{All-more}
-use Rattle.tmw_cuts.specs.Members.{members}
-use Rattle.tmw_part.specs.Finding.{IsNeeded}
+use Rattle.tmw_part.proofs.Shared.{All-more, IsNeeded, arith, cases_Bool, false, inl, inr, members, sym, take_all, true, ◌∙◌, ◌≡◌}
 use Rattle.tmw_part.proofs.find.take_out.Goals.{in-Some, in_default}
 use Rattle.tmw_part.proofs.find.take_out.Goals as goal
 

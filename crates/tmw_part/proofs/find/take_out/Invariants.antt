@@ -1,8 +1,4 @@
-use Rattle.std.proofs.Common.{◌≡◌, ◌<◌, All, IsTrue, length, take}
-use Rattle.std.specs.Prelude.{IsFalse}
-use Rattle.tmw_cuts.specs.Members.{members}
-use Rattle.tmw_part.specs.Finding.{IsNeeded, IsViolatedPart}
-use Rattle.tmw_part.specs.Kept.{kept_of}
+use Rattle.tmw_part.proofs.Shared.{All, IsFalse, IsNeeded, IsTrue, IsViolatedPart, kept_of, length, members, take, ◌<◌, ◌≡◌}
 use Rattle.tmw_part.proofs.find.take_out.Given as goal
 
 abbrev pub invariant-loop-piece : goal.invariant-loop-piece

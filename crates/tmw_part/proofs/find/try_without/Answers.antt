@@ -1,4 +1,4 @@
-use Rattle.std.proofs.Common.{◌∙◌, sym, inl}
+use Rattle.tmw_part.proofs.Shared.{inl, sym, ◌∙◌}
 use Rattle.tmw_part.proofs.Fewer.{length-without, fewer-kept, same-marks}
 use Rattle.tmw_part.proofs.find.try_without.Goals as goal
 

@@ -1,5 +1,4 @@
-use Rattle.std.proofs.Common.{◌&&◌, ap, ◌∙◌}
-use Rattle.tmw_part.specs.Steps.{begins_before, has_writer, is_before}
+use Rattle.tmw_part.proofs.Shared.{ap, begins_before, has_writer, is_before, ◌&&◌, ◌∙◌}
 use Rattle.tmw_part.proofs.follows.follows.Goals as goal
 
 pub returns-then-is_known_rival : goal.returns-then-is_known_rival

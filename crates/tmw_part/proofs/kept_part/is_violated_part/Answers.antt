@@ -1,5 +1,4 @@
-use Rattle.std.proofs.Common.{◌∙◌, sym}
-use Rattle.tmw_cuts.specs.Members.{members}
+use Rattle.tmw_part.proofs.Shared.{members, sym, ◌∙◌}
 use Rattle.tmw_part.proofs.Violation.{told-part, told-fails}
 use Rattle.tmw_part.proofs.kept_part.is_violated_part.Goals as goal
 

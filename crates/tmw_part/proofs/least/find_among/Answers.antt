@@ -1,9 +1,4 @@
-use Rattle.std.proofs.Common.{◌≡◌, ◌++◌, true, false, None, inl, inr, sym, ap, ◌∙◌}
-use Rattle.std.specs.Prelude.{find}
-use Rattle.std.proofs.lemmas.List.Elements.{Contains-append_cases}
-use Rattle.tmw_part.specs.Candidates.{is_new}
-use Rattle.tmw_part.specs.Shown.{txns_of}
-use Rattle.tmw_part.specs.Steps.{contradicts}
+use Rattle.tmw_part.proofs.Shared.{Contains-append_cases, None, ap, contradicts, false, find, inl, inr, is_new, sym, true, txns_of, ◌++◌, ◌∙◌, ◌≡◌}
 use Rattle.tmw_part.proofs.Closing.{found_passes}
 use Rattle.tmw_part.proofs.Complete.{tells_none}
 use Rattle.tmw_part.proofs.least.find_among.Goals as goal

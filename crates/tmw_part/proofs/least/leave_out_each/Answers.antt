@@ -1,8 +1,4 @@
-use Rattle.std.proofs.Common.{◌≡◌, ◌-◌, subst, inl, inr, arith}
-use Rattle.std.specs.Prelude.{remove}
-use Rattle.std.proofs.lemmas.Bool.{cases_lt}
-use Rattle.tmw_part.specs.Found.{TellNoReason}
-use Rattle.tmw_part.specs.Shown.{txns_of}
+use Rattle.tmw_part.proofs.Shared.{TellNoReason, arith, cases_lt, inl, inr, remove, subst, txns_of, ◌-◌, ◌≡◌}
 use Rattle.tmw_part.proofs.least.leave_out_each.Goals as goal
 
 pub loop-place-preserved : goal.loop-place-preserved

@@ -1,7 +1,4 @@
-use Rattle.std.proofs.Common.{◌≡◌, ◌<◌, ◌≤◌, ℕ, IsTrue, length}
-use Rattle.std.specs.Prelude.{IsFalse, remove}
-use Rattle.tmw_part.specs.Found.{TellNoReason, TellReason}
-use Rattle.tmw_part.specs.Shown.{txns_of}
+use Rattle.tmw_part.proofs.Shared.{IsFalse, IsTrue, TellNoReason, TellReason, length, remove, txns_of, ℕ, ◌<◌, ◌≡◌, ◌≤◌}
 use Rattle.tmw_part.proofs.least.leave_out_each.Given as goal
 
 abbrev pub invariant-loop-place : goal.invariant-loop-place

@@ -1,7 +1,4 @@
-use Rattle.std.proofs.Common.{◌+◌, ◌<◌, ℕ, length}
-use Rattle.std.specs.Prelude.{IsFalse, remove, if◌then◌else◌}
-use Rattle.tmw_part.specs.Found.{TellNoReason, TellReason}
-use Rattle.tmw_part.specs.Shown.{txns_of}
+use Rattle.tmw_part.proofs.Shared.{IsFalse, TellNoReason, TellReason, if◌then◌else◌, length, remove, txns_of, ℕ, ◌+◌, ◌<◌}
 use Rattle.tmw_part.proofs.least.narrow.Given as goal
 
 abbrev pub invariant-loop-more : goal.invariant-loop-more

@@ -1,6 +1,4 @@
-use Rattle.std.proofs.Common.{◌≡◌, drop}
-use Rattle.tmw_defs.specs.History.{operations}
-use Rattle.tmw_part.specs.Test.{agree}
+use Rattle.tmw_part.proofs.Shared.{agree, drop, operations, ◌≡◌}
 use Rattle.tmw_part.proofs.left.agree.Given as goal
 
 abbrev pub invariant-loop-op : goal.invariant-loop-op

@@ -1,5 +1,4 @@
-use Rattle.std.proofs.Common.{◌≡◌, drop}
-use Rattle.tmw_part.specs.Shown.{answers_none}
+use Rattle.tmw_part.proofs.Shared.{answers_none, drop, ◌≡◌}
 use Rattle.tmw_part.proofs.left.answers_none.Given as goal
 
 abbrev pub invariant-loop-op : goal.invariant-loop-op

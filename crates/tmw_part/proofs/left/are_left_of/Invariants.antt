@@ -1,6 +1,4 @@
-use Rattle.std.proofs.Common.{◌≡◌, length}
-use Rattle.tmw_part.specs.Test.{are_left_of}
-use Rattle.tmw_part.specs.Shown.{shown, txns_of, unread_in}
+use Rattle.tmw_part.proofs.Shared.{are_left_of, length, shown, txns_of, unread_in, ◌≡◌}
 use Rattle.tmw_part.proofs.left.are_left_of.Given as goal
 
 abbrev pub invariant-loop-ones : goal.invariant-loop-ones

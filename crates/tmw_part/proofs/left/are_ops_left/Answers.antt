@@ -1,9 +1,5 @@
-use Rattle.std.proofs.Common.{◌≡◌, ℕ, ◌<◌, ◌==◌, Bool, List, [], ◌∷◌, length, refl, sym, inl, inr, arith}
-use Rattle.std.proofs.lemmas.Bool.{cases_Bool, eqb-true}
+use Rattle.tmw_part.proofs.Shared.{Bool, List, Op, [], are_ops_left, arith, cases_Bool, eqb-true, inl, inr, length, refl, sym, unread_in, ℕ, ◌<◌, ◌==◌, ◌∷◌, ◌≡◌}
 use Rattle.std.proofs.lemmas.Grind.{common_steps}
-use Rattle.tmw_defs.specs.declared.op.Op.{Op}
-use Rattle.tmw_part.specs.Test.{are_ops_left}
-use Rattle.tmw_part.specs.Shown.{unread_in}
 use Rattle.tmw_part.proofs.left.are_ops_left.Goals as goal
 
 -- the end of the loop

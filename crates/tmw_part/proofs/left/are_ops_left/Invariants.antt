@@ -1,6 +1,4 @@
-use Rattle.std.proofs.Common.{◌≡◌, length}
-use Rattle.tmw_part.specs.Test.{are_ops_left}
-use Rattle.tmw_part.specs.Shown.{unread_in}
+use Rattle.tmw_part.proofs.Shared.{are_ops_left, length, unread_in, ◌≡◌}
 use Rattle.tmw_part.proofs.left.are_ops_left.Given as goal
 
 abbrev pub invariant-loop-rest : goal.invariant-loop-rest

@@ -1,6 +1,4 @@
-use Rattle.std.proofs.Common.{◌≡◌, length}
-use Rattle.tmw_part.specs.Test.{are_same_rows}
-use Rattle.tmw_part.specs.Shown.{shown, txns_of}
+use Rattle.tmw_part.proofs.Shared.{are_same_rows, length, shown, txns_of, ◌≡◌}
 use Rattle.tmw_part.proofs.left.are_same_rows.Given as goal
 
 abbrev pub invariant-loop-ones : goal.invariant-loop-ones

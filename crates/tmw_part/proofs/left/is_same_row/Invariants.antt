@@ -1,6 +1,4 @@
-use Rattle.std.proofs.Common.{◌≡◌, length}
-use Rattle.tmw_part.specs.Test.{is_same_row}
-use Rattle.tmw_part.specs.Shown.{shown, txn_of, txns_of}
+use Rattle.tmw_part.proofs.Shared.{is_same_row, length, shown, txn_of, txns_of, ◌≡◌}
 use Rattle.tmw_part.proofs.left.is_same_row.Given as goal
 
 abbrev pub invariant-loop-ones : goal.invariant-loop-ones

@@ -1,5 +1,4 @@
-use Rattle.std.proofs.Common.{◌≡◌, drop}
-use Rattle.tmw_part.specs.Shown.{unread_in}
+use Rattle.tmw_part.proofs.Shared.{drop, unread_in, ◌≡◌}
 use Rattle.tmw_part.proofs.left.is_unread.Given as goal
 
 abbrev pub invariant-loop-transaction : goal.invariant-loop-transaction

@@ -1,5 +1,4 @@
-use Rattle.std.proofs.Common.{◌≡◌, drop}
-use Rattle.tmw_part.specs.Shown.{may_all_go, unread_in}
+use Rattle.tmw_part.proofs.Shared.{drop, may_all_go, unread_in, ◌≡◌}
 use Rattle.tmw_part.proofs.left.may_all_go.Given as goal
 
 abbrev pub invariant-loop-op : goal.invariant-loop-op

@@ -1,4 +1,4 @@
-use Rattle.std.proofs.Common.{sym}
+use Rattle.tmw_part.proofs.Shared.{sym}
 use Rattle.tmw_part.proofs.Marking.{keeps_last-got}
 use Rattle.tmw_part.proofs.marks.keeps_last.Goals as goal
 

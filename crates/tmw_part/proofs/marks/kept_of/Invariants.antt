@@ -1,5 +1,4 @@
-use Rattle.std.proofs.Common.{◌≡◌, ◌++◌, length}
-use Rattle.tmw_part.specs.Kept.{kept_of}
+use Rattle.tmw_part.proofs.Shared.{kept_of, length, ◌++◌, ◌≡◌}
 use Rattle.tmw_part.proofs.marks.kept_of.Given as goal
 
 abbrev pub invariant-loop-rest_marks : goal.invariant-loop-rest_marks

@@ -1,6 +1,4 @@
-use Rattle.std.proofs.Common.{◌≡◌, length}
-use Rattle.tmw_part.specs.Kept.{may_miss_all}
-use Rattle.tmw_part.specs.Shown.{txns_of}
+use Rattle.tmw_part.proofs.Shared.{length, may_miss_all, txns_of, ◌≡◌}
 use Rattle.tmw_part.proofs.marks.may_miss_all.Given as goal
 
 abbrev pub invariant-loop-rest_marks : goal.invariant-loop-rest_marks

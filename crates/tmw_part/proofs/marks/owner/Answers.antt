@@ -1,7 +1,4 @@
-use Rattle.std.proofs.Common.{ap, sym, ◌∙◌, length}
-use Rattle.std.proofs.lemmas.List.{length-map}
-use Rattle.tmw_part.specs.Kept.{lies_in, number_or}
-use Rattle.tmw_part.specs.Shown.{txn_of, txns_of}
+use Rattle.tmw_part.proofs.Shared.{ap, length, length-map, lies_in, number_or, sym, txn_of, txns_of, ◌∙◌}
 use Rattle.tmw_part.proofs.Marking.{position-map}
 use Rattle.tmw_part.proofs.marks.owner.Goals as goal
 

@@ -1,6 +1,4 @@
-use Rattle.std.proofs.Common.{◌≡◌, ◌++◌, drop}
-use Rattle.tmw_part.specs.Kept.{owners_among}
-use Rattle.tmw_part.specs.Shown.{txns_of}
+use Rattle.tmw_part.proofs.Shared.{drop, owners_among, txns_of, ◌++◌, ◌≡◌}
 use Rattle.tmw_part.proofs.marks.owners.Given as goal
 
 abbrev pub invariant-loop-transaction : goal.invariant-loop-transaction

@@ -1,5 +1,4 @@
-use Rattle.std.proofs.Common.{◌≡◌, ◌++◌, drop}
-use Rattle.tmw_part.specs.Kept.{places_from}
+use Rattle.tmw_part.proofs.Shared.{drop, places_from, ◌++◌, ◌≡◌}
 use Rattle.tmw_part.proofs.marks.places_of.Given as goal
 
 abbrev pub invariant-loop-place : goal.invariant-loop-place

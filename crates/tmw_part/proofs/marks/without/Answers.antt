@@ -1,5 +1,4 @@
-use Rattle.std.proofs.Common.{◌≡◌, [], sym, ◌∙◌, drop}
-use Rattle.std.proofs.lemmas.List.{append-nil, drop_all}
+use Rattle.tmw_part.proofs.Shared.{[], append-nil, drop, drop_all, sym, ◌∙◌, ◌≡◌}
 use Rattle.tmw_part.proofs.Marking.{without_none}
 use Rattle.tmw_part.proofs.marks.without.Goals as goal
 

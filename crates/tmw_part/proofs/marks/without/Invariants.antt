@@ -1,5 +1,4 @@
-use Rattle.std.proofs.Common.{◌≡◌, ◌++◌, drop}
-use Rattle.tmw_part.specs.Kept.{without, without_from}
+use Rattle.tmw_part.proofs.Shared.{drop, without, without_from, ◌++◌, ◌≡◌}
 use Rattle.tmw_part.proofs.marks.without.Given as goal
 
 abbrev pub invariant-loop-place : goal.invariant-loop-place

@@ -1,6 +1,4 @@
-use Rattle.std.proofs.Common.{◌≡◌, ◌+◌, length}
-use Rattle.tmw_part.specs.Test.{are_placed}
-use Rattle.tmw_part.specs.Shown.{txns_of, unread_in}
+use Rattle.tmw_part.proofs.Shared.{are_placed, length, txns_of, unread_in, ◌+◌, ◌≡◌}
 use Rattle.tmw_part.proofs.part.are_placed.Given as goal
 
 abbrev pub invariant-loop-rest : goal.invariant-loop-rest

@@ -1,5 +1,4 @@
-use Rattle.std.proofs.Common.{◌≡◌, drop}
-use Rattle.tmw_part.specs.Test.{is_among}
+use Rattle.tmw_part.proofs.Shared.{drop, is_among, ◌≡◌}
 use Rattle.tmw_part.proofs.part.is_among.Given as goal
 
 abbrev pub invariant-loop-place : goal.invariant-loop-place

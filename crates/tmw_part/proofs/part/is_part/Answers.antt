@@ -1,7 +1,4 @@
-use Rattle.std.proofs.Common.{rules, IsTrue, arith}
-use Rattle.std.proofs.lemmas.List.{length-map}
-use Rattle.tmw_part.specs.Test.{are_placed}
-use Rattle.tmw_part.specs.Shown.{txn_of, txns_of, unread_in}
+use Rattle.tmw_part.proofs.Shared.{IsTrue, are_placed, arith, length-map, rules, txn_of, txns_of, unread_in}
 use Rattle.tmw_part.proofs.TestProof.{placed-below}
 use Rattle.tmw_part.proofs.part.is_part.Goals as goal
 

@@ -1,6 +1,4 @@
-use Rattle.std.proofs.Common.{◌≡◌, ◌++◌, drop}
-use Rattle.tmw_part.specs.Test.{staying_of}
-use Rattle.tmw_part.specs.Shown.{shown, txns_of}
+use Rattle.tmw_part.proofs.Shared.{drop, shown, staying_of, txns_of, ◌++◌, ◌≡◌}
 use Rattle.tmw_part.proofs.part.staying_of.Given as goal
 
 abbrev pub invariant-loop-place : goal.invariant-loop-place

@@ -1,5 +1,4 @@
-use Rattle.std.proofs.Common.{◌≡◌, ◌++◌, length}
-use Rattle.tmw_part.specs.Test.{without_number}
+use Rattle.tmw_part.proofs.Shared.{length, without_number, ◌++◌, ◌≡◌}
 use Rattle.tmw_part.proofs.part.without_number.Given as goal
 
 abbrev pub invariant-loop-rest : goal.invariant-loop-rest

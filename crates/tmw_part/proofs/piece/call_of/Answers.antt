@@ -1,4 +1,4 @@
-use Rattle.std.proofs.Common.{refl}
+use Rattle.tmw_part.proofs.Shared.{refl}
 use Rattle.tmw_part.proofs.piece.call_of.Goals.{in-Some, in-None}
 use Rattle.tmw_part.proofs.piece.call_of.Goals as goal
 

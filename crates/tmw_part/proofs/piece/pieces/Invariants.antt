@@ -1,7 +1,4 @@
-use Rattle.std.proofs.Common.{◌≡◌, ◌++◌, drop, map}
-use Rattle.tmw_defs.specs.History.{transactions}
-use Rattle.tmw_part.specs.Pieces.{whole_of}
-use Rattle.tmw_part.specs.Shown.{txns_of}
+use Rattle.tmw_part.proofs.Shared.{drop, map, transactions, txns_of, whole_of, ◌++◌, ◌≡◌}
 use Rattle.tmw_part.proofs.piece.pieces.Given as goal
 
 abbrev pub invariant-loop-transaction : goal.invariant-loop-transaction

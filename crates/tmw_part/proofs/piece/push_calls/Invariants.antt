@@ -1,5 +1,4 @@
-use Rattle.std.proofs.Common.{◌≡◌, ◌+◌, ◌++◌, length}
-use Rattle.tmw_part.specs.Pieces.{calls_from}
+use Rattle.tmw_part.proofs.Shared.{calls_from, length, ◌++◌, ◌+◌, ◌≡◌}
 use Rattle.tmw_part.proofs.piece.push_calls.Given as goal
 
 abbrev pub invariant-loop-rest : goal.invariant-loop-rest

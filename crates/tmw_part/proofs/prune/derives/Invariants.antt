@@ -1,8 +1,4 @@
-use Rattle.std.proofs.Common.{◌≡◌, ◌<◌, ℕ, Some, IsTrue, take}
-use Rattle.std.specs.Prelude.{slice_get}
-use Rattle.tmw_part.specs.declared.step.Step.{Step}
-use Rattle.tmw_part.specs.Shown.{txns_of}
-use Rattle.tmw_part.specs.Steps.{follows}
+use Rattle.tmw_part.proofs.Shared.{IsTrue, Some, Step, follows, slice_get, take, txns_of, ℕ, ◌<◌, ◌≡◌}
 use Rattle.tmw_part.proofs.prune.derives.Given as goal
 
 abbrev pub invariant-loop-place : goal.invariant-loop-place

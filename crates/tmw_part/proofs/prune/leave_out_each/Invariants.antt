@@ -1,9 +1,4 @@
-use Rattle.std.proofs.Common.{◌≡◌, ◌<◌, ◌≤◌, ℕ, IsTrue, length}
-use Rattle.std.specs.List.{Contains}
-use Rattle.std.specs.Prelude.{IsFalse, remove}
-use Rattle.tmw_part.specs.declared.step.Step.{Step}
-use Rattle.tmw_part.specs.Reasons.{IsReason}
-use Rattle.tmw_part.specs.Shown.{txns_of}
+use Rattle.tmw_part.proofs.Shared.{Contains, IsFalse, IsReason, IsTrue, Step, length, remove, txns_of, ℕ, ◌<◌, ◌≡◌, ◌≤◌}
 use Rattle.tmw_part.proofs.prune.leave_out_each.Given as goal
 
 abbrev pub invariant-loop-place : goal.invariant-loop-place

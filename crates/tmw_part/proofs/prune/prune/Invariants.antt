@@ -1,9 +1,4 @@
-use Rattle.std.proofs.Common.{◌+◌, length}
-use Rattle.std.specs.List.{Contains}
-use Rattle.tmw_part.specs.declared.step.Step.{Step}
-use Rattle.std.specs.Prelude.{IsFalse, if◌then◌else◌}
-use Rattle.tmw_part.specs.Reasons.{IsNeededEach, IsReason}
-use Rattle.tmw_part.specs.Shown.{txns_of}
+use Rattle.tmw_part.proofs.Shared.{Contains, IsFalse, IsNeededEach, IsReason, Step, if◌then◌else◌, length, txns_of, ◌+◌}
 use Rattle.tmw_part.proofs.prune.prune.Given as goal
 
 abbrev pub invariant-loop-more : goal.invariant-loop-more

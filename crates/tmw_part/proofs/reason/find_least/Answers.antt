@@ -1,6 +1,4 @@
-use Rattle.tmw_part.specs.Found.{TellAmong, TellNoReason}
-use Rattle.tmw_part.specs.Reasons.{IsReason}
-use Rattle.tmw_part.specs.Shown.{txns_of}
+use Rattle.tmw_part.proofs.Shared.{IsReason, TellAmong, TellNoReason, txns_of}
 use Rattle.tmw_part.proofs.Complete.{tells_each}
 use Rattle.tmw_part.proofs.reason.find_least.Goals as goal
 

@@ -1,13 +1,4 @@
-use Rattle.std.proofs.Common.{◌≡◌, List, [], Some, IsTrue, sym, ◌∙◌, arith}
-use Rattle.std.specs.List.{filter}
-use Rattle.std.specs.Prelude.{find}
-use Rattle.tmw_defs.specs.declared.criterion.Criterion.{Criterion}
-use Rattle.tmw_defs.specs.History.{Txn}
-use Rattle.tmw_defs.specs.Opaque.{State}
-use Rattle.tmw_part.specs.declared.step.Contradiction.{Contradiction}
-use Rattle.tmw_part.specs.Found.{IsLeastReason, TellNoReason, is_told}
-use Rattle.tmw_part.specs.Shown.{txns_of}
-use Rattle.tmw_part.specs.Steps.{contradicts}
+use Rattle.tmw_part.proofs.Shared.{Contradiction, Criterion, IsLeastReason, IsTrue, List, Some, State, TellNoReason, Txn, [], arith, contradicts, filter, find, is_told, sym, txns_of, ◌∙◌, ◌≡◌}
 use Rattle.tmw_part.proofs.Closing.{found_passes}
 use Rattle.tmw_part.proofs.ListFacts.{contains-filter}
 use Rattle.tmw_part.proofs.reason.find_steps.Goals as goal

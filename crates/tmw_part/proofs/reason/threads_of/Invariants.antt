@@ -1,6 +1,4 @@
-use Rattle.std.proofs.Common.{◌≡◌, ◌++◌, drop, map}
-use Rattle.tmw_part.specs.Found.{threads_of}
-use Rattle.tmw_part.specs.Shown.{txns_of}
+use Rattle.tmw_part.proofs.Shared.{drop, map, threads_of, txns_of, ◌++◌, ◌≡◌}
 use Rattle.tmw_part.proofs.reason.threads_of.Given as goal
 
 abbrev pub invariant-loop-transaction : goal.invariant-loop-transaction

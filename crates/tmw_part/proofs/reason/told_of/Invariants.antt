@@ -1,6 +1,4 @@
-use Rattle.std.proofs.Common.{◌≡◌, ◌++◌, drop}
-use Rattle.std.specs.List.{filter}
-use Rattle.tmw_part.specs.Found.{is_told}
+use Rattle.tmw_part.proofs.Shared.{drop, filter, is_told, ◌++◌, ◌≡◌}
 use Rattle.tmw_part.proofs.reason.told_of.Given as goal
 
 abbrev pub invariant-loop-step : goal.invariant-loop-step

@@ -1,5 +1,4 @@
-use Rattle.std.proofs.Common.{◌≡◌, ◌++◌, ◌+◌, ℕ, zero, suc, [], ◌∷◌, sym, ap, ◌∙◌, add-one, arith}
-use Rattle.std.specs.List.{range_with_len}
+use Rattle.tmw_part.proofs.Shared.{[], add-one, ap, arith, range_with_len, suc, sym, zero, ℕ, ◌++◌, ◌+◌, ◌∙◌, ◌∷◌, ◌≡◌}
 use Rattle.tmw_part.proofs.sources.places.Goals as goal
 
 -- one number more

@@ -1,5 +1,4 @@
-use Rattle.std.proofs.Common.{◌≡◌}
-use Rattle.std.specs.List.{range_with_len}
+use Rattle.tmw_part.proofs.Shared.{range_with_len, ◌≡◌}
 use Rattle.tmw_part.proofs.sources.places.Given as goal
 
 abbrev pub invariant-loop-place : goal.invariant-loop-place

@@ -1,6 +1,4 @@
-use Rattle.std.proofs.Common.{◌≡◌, ◌++◌, drop}
-use Rattle.tmw_part.specs.Candidates.{sources_at}
-use Rattle.tmw_part.specs.Shown.{txns_of}
+use Rattle.tmw_part.proofs.Shared.{drop, sources_at, txns_of, ◌++◌, ◌≡◌}
 use Rattle.tmw_part.proofs.sources.push_sources_at.Given as goal
 
 abbrev pub invariant-loop-register : goal.invariant-loop-register

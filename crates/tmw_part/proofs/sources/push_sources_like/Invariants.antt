@@ -1,6 +1,4 @@
-use Rattle.std.proofs.Common.{◌≡◌, ◌++◌, Some, drop, map}
-use Rattle.tmw_part.specs.Candidates.{sources_like}
-use Rattle.tmw_part.specs.Steps.{from_else}
+use Rattle.tmw_part.proofs.Shared.{Some, drop, from_else, map, sources_like, ◌++◌, ◌≡◌}
 use Rattle.tmw_part.proofs.sources.push_sources_like.Given as goal
 
 abbrev pub invariant-loop-place : goal.invariant-loop-place

@@ -1,7 +1,4 @@
-use Rattle.std.proofs.Common.{◌≡◌, ◌++◌, drop}
-use Rattle.std.specs.List.{flat_map}
-use Rattle.tmw_part.specs.Candidates.{sources_at}
-use Rattle.tmw_part.specs.Shown.{txns_of}
+use Rattle.tmw_part.proofs.Shared.{drop, flat_map, sources_at, txns_of, ◌++◌, ◌≡◌}
 use Rattle.tmw_part.proofs.sources.sources.Given as goal
 
 abbrev pub invariant-loop-reader : goal.invariant-loop-reader

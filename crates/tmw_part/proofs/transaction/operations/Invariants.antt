@@ -1,5 +1,4 @@
-use Rattle.std.proofs.Common.{◌≡◌, ◌++◌, length}
-use Rattle.tmw_defs.specs.History.{operations}
+use Rattle.tmw_part.proofs.Shared.{length, operations, ◌++◌, ◌≡◌}
 use Rattle.tmw_part.proofs.transaction.operations.Given as goal
 
 abbrev pub invariant-loop-rest : goal.invariant-loop-rest

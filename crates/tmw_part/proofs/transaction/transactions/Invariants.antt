@@ -1,7 +1,5 @@
 -- The events that are left make of the transactions so far those of the whole history.
-use Rattle.std.proofs.Common.{◌≡◌, drop}
-use Rattle.tmw_defs.specs.History.{transactions, transactions_from}
-use Rattle.tmw_part.specs.Shown.{txns_of}
+use Rattle.tmw_part.proofs.Shared.{drop, transactions, transactions_from, txns_of, ◌≡◌}
 use Rattle.tmw_part.proofs.transaction.transactions.Given as goal
 
 abbrev pub invariant-loop-place : goal.invariant-loop-place

@@ -1,6 +1,4 @@
-use Rattle.std.proofs.Common.{◌≡◌, ◌∙◌, sym, true, false, length, inl, inr, arith}
-use Rattle.tmw_defs.specs.History.{transactions}
-use Rattle.tmw_part.proofs.Growing.{length-push}
+use Rattle.tmw_part.proofs.Shared.{arith, false, inl, inr, length, length-transactions_push, sym, transactions, true, ◌∙◌, ◌≡◌}
 use Rattle.tmw_part.proofs.violated.take_event.Goals.{else-note-via-then-note+else-count-ge-MOST_TRANSACTIONS, else-note-via-else-note}
 use Rattle.tmw_part.proofs.violated.take_event.Goals as goal
 
@@ -11,7 +9,7 @@ returns-clause-takes c is registers history taken =
     record {
       tracks = c.in-Ok.ensures.takes registers history taken.tracks;
       stands = c.push.ensures.stands history taken.stands notes;
-      few = elim (length-push history c.args.event) [
+      few = elim (length-transactions_push history c.args.event) [
         | inl same ↦ omega (arith, same, few)
         | inr more ↦ elim c.else-note.branch [
           | else-note-via-then-note+else-count-ge-MOST_TRANSACTIONS w ↦

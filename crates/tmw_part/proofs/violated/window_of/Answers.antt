@@ -1,6 +1,4 @@
-use Rattle.std.proofs.Common.{◌+◌, take, subst, arith}
-use Rattle.std.proofs.lemmas.List.{take_all}
-use Rattle.tmw_part.specs.Taking.{AreTaken, AreUnfit}
+use Rattle.tmw_part.proofs.Shared.{AreTaken, AreUnfit, arith, subst, take, take_all, ◌+◌}
 use Rattle.tmw_part.proofs.Growing.{unfit-begun, take-next}
 use Rattle.tmw_part.proofs.violated.window_of.Goals as goal
 

@@ -1,5 +1,4 @@
-use Rattle.std.proofs.Common.{take}
-use Rattle.tmw_part.specs.Taking.{AreTaken}
+use Rattle.tmw_part.proofs.Shared.{AreTaken, take}
 use Rattle.tmw_part.proofs.violated.window_of.Given as goal
 
 abbrev pub invariant-loop-event : goal.invariant-loop-event

@@ -1,5 +1,5 @@
 -- The known end is the only one, or the outcomes are searched.
-use Rattle.std.proofs.Common.{sym, ◌∙◌, arith}
+use Rattle.tmw_search.proofs.Shared.{arith, sym, ◌∙◌}
 use Rattle.tmw_search.proofs.ForcedEnds.{only-end}
 use Rattle.tmw_search.proofs.ends.replace_by_outcomes.Goals as goal
 

@@ -1,11 +1,20 @@
-use Rattle.std.proofs.Common.{map}
-use Rattle.tmw_cuts.specs.Views.{view}
-use Rattle.tmw_search.proofs.Forcing.{none-shared, shared-decided}
+use Rattle.tmw_search.proofs.Shared.{arith, length-map, map, rules, view}
+use Rattle.tmw_search.proofs.Forcing.{tell-none, tell-next, tell-all}
+use Rattle.tmw_search.proofs.WindowViews.{shown_at}
 use Rattle.tmw_search.proofs.forced.is_forced.Goals as goal
 
-pub returns-then-shared-eq0 : goal.returns-then-shared-eq0
-returns-then-shared-eq0 c = λ _. none-shared (map view c.args.items.now) c.shared_registers-shared.result c.shared_registers-shared.ensures c.if-shared-eq0.true
+pub loop-item-init : goal.loop-item-init
+loop-item-init c = tell-none (map view c.args.items.now)
 
-pub returns-else-shared-eq0 : goal.returns-else-shared-eq0
-returns-else-shared-eq0 c = λ is.
-    shared-decided (map view c.args.items.now) c.shared_registers-shared.result c.shared_registers-shared.ensures (c.none_is_blind.ensures is)
+pub loop-item-preserved : goal.loop-item-preserved
+loop-item-preserved c =
+    let items = c.args.items.now in
+    let i = c.loop-item.item-index in
+    tell-next (map view items) i _ _ _ _ _ (view c.item-item.result)
+    (shown_at items i c.item-item.result c.loop-item-test.true c.item-item.is) (search rules) (search rules) c.written_by-own.ensures
+    c.needed.ensures c.loop-item.invariant
+
+pub returns : goal.returns
+returns c =
+    let items = c.args.items.now in
+    tell-all (map view items) c.loop-item.item-index _ _ _ (omega (arith, length-map items view, c.loop-item-test.false)) c.loop-item.invariant

@@ -1,9 +1,6 @@
-use Rattle.std.proofs.Common.{◌≡◌, ◌++◌, drop, map}
-use Rattle.tmw_cuts.specs.Views.{view}
-use Rattle.tmw_search.proofs.LayerSteps.{nexts_at}
+use Rattle.tmw_search.proofs.Shared.{AddsPairs, MakesAt, map, view}
+use Rattle.tmw_search.proofs.LayerLists.{OfFirst}
 use Rattle.tmw_search.proofs.nexts.push_nexts.Given as goal
 
 abbrev pub invariant-loop-place : goal.invariant-loop-place
-invariant-loop-place l =
-    l.nexts.items ++ nexts_at l.criterion l.place (map view (drop l.place l.items)) l.reached
-    ≡ l.fn.nexts.items ++ nexts_at l.criterion 0 (map view l.items) l.reached
+invariant-loop-place l = AddsPairs l.fn.nexts.items l.nexts.items (OfFirst (MakesAt (map view l.items) l.reached) l.place)

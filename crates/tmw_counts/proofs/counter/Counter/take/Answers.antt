@@ -1,6 +1,5 @@
 -- The tracker tells what the event is to its transaction, and the counts follow.
-use Rattle.std.proofs.Common.{◌++◌, [], ◌∷◌, refl, inl, inr, arith}
-use Rattle.std.proofs.lemmas.Bool.{both_ways, cases_lt, lt-ltb, ltb-true}
+use Rattle.tmw_counts.proofs.Shared.{[], arith, both_ways, cases_lt, inl, inr, lt-ltb, ltb-true, refl, ◌++◌, ◌∷◌}
 use Rattle.tmw_counts.proofs.Counting.{counts-push}
 use Rattle.tmw_counts.proofs.counter.Counter.take.Goals as goal
 

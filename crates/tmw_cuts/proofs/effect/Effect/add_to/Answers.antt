@@ -1,6 +1,5 @@
 -- An add is answered as a read and leaves the sum.
-use Rattle.std.proofs.Common.{◌++◌, [], ◌∷◌}
-use Rattle.tmw_defs.specs.declared.op.Op.TheVariants.{Read}
+use Rattle.tmw_cuts.proofs.Shared.{Read, [], ◌++◌, ◌∷◌}
 use Rattle.tmw_cuts.proofs.EffectSteps.{with_add}
 use Rattle.tmw_cuts.proofs.effect.Effect.add_to.Goals as goal
 

@@ -1,8 +1,5 @@
 -- The turn adds what its register decides: nothing, where it is not needed or has the needed value.
-use Rattle.std.proofs.Common.{rules, ◌≡◌, ◌≤◌, length, get_or, false, sym, ◌∙◌, arith}
-use Rattle.std.proofs.lemmas.List.{drop_all}
-use Rattle.std.proofs.Math.Bool.{and-true}
-use Rattle.tmw_cuts.specs.Registers.{chosen}
+use Rattle.tmw_cuts.proofs.Shared.{and-true, arith, chosen, drop_all, false, get_or, length, rules, sym, ◌∙◌, ◌≡◌, ◌≤◌}
 use Rattle.tmw_cuts.proofs.Chosen.{length-chosen, get_or-chosen}
 use Rattle.tmw_cuts.proofs.Effects.{have-turn}
 use Rattle.tmw_cuts.proofs.effect.Effect.is_met.Goals as goal

@@ -1,6 +1,5 @@
 -- What the registers behind need, and what those ahead need, decide.
-use Rattle.std.proofs.Common.{◌≡◌, ◌&&◌, drop}
-use Rattle.tmw_cuts.specs.Registers.{chosen, have}
+use Rattle.tmw_cuts.proofs.Shared.{chosen, drop, have, ◌&&◌, ◌≡◌}
 use Rattle.tmw_cuts.proofs.effect.Effect.is_met.Given as goal
 
 abbrev pub invariant-loop-register : goal.invariant-loop-register

@@ -1,9 +1,6 @@
 -- The value is asked of what the operations before leave in the register, or else need of it.
-use Rattle.std.proofs.Common.{rules, ◌≡◌, ◌==◌, ◌&&◌, length, refl, sym, ap, ◌∙◌}
-use Rattle.std.specs.Prelude.{slice_set, if◌then◌else◌}
-use Rattle.std.specs.Int.{bit_at}
+use Rattle.tmw_cuts.proofs.Shared.{ap, bit_at, if◌then◌else◌, length, refl, rules, set-get_or, slice_set, sym, ◌&&◌, ◌==◌, ◌∙◌, ◌≡◌}
 use Rattle.std.specs.Int.Bits.{bit_or, or_zero_r}
-use Rattle.std.proofs.lemmas.List.{set-get_or}
 use Rattle.tmw_cuts.proofs.Chosen.{with_new}
 use Rattle.tmw_cuts.proofs.EffectSteps.{known_of, is_known, with_answer}
 use Rattle.tmw_cuts.proofs.effect.Effect.read.Goals.{then-own, else-own+then-asked, else-own+else-asked, then-own-2, else-own-2, then-own-asked, else-own-asked}
@@ -35,4 +32,4 @@ returns c =
       | then-own-asked w ↦ rw (← own, ← asked, w.if-own-asked.true, w.self-is, place) (set-get_or e.needs r 0)
       | else-own-asked w ↦ rw (← own, ← asked, w.if-own-asked.false, w.self-is) refl
     ]) in
-    λ ops sums. with_answer e _ ops c.args.register v sums leaves needs refl refl refl (ap (λ k. e.agrees && (k == v)) known) needed set
+    λ ops sums. with_answer e _ ops c.args.register v sums leaves needs refl refl (ap (λ k. e.agrees && (k == v)) known) needed set

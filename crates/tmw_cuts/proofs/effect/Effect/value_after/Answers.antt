@@ -1,6 +1,5 @@
 -- The register holds what is left in it, or else what it held.
-use Rattle.std.proofs.Common.{rules, ◌≡◌, ◌==◌, length, true, false, sym, ◌∙◌}
-use Rattle.std.specs.Int.{bit_at}
+use Rattle.tmw_cuts.proofs.Shared.{bit_at, false, length, rules, sym, true, ◌==◌, ◌∙◌, ◌≡◌}
 use Rattle.tmw_cuts.proofs.Effects.{value-after}
 use Rattle.tmw_cuts.proofs.effect.Effect.value_after.Goals as goal
 

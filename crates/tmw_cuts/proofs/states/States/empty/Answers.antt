@@ -1,5 +1,5 @@
 -- The empty list rises.
-use Rattle.std.specs.List.Sorted.{IsStrictlySortedBy}
+use Rattle.tmw_cuts.proofs.Shared.{IsStrictlySortedBy}
 use Rattle.tmw_cuts.proofs.states.States.empty.Goals as goal
 
 pub invariant_of-result : goal.invariant_of-result

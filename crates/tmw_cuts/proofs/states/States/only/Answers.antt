@@ -1,5 +1,5 @@
 -- A list of one element rises.
-use Rattle.std.specs.List.Sorted.{IsStrictlySortedBy}
+use Rattle.tmw_cuts.proofs.Shared.{IsStrictlySortedBy}
 use Rattle.tmw_cuts.proofs.states.States.only.Goals as goal
 
 pub invariant_of-result : goal.invariant_of-result

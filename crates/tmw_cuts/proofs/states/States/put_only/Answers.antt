@@ -1,8 +1,5 @@
 -- A list of one element rises.
-use Rattle.std.proofs.Common.{◌≡◌, List, [], ◌∷◌, length, refl, arith}
-use Rattle.std.specs.Prelude.{slice_set}
-use Rattle.std.specs.List.Sorted.{IsStrictlySortedBy}
-use Rattle.tmw_defs.specs.Opaque.{State}
+use Rattle.tmw_cuts.proofs.Shared.{IsStrictlySortedBy, List, State, [], arith, length, refl, slice_set, ◌∷◌, ◌≡◌}
 use Rattle.tmw_cuts.proofs.states.States.put_only.Goals as goal
 
 set-only : (xs : List State) (s : State) → length xs ≡ 1 → slice_set xs 0 s ≡ s ∷ []

@@ -1,6 +1,5 @@
 -- A read or an add is answered what its register holds after the operations before.
-use Rattle.std.proofs.Common.{rules, ◌≡◌, Some}
-use Rattle.tmw_events.specs.declared.event.Kind.TheVariants.{R, N}
+use Rattle.tmw_cuts.proofs.Shared.{N, R, Some, rules, ◌≡◌}
 use Rattle.tmw_cuts.proofs.Effects.{answer-read, answer-add}
 use Rattle.tmw_cuts.proofs.txn.Txn.fits_answer.Goals as goal
 

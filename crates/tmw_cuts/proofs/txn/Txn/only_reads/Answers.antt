@@ -1,7 +1,5 @@
 -- Where no register is left with a value, the state stays.
-use Rattle.std.proofs.Common.{◌∙◌, sym, ap}
-use Rattle.std.proofs.lemmas.Bool.{eqb-true}
-use Rattle.tmw_cuts.specs.Registers.{chosen, put}
+use Rattle.tmw_cuts.proofs.Shared.{ap, chosen, eqb-true, put, sym, ◌∙◌}
 use Rattle.tmw_cuts.proofs.Chosen.{put-chosen_none}
 use Rattle.tmw_cuts.proofs.txn.Txn.only_reads.Goals as goal
 

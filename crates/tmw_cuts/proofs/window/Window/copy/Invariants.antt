@@ -1,6 +1,5 @@
 -- The copies show what those before show.
-use Rattle.std.proofs.Common.{◌≡◌, map, take}
-use Rattle.tmw_cuts.specs.Views.{view}
+use Rattle.tmw_cuts.proofs.Shared.{map, take, view, ◌≡◌}
 use Rattle.tmw_cuts.proofs.window.Window.copy.Given as goal
 
 abbrev pub invariant-loop-txn : goal.invariant-loop-txn

@@ -1,9 +1,5 @@
 -- Each transaction is over where each that is shown is.
-use Rattle.std.proofs.Common.{sym, ap, ◌∙◌}
-use Rattle.std.specs.List.{list_all}
-use Rattle.std.proofs.lemmas.List.Folds.{list_all-map}
-use Rattle.tmw_defs.specs.History.{is_over}
-use Rattle.tmw_cuts.specs.Views.{view}
+use Rattle.tmw_cuts.proofs.Shared.{ap, is_over, list_all, list_all-map, sym, view, ◌∙◌}
 use Rattle.tmw_cuts.proofs.Pushes.{is_cut-views}
 use Rattle.tmw_cuts.proofs.window.Window.is_cut.Goals as goal
 

@@ -1,8 +1,5 @@
 -- The note tells whether a transaction is open for the event.
-use Rattle.std.proofs.Common.{refl, sym, ◌∙◌}
-use Rattle.std.proofs.lemmas.Bool.{not_from_false}
-use Rattle.tmw_cuts.specs.Standing.{views_of}
-use Rattle.tmw_cuts.specs.Views.{is_open_for}
+use Rattle.tmw_cuts.proofs.Shared.{is_open_for, not_from_false, refl, sym, views_of, ◌∙◌}
 use Rattle.tmw_cuts.proofs.Found.{position_some}
 use Rattle.tmw_cuts.proofs.Pushes.{begins_none_open}
 use Rattle.tmw_cuts.proofs.window.Window.push.Goals as goal

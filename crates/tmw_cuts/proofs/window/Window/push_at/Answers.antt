@@ -1,13 +1,8 @@
 -- The transaction at the place takes the event, as the first that is open for it.
-use Rattle.std.proofs.Common.{rules, ◌≡◌, ◌<◌, length, Some, map, sym, ap, ◌∙◌}
-use Rattle.std.specs.Prelude.{slice_set, position}
-use Rattle.std.proofs.lemmas.List.{length-set}
-use Rattle.tmw_cuts.specs.Views.{view, next_view, completed_mask, is_open_for, push_views}
+use Rattle.tmw_cuts.proofs.Shared.{Some, ap, completed_mask, is_open_for, length, length-set, map, next_view, position, position_or_len, push_views, rules, slice_set, sym, view, views_of, ◌<◌, ◌∙◌, ◌≡◌}
 use Rattle.tmw_cuts.proofs.Found.{push_views-position, refill-whole}
 use Rattle.tmw_cuts.proofs.Marked.{position-map}
 use Rattle.tmw_cuts.proofs.OpenOnes.{ends_with, opens-push, masks-push, or_len-Some}
-use Rattle.tmw_cuts.specs.Standing.{views_of}
-use Rattle.std.specs.List.{position_or_len}
 use Rattle.tmw_cuts.proofs.Pushes.{shows-push}
 use Rattle.tmw_cuts.proofs.window.Window.push_at.Goals as goal
 

@@ -1,9 +1,5 @@
 -- No transaction is open for an event that begins one, and what is shown has that one more.
-use Rattle.std.proofs.Common.{rules, ◌≡◌, ◌<◌, [], ◌∷◌, length, map, ap, not, refl, sym, ◌∙◌}
-use Rattle.std.specs.List.{position_or_len}
-use Rattle.std.proofs.lemmas.List.{map-append, length-map}
-use Rattle.tmw_cuts.specs.Standing.{views_of}
-use Rattle.tmw_cuts.specs.Views.{view, is_open_for, completed_mask, push_views}
+use Rattle.tmw_cuts.proofs.Shared.{[], ap, completed_mask, is_open_for, length, length-map, map, map-append, not, position_or_len, push_views, refl, rules, sym, view, views_of, ◌<◌, ◌∙◌, ◌∷◌, ◌≡◌}
 use Rattle.tmw_cuts.proofs.Found.{push_views-none}
 use Rattle.tmw_cuts.proofs.OpenOnes.{ends_with, opens-push, masks-push, or_len-none}
 use Rattle.tmw_cuts.proofs.Pushes.{begins_none_open, shows-push}

@@ -1,13 +1,6 @@
 -- The transaction that took the event shows what it showed before, or the one that it began is gone.
-use Rattle.std.proofs.lemmas.List.{length-map, length-set}
-use Rattle.std.proofs.Common.{rules, min, ◌≡◌, ◌<◌, ◌≤◌, length, map, Some, None, sym, ap, ◌∙◌, arith}
-use Rattle.tmw_cuts.specs.Views.{view, completed_mask, is_open_for}
-use Rattle.tmw_cuts.specs.Standing.{views_of, shown}
-use Rattle.tmw_events.specs.declared.ix.Ix.{Ix}
-use Rattle.std.specs.Prelude.{position}
-use Rattle.std.proofs.lemmas.Bool.{lt-ltb}
+use Rattle.tmw_cuts.proofs.Shared.{IsOpen, Ix, None, Some, ap, arith, completed_mask, is_open_for, length, length-map, length-set, lt-ltb, map, min, position, rules, shown, sym, view, views_of, ◌<◌, ◌∙◌, ◌≡◌, ◌≤◌}
 use Rattle.tmw_cuts.proofs.OpenOnes.{opens-back}
-use Rattle.tmw_cuts.specs.Marking.{IsOpen}
 use Rattle.tmw_cuts.proofs.Pushes.{views_of-push}
 use Rattle.tmw_cuts.proofs.TakenBack.{set_back, has_place, pop-shows, none_open}
 use Rattle.tmw_cuts.proofs.window.Window.take_back.Goals as goal

@@ -1,6 +1,5 @@
 -- What was taken at once left the history fine.
-use Rattle.std.proofs.Common.{◌≡◌, ◌∷◌, [], ◌++◌, refl, sym, ap, ◌∙◌}
-use Rattle.tmw_defs.specs.Criteria.{so_far}
+use Rattle.tmw_monitor.proofs.Shared.{[], ap, refl, so_far, sym, ◌++◌, ◌∙◌, ◌∷◌, ◌≡◌}
 use Rattle.tmw_monitor.proofs.Feeding.{fits-next}
 use Rattle.tmw_monitor.proofs.OnlyOpen.{keeps_only_open}
 use Rattle.tmw_monitor.proofs.SoFar.{so_far-tells}

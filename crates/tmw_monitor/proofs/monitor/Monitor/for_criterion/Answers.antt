@@ -1,9 +1,5 @@
 -- Nothing is wrong with no event, with the start state as its one outcome.
-use Rattle.std.proofs.Common.{refl, []}
-use Rattle.tmw_cuts.specs.Members.{members}
-use Rattle.tmw_cuts.proofs.FirstMembers.{contains_here}
-use Rattle.tmw_defs.proofs.VerdictProof.{so_far-fine}
-use Rattle.tmw_monitor.specs.Fitting.{rules_for}
+use Rattle.tmw_monitor.proofs.Shared.{[], contains_here, members, refl, rules_for, so_far-fine}
 use Rattle.tmw_monitor.proofs.Fresh.{sums_up-one}
 use Rattle.tmw_monitor.proofs.OnlyOpen.{keeps_only_open}
 use Rattle.tmw_monitor.proofs.monitor.Monitor.for_criterion.Goals as goal

@@ -1,8 +1,5 @@
 -- The next verdict is that of the history with the event, and where memory was refused the history fits as before.
-use Rattle.std.proofs.Common.{rules, ◌≡◌, ◌∷◌, [], ◌++◌, length, arith}
-use Rattle.std.proofs.lemmas.Result.{err_from_is_err_and}
-use Rattle.tmw_defs.specs.Criteria.{so_far}
-use Rattle.tmw_monitor.specs.Breaking.{TellsTracked}
+use Rattle.tmw_monitor.proofs.Shared.{TellsTracked, [], arith, err_from_is_err_and, length, rules, so_far, ◌++◌, ◌∷◌, ◌≡◌}
 use Rattle.tmw_monitor.proofs.Feeding.{fits-final, fits-next, fits-wrong, fits-kept}
 use Rattle.tmw_monitor.proofs.OnlyOpen.{keeps_only_open}
 use Rattle.tmw_monitor.proofs.monitor.Monitor.take.Goals as goal
@@ -33,10 +30,6 @@ returns-in-Some-clause-ok c judged_by history fits =
     (record { states = nothing.states; stands = nothing.stands })
     (c.follow-in-Some.ensures judged_by.registers history (omega (arith, n)) told)
 
-pub returns-in-Some-clause-keeps : goal.returns-in-Some-clause-keeps
-returns-in-Some-clause-keeps c judged_by history fits =
-    keeps_only_open judged_by (history ++ c.args.event ∷ []) _ (returns-in-Some-clause-ok c judged_by history fits)
-
 pub returns-in_default-clause-ok : goal.returns-in_default-clause-ok
 returns-in_default-clause-ok c judged_by history fits =
     let fine : c.args.self.now.verdict ≡ so_far c.args.self.now.criterion = search rules in
@@ -54,7 +47,3 @@ returns-then-not-is_so_far-clause-ok c judged_by history fits =
     let n : c.args.self.now.count ≡ length history = fits.counted in
     fits-final judged_by history c.args.event c.args.self.now _ _ fits final (let nothing = fits.forgets final in record { states = nothing.states; stands = nothing.stands })
     (c.follow.ensures judged_by.registers history (omega (arith, n)) (fits.breaks final))
-
-pub returns-then-not-is_so_far-clause-keeps : goal.returns-then-not-is_so_far-clause-keeps
-returns-then-not-is_so_far-clause-keeps c judged_by history fits =
-    keeps_only_open judged_by (history ++ c.args.event ∷ []) _ (returns-then-not-is_so_far-clause-ok c judged_by history fits)

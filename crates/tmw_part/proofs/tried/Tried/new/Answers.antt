@@ -1,8 +1,4 @@
-use Rattle.std.proofs.Common.{◌≡◌, length, sym, ap, ◌∙◌}
-use Rattle.std.specs.List.{range_with_len}
-use Rattle.std.proofs.lemmas.List.{length-map}
-use Rattle.tmw_part.specs.Candidates.{ends, silent_candidates, sources, told_candidates}
-use Rattle.tmw_part.specs.Shown.{txn_of, txns_of}
+use Rattle.tmw_part.proofs.Shared.{ap, ends, length, length-map, range_with_len, silent_candidates, sources, sym, told_candidates, txn_of, txns_of, ◌∙◌, ◌≡◌}
 use Rattle.tmw_part.proofs.Complete.{tells_some, tries_ends, tries_silent}
 use Rattle.tmw_part.proofs.tried.Tried.new.Goals as goal
 

@@ -1,10 +1,8 @@
-use Rattle.std.proofs.Common.{◌≡◌, rules, inl, inr, sym, ◌∙◌}
-use Rattle.std.proofs.lemmas.Option.{slice_get_within, get_or_from_slice_get}
-use Rattle.tmw_cuts.specs.Members.{members}
+use Rattle.tmw_search.proofs.Shared.{get_or_from_slice_get, inl, inr, members, rules, slice_get_within, sym, ◌∙◌, ◌≡◌}
 use Rattle.tmw_search.proofs.found.Found.add.Goals as goal
 
-pub returns-then-eq : goal.returns-then-eq
-returns-then-eq c = λ s. (
+pub returns-then-eq-clause-adds : goal.returns-then-eq-clause-adds
+returns-then-eq-clause-adds c = λ s. (
   λ has. inr has,
   λ either. elim either [
     | inr has ↦ has

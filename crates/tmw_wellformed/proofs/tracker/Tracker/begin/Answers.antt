@@ -1,9 +1,5 @@
 -- The event leads a thread without a live transaction into a live phase.
-use Rattle.std.proofs.Common.{◌≡◌, Bool, true, false, not, refl, sym, ap, subst, ◌∙◌, arith}
-use Rattle.std.proofs.lemmas.Bool.{ne_eqb, eq-eqb}
-use Rattle.tmw_wellformed.specs.GoingOn.{TakesAs}
-use Rattle.tmw_wellformed.specs.declared.tracker.Tracker.{Tracker}
-use Rattle.tmw_wellformed.specs.Phase.{is_live}
+use Rattle.tmw_wellformed.proofs.Shared.{Bool, TakesAs, Tracker, ap, arith, false, is_live, ne_eqb, not, refl, subst, sym, true, ◌∙◌, ◌≡◌}
 use Rattle.tmw_wellformed.proofs.HistorySteps.{flag}
 use Rattle.tmw_wellformed.proofs.Tracking.{takes_as-push}
 use Rattle.tmw_wellformed.proofs.tracker.Tracker.begin.Goals as goal

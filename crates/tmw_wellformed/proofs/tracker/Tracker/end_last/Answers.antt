@@ -1,9 +1,5 @@
 -- The event leads the thread of the only live transaction out of its phase.
-use Rattle.std.proofs.Common.{◌≡◌, Bool, true, false, not, refl, sym, ap, subst, ◌∙◌, arith}
-use Rattle.std.proofs.lemmas.Bool.{ne_eqb, eq-eqb}
-use Rattle.tmw_wellformed.specs.GoingOn.{TakesAs}
-use Rattle.tmw_wellformed.specs.declared.tracker.Tracker.{Tracker}
-use Rattle.tmw_wellformed.specs.Phase.{is_live}
+use Rattle.tmw_wellformed.proofs.Shared.{Bool, TakesAs, Tracker, ap, arith, eq-eqb, false, is_live, not, refl, subst, sym, true, ◌∙◌, ◌≡◌}
 use Rattle.tmw_wellformed.proofs.HistorySteps.{flag}
 use Rattle.tmw_wellformed.proofs.Tracking.{takes_as-push}
 use Rattle.tmw_wellformed.proofs.tracker.Tracker.end_last.Goals as goal

@@ -1,5 +1,4 @@
-use Rattle.std.proofs.Common.{rules, ◌≡◌, ◌+◌, ◌≤◌, refl, inl, arith}
-use Rattle.tmw_witness.specs.Witnessing.{rank_of}
+use Rattle.tmw_witness.proofs.Shared.{arith, inl, rank_of, refl, rules, ◌+◌, ◌≡◌, ◌≤◌}
 use Rattle.tmw_witness.proofs.Kept.{AreLong, left_out-kept, released-kept}
 use Rattle.tmw_witness.proofs.witness.Witness.abort.Goals as goal
 

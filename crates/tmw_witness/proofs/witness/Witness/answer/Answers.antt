@@ -1,5 +1,4 @@
-use Rattle.std.proofs.Common.{rules, inl, arith}
-use Rattle.tmw_cuts.specs.Views.{view}
+use Rattle.tmw_witness.proofs.Shared.{arith, inl, rules, view}
 use Rattle.tmw_witness.proofs.Kept.{AreLong, left_out-kept, moved-kept}
 use Rattle.tmw_witness.proofs.witness.Witness.answer.Goals as goal
 

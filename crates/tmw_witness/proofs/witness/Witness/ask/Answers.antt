@@ -1,5 +1,4 @@
-use Rattle.std.proofs.Common.{refl}
-use Rattle.tmw_cuts.specs.Views.{view}
+use Rattle.tmw_witness.proofs.Shared.{refl, view}
 use Rattle.tmw_witness.proofs.witness.Witness.ask.Goals as goal
 
 pub returns-then-not-hold : goal.returns-then-not-hold

@@ -1,7 +1,5 @@
-use Rattle.std.proofs.Common.{rules, ◌≡◌, ◌-◌, ◌<◌, ◌≤◌, arith}
-use Rattle.tmw_events.specs.declared.event.Kind.TheVariants.{C}
+use Rattle.tmw_witness.proofs.Shared.{C, arith, left_out, rules, ◌-◌, ◌<◌, ◌≡◌, ◌≤◌}
 use Rattle.tmw_witness.proofs.Kept.{AreLong, begin-kept}
-use Rattle.tmw_defs.proofs.QuietProof.{left_out}
 use Rattle.tmw_witness.proofs.witness.Witness.begin.Goals as goal
 
 pub returns : goal.returns

@@ -1,5 +1,4 @@
-use Rattle.std.proofs.Common.{refl, inr}
-use Rattle.tmw_cuts.specs.Views.{view}
+use Rattle.tmw_witness.proofs.Shared.{inr, refl, view}
 use Rattle.tmw_witness.proofs.Kept.{left_out-kept, held-kept}
 use Rattle.tmw_witness.proofs.witness.Witness.commit.Goals as goal
 

@@ -1,15 +1,6 @@
 -- One that is left out stands where it stood, where the event adds no answer, or one that its rank's state has; and so does one that is held and commits.
-use Rattle.std.proofs.Common.{◌≡◌, IsTrue, false, Some, refl, sym, ap, ◌∙◌, inl, inr}
-use Rattle.std.proofs.lemmas.Bool.{not-true}
-use Rattle.tmw_events.specs.declared.event.Kind.{Kind}
-use Rattle.tmw_events.specs.declared.event.Kind.TheVariants.{V, T, C}
-use Rattle.tmw_defs.specs.History.{status_after}
-use Rattle.tmw_defs.specs.Opaque.{may_hold, reads_hold}
-use Rattle.tmw_defs.proofs.QuietTexts.{tells_no_value}
-use Rattle.tmw_cuts.specs.Views.{View, view, next_view}
-use Rattle.tmw_witness.specs.Witnessing.{rank_of, committed_of, state_of}
+use Rattle.tmw_witness.proofs.Shared.{C, IsTrue, Kind, T, View, inl, inr, left_out, next_view, not-true, rank_of, refl, state_of, tells_no_value, view, ◌≡◌}
 use Rattle.tmw_witness.proofs.Kept.{left_out-kept, held-kept}
-use Rattle.tmw_defs.proofs.QuietProof.{left_out}
 use Rattle.tmw_witness.proofs.Quiet.{ops-none, reads-quiet}
 use Rattle.tmw_witness.proofs.witness.Witness.explains_at.Goals as goal
 

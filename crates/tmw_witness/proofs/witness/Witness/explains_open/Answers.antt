@@ -1,10 +1,6 @@
 -- The transaction that is open for the thread gets the event.
-use Rattle.std.proofs.Common.{◌≡◌, ◌<◌, length, ap, arith, rules}
-use Rattle.std.proofs.lemmas.List.{length-map}
+use Rattle.tmw_witness.proofs.Shared.{ap, arith, length, length-map, shown_at, view, views_of, ◌<◌}
 use Rattle.tmw_cuts.specs.declared.txn.Txn.{Txn}
-use Rattle.tmw_cuts.specs.Standing.{views_of}
-use Rattle.tmw_cuts.specs.Views.{view}
-use Rattle.tmw_search.proofs.WindowViews.{shown_at}
 use Rattle.tmw_witness.proofs.Pushed.{turns-next}
 use Rattle.tmw_witness.proofs.witness.Witness.explains_open.Goals as goal
 
@@ -19,6 +15,3 @@ returns-clause-stands c is starts events stands found was =
     in
     let at = rw shown at (shown_at items place item within c.index-transactions-place.is) in
     c.explains_at.ensures is starts (views_of events) _ (turns-next events c.args.event place (view item) found at) was
-
-pub returns-clause-known : goal.returns-clause-known
-returns-clause-known c = search rules

@@ -1,10 +1,5 @@
-use Rattle.std.proofs.Common.{◌≡◌, ◌++◌, ◌+◌, [], ◌∷◌, length, map, refl, sym, ap, ◌∙◌, arith}
-use Rattle.std.proofs.lemmas.List.{length-append, length-map}
-use Rattle.std.proofs.lemmas.Bool.{ltb-true}
-use Rattle.tmw_cuts.specs.Standing.{views_of}
-use Rattle.tmw_cuts.specs.Views.{View, view, new_view, completed_mask}
-use Rattle.tmw_search.proofs.WindowViews.{shown_at}
-use Rattle.tmw_witness.proofs.Pushed.{turns-pushed, begun-pushed, completed-within}
+use Rattle.tmw_witness.proofs.Shared.{[], ap, arith, length, length-map, ltb-true, shown_at, sym, view, views_of, ◌++◌, ◌∙◌, ◌∷◌, ◌≡◌}
+use Rattle.tmw_witness.proofs.Pushed.{turns-pushed}
 use Rattle.tmw_witness.proofs.witness.Witness.follow.Goals as goal
 
 pub returns-in_default : goal.returns-in_default

@@ -1,8 +1,5 @@
 -- The transaction that begins goes to the end of the list, and what was shown stays.
-use Rattle.std.proofs.Common.{◌≡◌, ◌++◌, ◌+◌, [], ◌∷◌, length, map, refl, sym, ap, ◌∙◌, arith}
-use Rattle.std.proofs.lemmas.List.{length-append, length-map}
-use Rattle.tmw_cuts.specs.Standing.{views_of}
-use Rattle.tmw_cuts.specs.Views.{View, view, new_view, completed_mask}
+use Rattle.tmw_witness.proofs.Shared.{View, [], ap, arith, completed_mask, length, length-append, length-map, map, new_view, refl, view, views_of, ◌++◌, ◌+◌, ◌∙◌, ◌∷◌, ◌≡◌}
 use Rattle.tmw_witness.proofs.Pushed.{begun-pushed, completed-within}
 use Rattle.tmw_witness.proofs.witness.Witness.follow_new.Goals as goal
 

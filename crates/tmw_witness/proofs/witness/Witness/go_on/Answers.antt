@@ -1,10 +1,5 @@
-use Rattle.std.proofs.Common.{◌≡◌, IsTrue, refl, ap, ◌∙◌, inl, inr}
-use Rattle.tmw_events.specs.declared.event.Kind.{Kind}
-use Rattle.tmw_events.specs.declared.event.Kind.TheVariants.{T, C, A}
+use Rattle.tmw_witness.proofs.Shared.{A, C, IsTrue, Kind, T, View, ap, inl, inr, left_out, refl, tells_no_value, view, ◌∙◌, ◌≡◌}
 use Rattle.tmw_defs.specs.declared.status.Status.TheVariants.{Live}
-use Rattle.tmw_defs.proofs.QuietTexts.{tells_no_value}
-use Rattle.tmw_cuts.specs.Views.{View, view}
-use Rattle.tmw_defs.proofs.QuietProof.{left_out}
 use Rattle.tmw_witness.proofs.Quiet.{ops-none, reads-quiet}
 use Rattle.tmw_witness.proofs.witness.Witness.go_on.Goals as goal
 

@@ -1,5 +1,4 @@
-use Rattle.std.proofs.Common.{rules}
-use Rattle.tmw_cuts.specs.Views.{view}
+use Rattle.tmw_witness.proofs.Shared.{rules, view}
 use Rattle.tmw_witness.proofs.Kept.{AreLong, end-kept}
 use Rattle.tmw_witness.proofs.witness.Witness.hold.Goals as goal
 

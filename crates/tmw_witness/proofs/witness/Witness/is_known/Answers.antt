@@ -1,8 +1,4 @@
-use Rattle.std.specs.List.{Contains}
-use Rattle.tmw_defs.specs.History.{transactions}
-use Rattle.tmw_cuts.specs.Standing.{views_of}
-use Rattle.tmw_search.proofs.WindowViews.{shows-views_of}
-use Rattle.tmw_witness.specs.Witnessing.{rank_of, committed_of, state_of}
+use Rattle.tmw_witness.proofs.Shared.{Contains, committed_of, rank_of, shows-views_of, state_of, transactions, views_of}
 use Rattle.tmw_witness.proofs.Path.{witness-ends}
 use Rattle.tmw_witness.proofs.witness.Witness.is_known.Goals as goal
 

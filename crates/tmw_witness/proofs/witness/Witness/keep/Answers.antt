@@ -1,5 +1,4 @@
-use Rattle.std.proofs.Common.{inl}
-use Rattle.tmw_witness.specs.Witnessing.{rank_of, state_of}
+use Rattle.tmw_witness.proofs.Shared.{inl, rank_of, state_of}
 use Rattle.tmw_witness.proofs.Kept.{left_out-kept}
 use Rattle.tmw_witness.proofs.witness.Witness.keep.Goals as goal
 

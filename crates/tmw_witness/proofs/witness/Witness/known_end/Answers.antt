@@ -1,14 +1,5 @@
 -- The order leads to the state of the highest rank.
-use Rattle.std.proofs.Common.{◌≡◌, [], Option, Some, None, IfSome, refl, sym, subst, ◌∙◌}
-use Rattle.std.specs.List.{Contains}
-use Rattle.std.specs.Prelude.{slice_get}
-use Rattle.std.proofs.lemmas.Option.{get_or_from_slice_get}
-use Rattle.tmw_defs.specs.History.{transactions}
-use Rattle.tmw_defs.specs.Opaque.{State}
-use Rattle.tmw_defs.specs.Outcomes.{Ends}
-use Rattle.tmw_cuts.specs.Standing.{views_of}
-use Rattle.tmw_search.proofs.WindowViews.{shows-views_of}
-use Rattle.tmw_witness.specs.Witnessing.{rank_of, committed_of, state_of}
+use Rattle.tmw_witness.proofs.Shared.{Contains, Ends, IfSome, None, Option, Some, State, [], committed_of, get_or_from_slice_get, rank_of, refl, shows-views_of, slice_get, state_of, subst, sym, transactions, views_of, ◌∙◌, ◌≡◌}
 use Rattle.tmw_witness.proofs.Path.{witness-ends}
 use Rattle.tmw_witness.proofs.witness.Witness.known_end.Goals as goal
 

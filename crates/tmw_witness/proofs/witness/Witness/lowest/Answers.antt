@@ -1,9 +1,6 @@
-use Rattle.std.proofs.Common.{◌≡◌, ◌∙◌, inl, inr, arith}
-use Rattle.std.proofs.Math.Nat.{le-max_left, le-max_right}
-use Rattle.std.proofs.lemmas.Bool.{cases_lt}
-use Rattle.std.proofs.lemmas.Nat.Bits.{shr_and_one}
-use Rattle.tmw_witness.proofs.witness.Witness.lowest.Goals as goal
+use Rattle.tmw_witness.proofs.Shared.{arith, cases_lt, inl, inr, le-max_left, le-max_right, shr_and_one, ◌∙◌, ◌≡◌}
 use Rattle.tmw_witness.proofs.witness.Witness.lowest.Goals.{then-before-place-eq1, else-before-place-eq1}
+use Rattle.tmw_witness.proofs.witness.Witness.lowest.Goals as goal
 
 pub loop-place-preserved : goal.loop-place-preserved
 loop-place-preserved c = λ j within one.

@@ -1,7 +1,4 @@
-use Rattle.std.proofs.Common.{◌≡◌, ◌+◌, ◌≤◌, ◌<◌, ℕ}
-use Rattle.std.specs.Int.{bit_at}
-use Rattle.tmw_cuts.specs.Views.{bit}
-use Rattle.tmw_witness.specs.Witnessing.{rank_of, committed_of}
+use Rattle.tmw_witness.proofs.Shared.{bit, bit_at, committed_of, rank_of, ℕ, ◌+◌, ◌<◌, ◌≡◌, ◌≤◌}
 use Rattle.tmw_witness.proofs.witness.Witness.lowest.Given as goal
 
 -- It is no lower than those up to this place that precede the transaction.

@@ -1,5 +1,4 @@
-use Rattle.std.proofs.Common.{◌<◌, ℕ}
-use Rattle.tmw_witness.specs.Witnessing.{rank_of}
+use Rattle.tmw_witness.proofs.Shared.{rank_of, ℕ, ◌<◌}
 use Rattle.tmw_witness.proofs.witness.Witness.none_at_top.Given as goal
 
 -- None up to this place stands there.

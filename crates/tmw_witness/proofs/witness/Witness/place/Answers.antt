@@ -1,9 +1,4 @@
-use Rattle.std.proofs.Common.{rules, ◌≡◌, ◌^◌, ◌<◌, Bool, true, false, map, refl, sym, inl, inr, ◌∙◌, ap, arith}
-use Rattle.std.specs.Prelude.{slice_get}
-use Rattle.std.proofs.lemmas.Bool.{cases_Bool, ltb-true}
-use Rattle.std.proofs.lemmas.List.{length-map}
-use Rattle.tmw_cuts.specs.Views.{view, bit}
-use Rattle.tmw_search.proofs.WindowViews.{shown_at}
+use Rattle.tmw_witness.proofs.Shared.{arith, bit, cases_Bool, inl, inr, ltb-true, map, refl, rules, shown_at, sym, view, ◌<◌, ◌≡◌}
 use Rattle.tmw_witness.proofs.Kept.{AreLong}
 use Rattle.tmw_witness.proofs.Replayed.{MayFollow, replayed-more}
 use Rattle.tmw_witness.proofs.witness.Witness.place.Goals as goal
@@ -30,11 +25,9 @@ returns-clause-placed c = λ starts those.
     let follows : MayFollow (map view items) c.args.mask p (view item) c.args.step.held c.in-Some-after.end w = record {
       room = room;
       few = within;
-      small = search rules;
-      fits = search rules;
       at = shown_at items p item (ltb-true p _ (sym looked.0)) looked.1;
       lower = c.if-item-place-ne0.false;
-      next = sym c.if-not-is_next.ensures;
+      next = c.if-not-is_next.ensures.0 refl;
       may = sym c.if-not-may_hold.ensures;
       reads = after.0;
       to = after.1;

@@ -1,11 +1,5 @@
-use Rattle.std.proofs.Common.{rules, ◌≡◌, ◌+◌, ◌-◌, ◌*◌, ◌%◌, ◌^◌, ◌<◌, ◌≤◌, ℕ, map, length, sym, ap, ◌∙◌, arith}
-use Rattle.std.specs.Int.{bit_at}
-use Rattle.std.proofs.Math.Nat.{mod-eq_of_lt}
+use Rattle.tmw_witness.proofs.Shared.{ap, arith, bit_at, bit_at_ones, eqb-true, length, length-map, map, mod-eq_of_lt, rules, view, ℕ, ◌%◌, ◌*◌, ◌+◌, ◌-◌, ◌^◌, ◌∙◌, ◌≡◌, ◌≤◌}
 use Rattle.std.proofs.Math.Pow.{pow_mono}
-use Rattle.std.proofs.lemmas.Bool.{eqb-true}
-use Rattle.std.proofs.lemmas.List.{length-map}
-use Rattle.std.proofs.lemmas.Nat.Bits.{bit_at_ones}
-use Rattle.tmw_cuts.specs.Views.{view}
 use Rattle.tmw_witness.proofs.Placed.{placed-all}
 use Rattle.tmw_witness.proofs.witness.Witness.take.Goals as goal
 
@@ -16,9 +10,6 @@ loop-left-preserved c = record {
   unknown = c.place.ensures.known ∙ c.loop-left.invariant.unknown;
   places = λ starts has. c.in-Some.ensures.placed starts (c.loop-left.invariant.places starts has);
 }
-
-pub overflow_add-self : goal.overflow_add-self
-overflow_add-self c = let is = c.from.ensures in let fits = c.loop-left.invariant.fits in omega (arith, is, fits)
 
 pub returns : goal.returns
 returns c = λ starts has known.

@@ -1,9 +1,5 @@
 -- What was placed so far stands as a serial order, and none is known yet.
-use Rattle.std.proofs.Common.{◌≡◌, ◌<◌, ◌≤◌, ◌^◌, false, List, length, map}
-use Rattle.std.specs.List.{Contains}
-use Rattle.tmw_defs.specs.Opaque.{State}
-use Rattle.tmw_cuts.specs.Views.{view}
-use Rattle.tmw_witness.specs.Placing.{PlacesThose}
+use Rattle.tmw_witness.proofs.Shared.{Contains, List, PlacesThose, State, false, length, map, view, ◌<◌, ◌^◌, ◌≡◌, ◌≤◌}
 use Rattle.tmw_witness.proofs.witness.Witness.take.Given as goal
 
 abbrev pub invariant-loop-left : goal.invariant-loop-left

@@ -1,0 +1,37 @@
+-- What the proofs of this crate take from the libraries, from the crates below and from its specs.
+pub use Rattle.std.proofs.Common.{All, AllPairs, Bool, IfSome, IsFalse, IsTrue, List, None, Option, Some, [], ap, append_assoc, arith, drop, false, get_or, inl, inr, length, refl, rules, subst, suc, sym, take, true, zero, ℕ, ◌++◌, ◌+◌, ◌<◌, ◌==◌, ◌↔◌, ◌∙◌, ◌∷◌, ◌≡◌, ◌≢◌, ◌≤◌, ◌⊎◌}
+pub use Rattle.std.proofs.lemmas.Bool.{cases_Bool, cases_lt, eq-eqb, ne_eqb}
+pub use Rattle.std.proofs.lemmas.List.{drop-append-le, drop_all, take-append-drop, take_all, take_more}
+pub use Rattle.std.proofs.lemmas.Result.{IfOk-weaker, err_from_is_err_and}
+pub use Rattle.std.specs.List.{Contains}
+pub use Rattle.std.specs.Prelude.{is_some, remove, slice_get}
+pub use Rattle.tmw_cuts.proofs.FirstMembers.{contains_here}
+pub use Rattle.tmw_cuts.specs.Members.{members}
+pub use Rattle.tmw_cuts.specs.Standing.{StandsFor, views_of}
+pub use Rattle.tmw_cuts.specs.declared.states.States.{States}
+pub use Rattle.tmw_defs.proofs.OneMore.{length-transactions_push}
+pub use Rattle.tmw_defs.proofs.VerdictProof.{IsFirst-push, so_far-fine, sums_up-cut, sums_up-new, sums_up-open, sums_up-quiet, verdict-many, verdict-violated, verdict-wide}
+pub use Rattle.tmw_defs.proofs.Weaker.{ends-by}
+pub use Rattle.tmw_defs.specs.Criteria.{EndsBy, is_quiet_by, outcomes_by, so_far}
+pub use Rattle.tmw_defs.specs.Cuts.{is_cut}
+pub use Rattle.tmw_defs.specs.History.{is_well_formed, transactions}
+pub use Rattle.tmw_defs.specs.Opaque.{State}
+pub use Rattle.tmw_defs.specs.Outcomes.{Ends, MoreThan}
+pub use Rattle.tmw_defs.specs.Summary.{SumsUp}
+pub use Rattle.tmw_defs.specs.Verdict.{IsFine, IsMalformed, IsTooMany, IsTooWide, IsVerdict, IsViolated, Rules}
+pub use Rattle.tmw_defs.specs.declared.criterion.Criterion.{Criterion}
+pub use Rattle.tmw_defs.specs.declared.verdict.Verdict.{Verdict}
+pub use Rattle.tmw_defs.specs.declared.verdict.Verdict.TheVariants.{Malformed, OpaqueSoFar, StrictSoFar, Undecided, Violated}
+pub use Rattle.tmw_events.specs.declared.event.Event.{Event}
+pub use Rattle.tmw_search.specs.Ended.{EndsOf, HasMoreThan}
+pub use Rattle.tmw_wellformed.specs.Notes.{Notes}
+pub use Rattle.tmw_wellformed.specs.Tracks.{Tracks}
+pub use Rattle.tmw_wellformed.specs.declared.note.Note.{Note}
+pub use Rattle.tmw_witness.specs.Witnessing.{Witnesses, committed_of, rank_of, state_of}
+pub use Rattle.tmw_monitor.specs.Breaking.{IsBrokenAt, TellsTracked}
+pub use Rattle.tmw_monitor.specs.Fitting.{Fits, Keeps, KeepsNothing, TellsWrong, rules_for}
+pub use Rattle.tmw_monitor.specs.Weighing.{Closes, StaysOpen, Tells, wrong_of}
+pub use Rattle.tmw_monitor.specs.declared.broken.Broken.{Broken}
+pub use Rattle.tmw_monitor.specs.declared.monitor.Monitor.{Monitor}
+pub use Rattle.tmw_monitor.specs.declared.open.Open.{Open}
+pub use Rattle.tmw_monitor.specs.declared.weighed.Weighed.TheVariants.{NoOutcome, Outcome, TooMany}

@@ -1,0 +1,268 @@
+-- What follows from each read, one after another.
+use Rattle.tmw_search.proofs.Shared.{Bool, Branch, Chosen, Effect, From, Gives, HasNone, In, IsBranch, IsFalse, IsLegal, IsNode, IsOnly, IsRead, IsSound, IsTrue, KeepsOthers, LeavesOut, List, Narrows, Node, NoneMay, Open, Reads, ReadsFrom, SettledSource, Settles, Source, Sourced, Start, State, Writes, ap, arith, bit_and, bit_at, bit_at-lt, bit_at-pow_other, bit_at-zero, bit_at_and, bit_at_clear_other, bit_not, eq-eqb, false, get_or-set_other, get_or-set_same, inl, inr, length, looking, need_at, ordered, refl, set, shift_is, slice_index, source_at, subst, sym, true, w8, ℕ, ◌%◌, ◌*◌, ◌+◌, ◌-◌, ◌<◌, ◌==◌, ◌^◌, ◌↔◌, ◌∙◌, ◌≡◌, ◌≤◌, ◌⊎◌}
+use Rattle.tmw_search.specs.Narrowed.{Follows}
+use Rattle.tmw_search.proofs.Bits.{same_place, less_of, less_has}
+use Rattle.tmw_search.proofs.Branching.{never-true}
+use Rattle.tmw_search.proofs.Giving.{is_pair}
+use Rattle.tmw_search.proofs.Nodes.{node-ordered, legal-chosen, legal-with, legal-less, reads-sourced, before-of}
+
+pub follows-then : {xs : List Effect} {start : State} {may : ℕ} {old mid new : Node} {alive : Bool} → Follows xs start may old mid true
+    → Follows xs start may mid new alive → Follows xs start may old new alive
+follows-then f g = record {
+  is = g.is;
+  into = λ held rank lives l. f.into held rank refl (g.into held rank lives l);
+  onto = λ held rank l. g.onto held rank (f.onto held rank l).1;
+}
+
+-- there is no legal order
+pub follows-none : {xs : List Effect} {start : State} {may : ℕ} {old new : Node} → HasNone xs start may old → Follows xs start may old new false
+follows-none none = record {
+  is = λ alive. absurd (never-true alive);
+  into = λ held rank alive l. absurd (never-true alive);
+  onto = λ held rank l. absurd (none held rank l);
+}
+
+-- nodes that differ in what is looked at have the same legal orders
+legal-looking : {xs : List Effect} {start : State} {may : ℕ} {node : Node} {held : ℕ} {rank : ℕ → ℕ} (reads : List ℕ)
+    → IsLegal xs start may node held rank ↔ IsLegal xs start may (looking node reads) held rank
+legal-looking reads = (
+  λ l. record { ranking = l.ranking; more = l.more; only = l.only; agree = l.agree; reads = l.reads },
+  λ l. record { ranking = l.ranking; more = l.more; only = l.only; agree = l.agree; reads = l.reads },
+)
+
+-- a settled read is left out
+pub follows-left : {xs : List Effect} {start : State} {may j r : ℕ} {old new : Node} → LeavesOut j r old new → Settles xs start may old j r
+    → IsNode xs start may old → Follows xs start may old new true
+follows-left {xs = xs} {start = start} {may = may} {j = j} {r = r} {old = old} lo settled n =
+    subst (λ (node : Node). Follows xs start may old node true) (sym lo.is) (record {
+      is = λ alive. record {
+        order = n.order;
+        writers = n.writers;
+        reads = λ a q within_a within_q is. n.reads a q within_a within_q (lo.only a q within_a within_q is);
+        rest = λ a q within_a within_q in_it needs. elim (is_pair a q j r) [
+          | inl (same, here) ↦ inr (rw (same, here) settled)
+          | inr differ ↦ elim (n.rest a q within_a within_q in_it needs) [
+            | inl read ↦ inl (lo.kept a q within_a within_q differ read)
+            | inr s ↦ inr s
+          ]
+        ];
+        members = n.members;
+        agree = n.agree;
+        sound = n.sound;
+      };
+      into = λ held rank alive l. (legal-looking lo.reads).1 l;
+      onto = λ held rank l. (refl, (legal-looking lo.reads).0 l);
+    })
+
+-- a writer of the register is one that the node holds
+held-writes : (xs : List Effect) (start : State) (may r k held : ℕ) (node : Node) → r < 8 → IsNode xs start may node → NoneMay xs may r
+    → ((i : ℕ) → i < 8 → In held i → In node.held i ⊎ In may i) → Writes xs held r k → In (slice_index node.choices.writers r) k
+held-writes xs start may r k held node within n none among w = elim (among k w.0 w.1) [
+  | inl own ↦ (n.writers r k within w.0).1 (own, w.2)
+  | inr might ↦ absurd (none k w.0 might w.2)
+]
+
+-- no other writes the register
+pub alone : (mask j k : ℕ) → bit_and mask (bit_not w8 (1 * 2 ^ j % 2 ^ 8)) ≡ 0 → k < 8 → j < 8 → In mask k → k ≡ j
+alone mask j k none within within_j is = elim (same_place k j) [
+  | inl same ↦ same
+  | inr apart ↦ absurd (omega (arith, is, ap (λ (m : ℕ). bit_at m k) none, bit_at-zero k, bit_at_clear_other w8 mask j within_j k within apart))
+]
+
+pub follows-alone : {xs : List Effect} {start : State} {may j r : ℕ} {old new : Node} {b : Bool} → j < 8 → r < 8 → IsNode xs start may old
+    → IsRead old.choices j r → source_at old.choices j r ≡ Open → NoneMay xs may r
+    → ((k : ℕ) → k < 8 → In (slice_index old.choices.writers r) k → k ≡ j) → LeavesOut j r old new
+    → b ≡ (slice_index start r == need_at xs j r) → (IsTrue b → slice_index start r ≡ need_at xs j r) → Follows xs start may old new b
+follows-alone {xs = xs} {start = start} {may = may} {j = j} {r = r} {old = old} {b = b} within_j within_r n read free none only lo tells value =
+    let mine : (held k : ℕ) → ((i : ℕ) → i < 8 → In held i → In old.held i ⊎ In may i) → Writes xs held r k → k ≡ j =
+    λ held k among w. only k w.0 (held-writes xs start may r k held old within_r n none among w) in
+    let settled : IsTrue b → Settles xs start may old j r = λ alive held rank ranks more among.
+    subst (λ (s : Source). Reads xs held start rank j r s) (sym free)
+    (inl (record { value = value alive; others = λ k w. omega (arith, ap rank (mine held k among w)) })) in
+    record {
+      is = λ alive. (follows-left lo (settled alive) n).is refl;
+      into = λ held rank alive l. (follows-left lo (settled alive) n).into held rank refl l;
+      onto = λ held rank l.
+          let (in_it, needs) = n.reads j r within_j within_r read in
+          let reads : Reads xs held start rank j r Open =
+          subst (λ (s : Source). Reads xs held start rank j r s) free (l.reads j r within_j within_r (inl in_it) needs) in
+          elim reads [
+            | inl s ↦
+                let alive : IsTrue b = tells ∙ eq-eqb _ _ s.value in
+                (alive, ((follows-left lo (settled alive) n).onto held rank l).1)
+            | inr (i, f) ↦ absurd (omega (arith, f.below, ap rank (mine held i l.only f.writes)))
+          ];
+    }
+
+-- none offered, none legal
+pub follows-never : {xs : List Effect} {start : State} {may : ℕ} {node : Node} {b : Branch} → IsBranch xs start may node b → b.writers ≡ 0
+    → (IsTrue b.start → ⊥) → Follows xs start may node node false
+follows-never is none not = follows-none (λ held rank l. elim (is.all held rank l) [
+  | inl (yes_start, s) ↦ absurd (not yes_start)
+  | inr (i, few, one, f) ↦ absurd (omega (arith, one, ap (λ (m : ℕ). bit_at m i) none, bit_at-zero i))
+])
+
+false-true : (b : Bool) → IsFalse b → IsTrue b → ⊥
+false-true true is not = absurd (cc)
+false-true false is not = absurd (cc)
+
+only-reads : (xs : List Effect) (start : State) (may : ℕ) (node : Node) (b : Branch) (source : Source) → IsBranch xs start may node b
+    → IsOnly b source → (held : ℕ) (rank : ℕ → ℕ) → IsLegal xs start may node held rank → Reads xs held start rank b.reader b.register source
+only-reads xs start may node b Open is only held rank l = absurd only
+only-reads xs start may node b Start is only held rank l = elim (is.all held rank l) [
+  | inl (yes_start, s) ↦ s
+  | inr (i, few, one, f) ↦ absurd (omega (arith, one, ap (λ (m : ℕ). bit_at m i) only.1, bit_at-zero i))
+]
+only-reads xs start may node b (From i) is only held rank l = elim (is.all held rank l) [
+  | inl (yes_start, s) ↦ absurd (false-true b.start only.0 yes_start)
+  | inr (k, few, one, f) ↦ subst (λ (m : ℕ). ReadsFrom xs held rank b.reader b.register m) (only.3 k few one) f
+]
+
+-- the read has been given its source, and what follows is known
+pub follows-given : {xs : List Effect} {start : State} {may : ℕ} {old mid : Node} {reach : List ℕ} {b : Branch} {source : Source} {alive : Bool}
+    → IsBranch xs start may old b → IsOnly b source → Gives xs start may old b.reader b.register source mid
+    → Narrows (Sourced (slice_index mid.choices.writers b.register) b.reader source) mid.reach reach alive
+    → Follows xs start may old (ordered mid reach) alive
+follows-given {xs = xs} {start = start} {may = may} {old = old} {mid = mid} {reach = reach} {b = b} {source = source} is only g n = record {
+  is = λ lives. node-ordered n.grows n.order g.is;
+  into = λ held rank lives l. g.into held rank (legal-less n.grows l);
+  onto = λ held rank l.
+      let reads = only-reads xs start may old b source is only held rank l in
+      let next = g.onto held rank l reads in
+      let sourced = reads-sourced xs start held rank b.reader b.register (slice_index mid.choices.writers b.register) source
+      (λ k within one.
+      let (holds, leaves) = (g.is.writers b.register k is.register within).0 one in
+      (within, next.more k within holds, leaves)) reads in
+      (n.told rank next.ranking sourced, legal-with (n.all rank next.ranking sourced) next);
+}
+
+-- what follows from all sources that are chosen is known
+pub follows-settled : {xs : List Effect} {start : State} {may : ℕ} {old mid : Node} {reach : List ℕ} {alive : Bool} → Follows xs start may old mid true
+    → Narrows (Chosen mid.choices) mid.reach reach alive → Follows xs start may old (ordered mid reach) alive
+follows-settled {xs = xs} {start = start} {may = may} {mid = mid} {reach = reach} f n = record {
+  is = λ lives. node-ordered n.grows n.order (f.is refl);
+  into = λ held rank lives l. f.into held rank refl (legal-less n.grows l);
+  onto = λ held rank l.
+      let next = (f.onto held rank l).1 in
+      let chosen = legal-chosen (f.is refl) next in
+      (n.told rank next.ranking chosen, legal-with (n.all rank next.ranking chosen) next);
+}
+
+-- by who precedes whom the read is settled
+pub settled-by : {xs : List Effect} {start : State} {may : ℕ} {node : Node} (j r : ℕ) (source : Source) → j < 8 → r < 8
+    → IsNode xs start may node → NoneMay xs may r → source_at node.choices j r ≡ source → (source ≡ Open → ⊥)
+    → SettledSource (slice_index node.choices.writers r) j source node.reach → Settles xs start may node j r
+settled-by {xs = xs} {start = start} {may = may} {node = node} j r source within_j within_r n none at closed s held rank ranks more among =
+    subst (λ (x : Source). Reads xs held start rank j r x) (sym at)
+    (reads-of source closed (subst (λ (x : Source). IsSound xs start node.held j r x) at (n.sound j r within_j within_r)) s)
+  where
+    reads-of : (source : Source) → (source ≡ Open → ⊥) → IsSound xs start node.held j r source
+        → SettledSource (slice_index node.choices.writers r) j source node.reach → Reads xs held start rank j r source
+    reads-of Open closed sound s = absurd (closed refl)
+    reads-of Start closed sound s = record {
+      value = sound;
+      others = λ k w. ranks.kept j k within_j w.0 (s k w.0 (held-writes xs start may r k held node within_r n none among w));
+    }
+    reads-of (From i) closed sound s =
+        let ((within_i, holds, leaves), value) = sound in
+        record {
+          writes = (within_i, more i within_i holds, leaves);
+          value = value;
+          below = before-of node.reach rank i j within_i within_j ranks s.has s.apart;
+          others = λ k v. elim (s.out k v.0 (held-writes xs start may r k held node within_r n none among v)) [
+            | inl before ↦ inl (ranks.kept k i v.0 within_i before)
+            | inr after ↦ inr (ranks.kept j k within_j v.0 after)
+          ];
+        }
+
+pub only-closed : (b : Branch) (source : Source) → IsOnly b source → source ≡ Open → ⊥
+only-closed b Open only same = only
+only-closed b Start only same = absurd (cc)
+only-closed b (From i) only same = absurd (cc)
+
+-- the reads of one transaction, those of the mask left
+pub record ReadBy (xs : List Effect) (start : State) (may j left : ℕ) (old now : Node) : Type 0 where
+  pub follows : Follows xs start may old now true
+  pub waits : (q : ℕ) → q < 8 → In left q → IsRead now.choices j q × (source_at now.choices j q ≡ Open)
+  pub others : (a q : ℕ) → a < 8 → q < 8 → (a ≡ j → ⊥) → IsRead old.choices a q
+      → IsRead now.choices a q × (source_at now.choices a q ≡ source_at old.choices a q)
+
+pub read-more : {xs : List Effect} {start : State} {may j left : ℕ} {old mid new : Node} (r : ℕ) → j < 8 → r < 8 → In left r
+    → ReadBy xs start may j left old mid → Follows xs start may mid new true → KeepsOthers j r mid new
+    → ReadBy xs start may j (left - 1 * 2 ^ r % 2 ^ 8) old new
+read-more {j = j} {left = left} r within_j within_r one b f kept =
+    let less = less_of left r within_r one in
+    record {
+      follows = follows-then b.follows f;
+      waits = λ q few is.
+          let apart : q ≡ r → ⊥ = λ same. absurd (omega (arith, is, ap (bit_at (left - 1 * 2 ^ r % 2 ^ 8)) same, less.new)) in
+          let (read, free) = b.waits q few (less_has left r _ q less is) in
+          let (still, same) = kept j q within_j few (λ both. apart both.1) read in
+          (still, same ∙ free);
+      others = λ a q few_a few_q apart is.
+          let (read, same) = b.others a q few_a few_q apart is in
+          let (still, here) = kept a q few_a few_q (λ both. apart both.0) read in
+          (still, here ∙ same);
+    }
+
+-- the reads of the transactions from this one on
+pub record ReadFrom (xs : List Effect) (start : State) (may j : ℕ) (reads : List ℕ) (old now : Node) : Type 0 where
+  pub follows : Follows xs start may old now true
+  pub waits : (a q : ℕ) → j ≤ a → a < 8 → q < 8 → In (slice_index reads a) q → IsRead now.choices a q × (source_at now.choices a q ≡ Open)
+
+pub read-next : {xs : List Effect} {start : State} {may j : ℕ} {reads : List ℕ} {old mid new : Node} → ReadFrom xs start may j reads old mid
+    → Follows xs start may mid new true
+    → ((a q : ℕ) → a < 8 → q < 8 → (a ≡ j → ⊥) → IsRead mid.choices a q
+    → IsRead new.choices a q × (source_at new.choices a q ≡ source_at mid.choices a q))
+    → ReadFrom xs start may (j + 1) reads old new
+read-next b f kept = record {
+  follows = follows-then b.follows f;
+  waits = λ a q past few_a few_q is.
+      let (read, free) = b.waits a q (omega (arith, past)) few_a few_q is in
+      let (still, same) = kept a q few_a few_q (λ here. absurd (omega (arith, here, past))) read in
+      (still, same ∙ free);
+}
+
+-- one bit of a mask of reads is cleared
+pub left_out : (j r : ℕ) (node : Node) → j < 8 → r < 8 → length node.choices.reads ≡ 8
+    → LeavesOut j r node (record node {
+      choices = record node.choices {
+        reads = set node.choices.reads j (bit_and (slice_index node.choices.reads j) (bit_not w8 (1 * 2 ^ r % 2 ^ 8)));
+      };
+    })
+left_out j r node within_j within_r size =
+    let old = node.choices.reads in
+    let mask = bit_not w8 (1 * 2 ^ r % 2 ^ 8) in
+    let row = bit_and (slice_index old j) mask in
+    let long : j < length old = omega (arith, within_j, size) in
+    let here : slice_index (set old j row) j ≡ row = get_or-set_same old j row 0 long in
+    record {
+      reads = set old j row;
+      is = refl;
+      only = λ a q within_a within_q is. elim (same_place a j) [
+        | inl same ↦ rw same (
+            let one : In row q = rw (same, here) at is in
+            omega (arith, one, bit_at_and (slice_index old j) mask q, bit_at-lt (slice_index old j) q, bit_at-lt mask q))
+        | inr apart ↦ rw (get_or-set_other old j a row 0 apart) at is
+      ];
+      kept = λ a q within_a within_q differ is. elim (same_place a j) [
+        | inl same ↦ rw (same, here) (bit_at_clear_other w8 (slice_index old j) r within_r q within_q (λ is_r. differ (same, is_r)) ∙ rw same at is)
+        | inr apart ↦ rw (get_or-set_other old j a row 0 apart) is
+      ];
+    }
+
+-- a mask that is one bit has no other
+pub one-bit : (mask i k : ℕ) → i < 8 → k < 8 → mask ≡ 1 * 2 ^ i % 2 ^ 8 → In mask k → k ≡ i
+one-bit mask i k within few same is = elim (same_place k i) [
+  | inl here ↦ here
+  | inr apart ↦ absurd (omega (arith, is, ap (λ (m : ℕ). bit_at m k) (same ∙ shift_is i within), bit_at-pow_other i k apart))
+]
+
+pub kept-given : {xs : List Effect} {start : State} {may : ℕ} {old new : Node} {j r : ℕ} {source : Source}
+    → Gives xs start may old j r source new → KeepsOthers j r old new
+kept-given g = λ a q within_a within_q differ is. (g.reads a q within_a within_q is, g.others a q within_q differ)
+
+pub kept-left : {mid new : Node} {j r : ℕ} (old : Node) → LeavesOut j r mid new → KeepsOthers j r old mid → KeepsOthers j r old new
+kept-left old lo kept = λ a q within_a within_q differ is.
+    let (read, same) = kept a q within_a within_q differ is in
+    rw lo.is (lo.kept a q within_a within_q differ read, same)

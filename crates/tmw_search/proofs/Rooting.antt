@@ -1,0 +1,335 @@
+-- Where the search begins: the masks of who precedes whom are an order, and are the real-time order of a window's transactions.
+use Rattle.tmw_search.proofs.Shared.{AllByRecursion, AreRising, Begins, Bool, Criterion, Effect, Event, Has, In, IsOrder, IsRow, IsTrue, Leaves, Lies, List, Marks, Needs, Opacity, Some, Strict, Txn, View, [], add_event, and_from, and_parts, ap, arith, bit, bit_and, bit_at, bit_at-lt, bit_at-pow_other, bit_at-pow_same, bit_at-zero, bit_at_above, bit_at_and, bit_at_ones, bit_at_set_other, bit_at_set_same, bit_or, cases_Bool, cases_lt, eq-eqb, false, get_or, get_or-set_other, get_or-set_same, get_or_past, idle, inl, inr, is_ended, length, length-set, lies-add, lt-ltb, ltb-true, members_of, precedes, refl, set, shift_is, slice_get, slice_get_within, slice_index, suc, sym, transactions, transactions_from, true, views_of, w8, zero, ℕ, ◌%◌, ◌*◌, ◌+◌, ◌-◌, ◌<◌, ◌==◌, ◌^◌, ◌↔◌, ◌∙◌, ◌∷◌, ◌≡◌, ◌≤◌, ◌⊎◌}
+use Rattle.std.proofs.lemmas.List.FromFn.{get_or-map-range_with_len}
+use Rattle.std.proofs.Math.Pow.{pow-lt}
+use Rattle.tmw_defs.proofs.OneMore.{joins, add_event_here, add_event_past}
+use Rattle.tmw_search.proofs.Giving.{set_or}
+use Rattle.tmw_search.proofs.Bits.{below_bits, same_place, less_of, less_has, or-left, or-right, or_either}
+use Rattle.tmw_search.proofs.LayerSteps.{slice_get_some}
+use Rattle.tmw_search.proofs.WindowViews.{shows-views_of, last_in_time}
+
+-- none begins before the one before it
+Rising : ℕ → List Txn → Type 0
+Rising low [] = Unit {0}
+Rising low (t ∷ ts) = (low ≤ t.first) × Rising t.first ts
+
+rising-add : (low place : ℕ) (e : Event) (ts : List Txn) → low ≤ place → Rising low ts → AllByRecursion (Lies 0 place) ts
+    → Rising low (add_event place e ts)
+unfolding Rising
+rising-add low place e [] within r all = (within, tt)
+rising-add low place e (t ∷ ts) within r all = elim (cases_Bool (joins e t)) [
+  | inl here ↦ rw (add_event_here place e t ts here) (r.0, r.1)
+  | inr past ↦ rw (add_event_past place e t ts past) (r.0, rising-add t.first place e ts (omega (arith, all.0.ordered, all.0.high)) r.1 all.1)
+]
+
+rising-transactions : (place : ℕ) (ts : List Txn) (es : List Event) → Rising 0 ts → AllByRecursion (Lies 0 place) ts
+    → Rising 0 (transactions_from place ts es)
+rising-transactions place ts [] r all = r
+rising-transactions place ts (e ∷ es) r all =
+    rising-transactions (place + 1) (add_event place e ts) es (rising-add 0 place e ts (omega arith) r all) (lies-add 0 place e ts (omega arith) all)
+
+rising-at : (low : ℕ) (ts : List Txn) (i : ℕ) (t : Txn) → Rising low ts → slice_get ts i ≡ Some t → low ≤ t.first
+unfolding Rising
+rising-at low [] i t r at = absurd (cc)
+rising-at low (x ∷ ts) zero t r at = let same : x ≡ t = cc in rw (← same) r.0
+rising-at low (x ∷ ts) (suc i) t r at = omega (arith, r.0, rising-at x.first ts i t r.1 at)
+
+rising-le : (low : ℕ) (ts : List Txn) (i j : ℕ) (t u : Txn) → Rising low ts → slice_get ts i ≡ Some t → slice_get ts j ≡ Some u → i ≤ j
+    → t.first ≤ u.first
+unfolding Rising
+rising-le low [] i j t u r at_i at_j le = absurd (cc)
+rising-le low (x ∷ ts) zero j t u r at_i at_j le =
+    let same : x ≡ t = cc in rw (← same) (rising-at x.first (x ∷ ts) j u (omega arith, r.1) at_j)
+rising-le low (x ∷ ts) (suc i) zero t u r at_i at_j le = absurd (omega (arith, le))
+rising-le low (x ∷ ts) (suc i) (suc j) t u r at_i at_j le = rising-le x.first ts i j t u r.1 at_i at_j (omega (arith, le))
+
+bit_true : (b : Bool) → bit b ≡ 1 → b ≡ true
+bit_true true one = refl
+bit_true false one = absurd (omega (arith, one))
+
+pub rising-views : (events : List Event) → AreRising (views_of events)
+unfolding Rising
+rising-views events =
+    let ts = transactions events in
+    let shows = shows-views_of events in
+    let rises : Rising 0 ts = rising-transactions 0 [] events tt tt in
+    let txn : (i : ℕ) (x : View) → slice_get (views_of events) i ≡ Some x → (t : Txn) × (slice_get ts i ≡ Some t) =
+    λ i x at. slice_get_some ts i (let w = slice_get_within (views_of events) i x at in omega (arith, w, shows.same_length)) in
+    -- who precedes one is a transaction, that ended before it began
+    let parts : (i j : ℕ) (y : View) (u : Txn) → slice_get (views_of events) j ≡ Some y → slice_get ts j ≡ Some u → In y.before i
+    → (t : Txn) × (slice_get ts i ≡ Some t) × IsTrue (is_ended t.text) × (t.last < u.first) =
+    λ i j y u at_j at_u one.
+    let shown = shows.each j y u at_j at_u in
+    let within : i < length ts = elim (cases_lt i (length ts)) [
+      | inl below ↦ below
+      | inr past ↦ absurd (omega (arith, one, bit_at_above y.before (length ts) i shown.fits past))
+    ] in
+    let (t, at_t) = slice_get_some ts i within in
+    let (ended, less) = and_parts (is_ended t.text) _ (bit_true (precedes t u) (sym (shown.bits i t at_t) ∙ one)) in
+    (t, at_t, ended, ltb-true t.last u.first less) in
+    record {
+      earlier = λ i j y at_j one.
+          let (u, at_u) = txn j y at_j in
+          let (t, at_t, ended, less) = parts i j y u at_j at_u one in
+          elim (cases_lt i j) [
+            | inl below ↦ below
+            | inr past ↦ absurd (omega (arith, less, last_in_time events i t at_t, rising-le 0 ts j i u t rises at_u at_t past))
+          ];
+      later = λ i j k y z at_j at_k not_before one.
+          let (u, at_u) = txn j y at_j in
+          let (w, at_w) = txn k z at_k in
+          let (t, at_t, ended, less) = parts i j y u at_j at_u one in
+          let first = rising-le 0 ts j k u w rises at_u at_w not_before in
+          let before : precedes t w ≡ true = and_from (is_ended t.text) _ ended (lt-ltb t.last w.first (omega (arith, less, first))) in
+          (shows.each k z w at_k at_w).bits i t at_t ∙ ap bit before;
+    }
+
+-- it precedes one of the first n, and began before that one
+abbrev Under : List View → ℕ → ℕ → Type 0
+Under xs n i = (m : ℕ) × (x : View) × (m < n) × (slice_get xs m ≡ Some x) × In x.before i × (i < m)
+
+-- the masks of the first n are made
+pub record Rows (mask : ℕ) (xs : List View) (n : ℕ) (reach : List ℕ) (before : ℕ) : Type 0 where
+  size : length reach ≡ 8
+  fits : (k : ℕ) → slice_index reach k < 256
+  upto : (i : ℕ) → In before i ↔ Under xs n i
+  has : (i j : ℕ) → i < 8 → j < 8 → Has reach i j ↔ ((i ≡ j) ⊎ ((j < n) × In mask j × In mask i × Under xs (j + 1) i))
+
+upto-more : (xs : List View) (n limit mask : ℕ) (x : View) → limit ≡ 2 ^ n → slice_get xs n ≡ Some x → ((i : ℕ) → In mask i ↔ Under xs n i)
+    → (i : ℕ) → In (bit_or mask (bit_and x.before (limit - 1))) i ↔ Under xs (n + 1) i
+upto-more xs n limit mask x is_limit at upto i =
+    let low : In (bit_and x.before (limit - 1)) i ↔ (In x.before i × (i < n)) = rw is_limit (below_bits x.before n i) in (
+      λ is. elim (or_either mask (bit_and x.before (limit - 1)) i is) [
+        | inl was ↦ (let (m, y, within, there, one, less) = (upto i).0 was in (m, y, omega (arith, within), there, one, less))
+        | inr new ↦ (let (one, less) = low.0 new in (n, x, omega arith, at, one, less))
+      ],
+      λ (m, y, within, there, one, less). elim (same_place m n) [
+        | inl same ↦
+            let is : y ≡ x = (let here : slice_get xs n ≡ Some y = rw same at there in cc) in
+            or-right mask (bit_and x.before (limit - 1)) i (low.1 (rw is at one, omega (arith, less, same)))
+        | inr apart ↦ or-left mask (bit_and x.before (limit - 1)) i ((upto i).1 (m, y, omega (arith, within, apart), there, one, less))
+      ],
+    )
+
+pub rows-more : (mask : ℕ) (xs : List View) (n limit : ℕ) (reach : List ℕ) (before row : ℕ) (x : View) → limit ≡ 2 ^ n → n < 8 → row < 256
+    → slice_get xs n ≡ Some x → Rows mask xs n reach before
+    → IsRow mask (bit_or before (bit_and x.before (limit - 1))) n row
+    → Rows mask xs (n + 1) (set reach n row) (bit_or before (bit_and x.before (limit - 1)))
+rows-more mask xs n limit reach before row x is_limit within small at r is =
+    let long : n < length reach = omega (arith, within, r.size) in
+    let next = upto-more xs n limit before x is_limit at r.upto in
+    let here = get_or-set_same reach n row 0 long in
+    record {
+      size = length-set reach n row ∙ r.size;
+      fits = λ k. elim (same_place k n) [
+        | inl same ↦ omega (arith, small, ap (slice_index (set reach n row)) same, here)
+        | inr apart ↦ omega (arith, r.fits k, get_or-set_other reach n k row 0 apart)
+      ];
+      upto = next;
+      has = λ i j low_i low_j. elim (same_place j n) [
+        | inl same ↦ rw (same, here) (
+          λ one. elim ((is i low_i).0 one) [
+            | inl own ↦ inl own
+            | inr (own, other, one) ↦ inr (omega arith, own, other, (next i).0 one)
+          ],
+          λ told. (is i low_i).1 (elim told [
+            | inl own ↦ inl own
+            | inr (less, own, other, under) ↦ inr (own, other, (next i).1 under)
+          ]),
+        )
+        | inr apart ↦ rw (get_or-set_other reach n j row 0 apart) (
+          λ one. elim ((r.has i j low_i low_j).0 one) [
+            | inl own ↦ inl own
+            | inr (less, own, other, under) ↦ inr (omega (arith, less), own, other, under)
+          ],
+          λ told. (r.has i j low_i low_j).1 (elim told [
+            | inl own ↦ inl own
+            | inr (less, own, other, under) ↦ inr (omega (arith, less, apart), own, other, under)
+          ]),
+        )
+      ];
+    }
+
+pub rows-order : (mask : ℕ) (xs : List View) (n : ℕ) (reach : List ℕ) (before : ℕ) → Rows mask xs n reach before → IsOrder reach
+rows-order mask xs n reach before r = record {
+  size = r.size;
+  fits = r.fits;
+  self = λ i within. (r.has i i within within).1 (inl refl);
+  closed = λ i j k within_i within_j within_k one two. elim ((r.has i j within_i within_j).0 one) [
+    | inl same ↦ rw same two
+    | inr (below, own, other, (m, x, less, at, has, past)) ↦ elim ((r.has j k within_j within_k).0 two) [
+      | inl same ↦ rw same at one
+      | inr (below_k, own_k, in_j, (q, y, less_k, at_k, has_k, past_k)) ↦
+          (r.has i k within_i within_k).1 (inr (below_k, own_k, other, (m, x, omega (arith, less, less_k, past_k), at, has, past)))
+    ]
+  ];
+  apart = λ i j within_i within_j one two. elim ((r.has i j within_i within_j).0 one) [
+    | inl same ↦ same
+    | inr (below, own, other, (m, x, less, at, has, past)) ↦ elim ((r.has j i within_j within_i).0 two) [
+      | inl same ↦ sym same
+      | inr (below_i, own_i, in_j, (q, y, less_i, at_i, has_i, past_i)) ↦ absurd (omega (arith, less, past, less_i, past_i))
+    ]
+  ];
+}
+
+pub rows-begin : (mask : ℕ) (xs : List View) (n : ℕ) (reach : List ℕ) (before : ℕ) → n ≡ length xs → length xs ≤ 8
+    → Rows mask xs n reach before → AreRising xs → Begins mask xs reach
+rows-begin mask xs n reach before all few r rising = record {
+  each = λ i j y within_i at apart.
+      let below : j < n = (let w = slice_get_within xs j y at in omega (arith, w, all)) in
+      let both = r.has i j within_i (omega (arith, below, all, few)) in (
+        λ has. elim (both.0 has) [
+          | inl same ↦ absurd (apart same)
+          | inr (less, own, other, (m, x, less_m, at_m, one, past)) ↦ (own, other, rising.later i m j x y at_m at (omega (arith, less_m)) one)
+        ],
+        λ (own, other, one). both.1 (inr (below, own, other, (j, y, omega arith, at, one, rising.earlier i j y at one))),
+      );
+  none = λ i j within_i within_j apart past has. elim ((r.has i j within_i within_j).0 has) [
+    | inl same ↦ apart same
+    | inr (below, own, other, under) ↦ absurd (omega (arith, below, all, past))
+  ];
+}
+
+-- a row with those of a mask, and without
+pub row-with : (mask before place : ℕ) → place < 8 → In mask place → IsRow mask before place (bit_or (bit_and before mask) (1 * 2 ^ place % 2 ^ 8))
+row-with mask before place within own i few =
+    let both = set_or (bit_and before mask) place i within in (
+      λ is. elim (both.0 is) [
+        | inl one ↦ inr (
+          own,
+          omega (arith, one, bit_at_and before mask i, bit_at-lt before i, bit_at-lt mask i),
+          omega (arith, one, bit_at_and before mask i, bit_at-lt before i, bit_at-lt mask i),
+        )
+        | inr same ↦ inl same
+      ],
+      λ is. both.1 (elim is [
+        | inl same ↦ inr same
+        | inr (here, other, one) ↦ inl (omega (arith, other, one, bit_at_and before mask i))
+      ]),
+    )
+
+pub row-alone : (mask before place : ℕ) → place < 8 → (In mask place → ⊥) → IsRow mask before place (1 * 2 ^ place % 2 ^ 8)
+row-alone mask before place within out i few = (
+  λ is. elim (same_place i place) [
+    | inl same ↦ inl same
+    | inr apart ↦ absurd (omega (arith, is, ap (λ (m : ℕ). bit_at m i) (shift_is place within), bit_at-pow_other place i apart))
+  ],
+  λ is. elim is [
+    | inl same ↦ ap (λ (m : ℕ). bit_at m i) (shift_is place within) ∙ ap (bit_at (2 ^ place)) same ∙ bit_at-pow_same place
+    | inr (own, other, one) ↦ absurd (out own)
+  ],
+)
+
+abbrev alone : List ℕ
+alone = 1 ∷ 2 ∷ 4 ∷ 8 ∷ 16 ∷ 32 ∷ 64 ∷ 128 ∷ []
+
+alone-at : (j : ℕ) → j < 8 → slice_index alone j ≡ 2 ^ j
+alone-at j few = get_or-map-range_with_len (λ k. 2 ^ k) 0 8 j j 0 few (omega arith)
+
+pub rows-none : (mask : ℕ) (xs : List View) → Rows mask xs 0 (1 ∷ 2 ∷ 4 ∷ 8 ∷ 16 ∷ 32 ∷ 64 ∷ 128 ∷ []) 0
+rows-none mask xs = record {
+  size = refl;
+  fits = λ k. elim (cases_lt k 8) [
+    | inl few ↦ omega (arith, alone-at k few, pow-lt few)
+    | inr past ↦ omega (arith, get_or_past alone k 0 past)
+  ];
+  upto = λ i. (λ is. absurd (omega (arith, is, bit_at-zero i)), λ (m, x, within, at, one, less). absurd (omega (arith, within)));
+  has = λ i j few_i few_j. (
+    λ is. elim (same_place i j) [
+      | inl same ↦ inl same
+      | inr apart ↦ absurd (omega (arith, is, ap (λ (m : ℕ). bit_at m i) (alone-at j few_j), bit_at-pow_other j i apart))
+    ],
+    λ told. elim told [
+      | inl same ↦ ap (λ (m : ℕ). bit_at m i) (alone-at j few_j) ∙ ap (bit_at (2 ^ j)) same ∙ bit_at-pow_same j
+      | inr (within, own, other, under) ↦ absurd (omega (arith, within))
+    ],
+  );
+}
+
+-- the mask with one more looked at
+pub marks-with : (holds : View → Bool) (xs : List View) (n mask now : ℕ) (x : View) → slice_get xs n ≡ Some x → Marks holds xs n mask
+    → ((i : ℕ) → (i ≡ n → ⊥) → bit_at now i ≡ bit_at mask i) → (bit_at now n == 1) ≡ holds x → Marks holds xs (n + 1) now
+marks-with holds xs n mask now x at m others own = record {
+  below = λ i y within there. elim (same_place i n) [
+    | inl same ↦ (let is : y ≡ x = (let here : slice_get xs n ≡ Some y = rw same at there in cc) in rw (same, is) own)
+    | inr apart ↦ ap (λ (b : ℕ). b == 1) (others i apart) ∙ m.below i y (omega (arith, within, apart)) there
+  ];
+  rest = λ i past. others i (λ same. absurd (omega (arith, same, past))) ∙ m.rest i (omega (arith, past));
+}
+
+pub marks-more : (holds : View → Bool) (xs : List View) (n mask : ℕ) (x : View) → n < 8 → slice_get xs n ≡ Some x → Marks holds xs n mask
+    → holds x ≡ true → Marks holds xs (n + 1) (bit_or mask (1 * 2 ^ n % 2 ^ 8))
+marks-more holds xs n mask x few at m is = marks-with holds xs n mask _ x at m (λ i apart. bit_at_set_other w8 mask n few i apart)
+    (eq-eqb _ 1 (bit_at_set_same w8 mask n few) ∙ sym is)
+
+pub marks-same : (holds : View → Bool) (xs : List View) (n mask : ℕ) (x : View) → slice_get xs n ≡ Some x → Marks holds xs n mask
+    → holds x ≡ false → Marks holds xs (n + 1) mask
+marks-same holds xs n mask x at m out =
+    marks-with holds xs n mask mask x at m (λ i apart. refl) (ap (λ (b : ℕ). b == 1) (m.rest n (omega arith)) ∙ sym out)
+
+-- the masks of those that are not left
+pub record ReadsUpto (xs : List Effect) (mask : ℕ) (reads : List ℕ) (left : ℕ) : Type 0 where
+  pub size : length reads ≡ 8
+  pub fits : (k : ℕ) → slice_index reads k < 256
+  pub among : (j : ℕ) → In left j → In mask j
+  pub done : (j r : ℕ) → j < 8 → r < 8 → In (slice_index reads j) r ↔ (In mask j × (In left j → ⊥) × Needs xs j r)
+
+pub record WritersUpto (xs : List Effect) (mask : ℕ) (writers : List ℕ) (left : ℕ) : Type 0 where
+  pub among : (j : ℕ) → In left j → In mask j
+  pub done : (r k : ℕ) → r < 8 → k < 8 → In (slice_index writers r) k ↔ (In mask k × (In left k → ⊥) × Leaves xs k r)
+
+pub reads-more : (xs : List Effect) (mask : ℕ) (reads : List ℕ) (left i row : ℕ) → i < 8 → row < 256 → row ≡ (get_or xs i idle).needed
+    → In left i → ReadsUpto xs mask reads left → ReadsUpto xs mask (set reads i row) (left - 1 * 2 ^ i % 2 ^ 8)
+reads-more xs mask reads left i row within small is one u =
+    let less = less_of left i within one in
+    let long : i < length reads = omega (arith, within, u.size) in
+    record {
+      size = length-set reads i row ∙ u.size;
+      fits = λ k. elim (same_place k i) [
+        | inl same ↦ omega (arith, small, ap (slice_index (set reads i row)) same, get_or-set_same reads i row 0 long)
+        | inr apart ↦ omega (arith, u.fits k, get_or-set_other reads i k row 0 apart)
+      ];
+      among = λ j has. u.among j (less_has left i _ j less has);
+      done = λ j r within_j within_r. elim (same_place j i) [
+        | inl same ↦ rw (same, get_or-set_same reads i row 0 long, is) (
+          λ has. (u.among i one, λ still. absurd (omega (arith, still, less.new)), has),
+          λ (own, gone, needs). needs,
+        )
+        | inr apart ↦ rw (get_or-set_other reads i j row 0 apart, ← less.other j apart) (u.done j r within_j within_r)
+      ];
+    }
+
+pub writers-more : (xs : List Effect) (mask : ℕ) (writers next : List ℕ) (left i row : ℕ) → i < 8 → row ≡ (get_or xs i idle).left → In left i
+    → ((r k : ℕ) → r < 8 → k < 8 → In (slice_index next r) k ↔ (In (slice_index writers r) k ⊎ ((k ≡ i) × In row r)))
+    → WritersUpto xs mask writers left → WritersUpto xs mask next (left - 1 * 2 ^ i % 2 ^ 8)
+writers-more xs mask writers next left i row within is one adds u =
+    let less = less_of left i within one in
+    record {
+      among = λ j has. u.among j (less_has left i _ j less has);
+      done = λ r k within_r within_k. elim (same_place k i) [
+        | inl same ↦ rw same (
+          λ has. (
+            u.among i one,
+            λ still. absurd (omega (arith, still, less.new)),
+            elim ((adds r i within_r within).0 has) [ inl was ↦ ((u.done r i within_r within).0 was).2 | inr (own, in_row) ↦ rw is at in_row ],
+          ),
+          λ (own, gone, leaves). (adds r i within_r within).1 (inr (refl, rw is leaves)),
+        )
+        | inr apart ↦ rw (← less.other k apart) (
+          λ has. elim ((adds r k within_r within_k).0 has) [
+            | inl was ↦ (u.done r k within_r within_k).0 was
+            | inr (same, in_row) ↦ absurd (apart same)
+          ],
+          λ told. (adds r k within_r within_k).1 (inl ((u.done r k within_r within_k).1 told)),
+        )
+      ];
+    }
+
+-- one that is held is in each serial order
+pub held-member : (criterion : Criterion) (n held i : ℕ) → i < n → In held i → In (members_of criterion n held) i
+held-member Strict n held i within has = has
+held-member Opacity n held i within has = bit_at_ones n i within
+
+-- those that the mask has are of the list
+pub marks-within : (holds : View → Bool) (xs : List View) (n mask i : ℕ) → Marks holds xs n mask → In mask i → i < n
+marks-within holds xs n mask i m has = elim (cases_lt i n) [ inl within ↦ within | inr past ↦ absurd (omega (arith, has, m.rest i past)) ]

@@ -1,0 +1,31 @@
+use Rattle.tmw_search.proofs.Shared.{arith, length-map, view}
+use Rattle.tmw_search.proofs.Answering.{begun}
+use Rattle.tmw_search.proofs.Completing.{ends-few, ends-many}
+use Rattle.tmw_search.proofs.Rooting.{marks-within}
+use Rattle.tmw_search.proofs.completions.find_ends.Goals as goal
+
+pub add_completions-requires-clause-within : goal.add_completions-requires-clause-within
+add_completions-requires-clause-within c = λ i has.
+    let w = marks-within _ _ _ _ i c.statuses_of-statuses.ensures.shows.committed_at has in omega (arith, w, length-map c.args.items.now view)
+
+pub add_completions-requires-clause-left : goal.add_completions-requires-clause-left
+add_completions-requires-clause-left c = λ i has.
+    let w = marks-within _ _ _ _ i c.statuses_of-statuses.ensures.shows.pending_at has in omega (arith, w, length-map c.args.items.now view)
+
+pub returns-then-not-branch : goal.returns-then-not-branch
+returns-then-not-branch c =
+    ends-many c.add_completions.new.found.ends (begun c.requires c.statuses_of-statuses.ensures.eight c.statuses_of-statuses.ensures.shows c.orderly.ensures c.order_of-reach.ensures.shows)
+    c.told-starts (let more = c.in_ok-add_completions.ensures.more c.if-not-branch.true in omega (arith, more, c.none-found.ensures.cap))
+    (rw c.none-found.ensures.ends at c.in_ok-add_completions.ensures.adds)
+
+pub returns-then-not-are_few : goal.returns-then-not-are_few
+returns-then-not-are_few c =
+    ends-many c.add_completions.new.found.ends (begun c.requires c.statuses_of-statuses.ensures.eight c.statuses_of-statuses.ensures.shows c.orderly.ensures c.order_of-reach.ensures.shows)
+    c.told-starts (let more = c.are_few.ensures.more c.if-not-are_few.true in omega (arith, more, c.in_ok-add_completions.ensures.cap, c.none-found.ensures.cap))
+    (rw c.none-found.ensures.ends at c.in_ok-add_completions.ensures.adds)
+
+pub returns : goal.returns
+returns c =
+    ends-few c.add_completions.new.found.ends (begun c.requires c.statuses_of-statuses.ensures.eight c.statuses_of-statuses.ensures.shows c.orderly.ensures c.order_of-reach.ensures.shows)
+    c.told-starts (let few = c.are_few.ensures.few c.if-not-are_few.false in omega (arith, few, c.in_ok-add_completions.ensures.cap, c.none-found.ensures.cap))
+    (rw (c.none-found.ensures.ends, c.if-not-branch.false) at c.in_ok-add_completions.ensures.adds)

@@ -1,0 +1,17 @@
+use Rattle.tmw_search.proofs.Shared.{bit_and, bit_not, effects, members, ordered, w8, ◌≡◌}
+use Rattle.tmw_search.proofs.Adding.{AddsEach}
+use Rattle.tmw_search.proofs.Lasting.{LeavesAt}
+use Rattle.tmw_search.proofs.last.+add_last.Given as goal
+
+abbrev pub decreases-add_last : goal.decreases-add_last
+decreases-add_last l = l.registers
+
+abbrev pub invariant-loop-left : goal.invariant-loop-left
+invariant-loop-left l = record {
+  adds : AddsEach (LeavesAt (effects l.items) l.start (ordered l.node l.reach) l.register l.registers l.end)
+      (bit_and l.writers (bit_not w8 l.before)) l.left (members l.fn.found.ends) (members l.found.ends);
+  cap : l.found.cap ≡ l.fn.found.cap;
+}
+
+abbrev pub decreases-loop-left : goal.decreases-loop-left
+decreases-loop-left l = l.left

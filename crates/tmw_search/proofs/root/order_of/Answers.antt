@@ -1,0 +1,27 @@
+use Rattle.tmw_search.proofs.Shared.{arith, length-map, map, shift_is, view, ◌<◌}
+use Rattle.tmw_search.proofs.Rooting.{rows-none, rows-more, rows-order, rows-begin}
+use Rattle.tmw_search.proofs.WindowViews.{shown_at}
+use Rattle.tmw_search.proofs.root.order_of.Goals as goal
+
+pub loop-place-init : goal.loop-place-init
+loop-place-init c = rows-none c.args.mask (map view c.args.items.now)
+
+pub loop-place-preserved : goal.loop-place-preserved
+loop-place-preserved c =
+    let items = c.args.items.now in
+    let place = c.loop-place.place in
+    let within : place < 8 = omega (arith, c.loop-place-test.true, c.requires) in
+    rows-more c.args.mask (map view items) place _ c.loop-place.reach c.loop-place.before c.row_of.result (view c.index-items-place.result)
+    (shift_is place within) within c.row_of.type_inv (shown_at items place c.index-items-place.result c.loop-place-test.true c.index-items-place.is)
+    c.loop-place.invariant c.row_of.ensures
+
+pub returns-clause-order : goal.returns-clause-order
+returns-clause-order c =
+    rows-order c.args.mask (map view c.args.items.now) c.loop-place.place c.loop-place.reach c.loop-place.before c.loop-place.invariant
+
+pub returns-clause-shows : goal.returns-clause-shows
+returns-clause-shows c =
+    let items = c.args.items.now in
+    rows-begin c.args.mask (map view items) c.loop-place.place c.loop-place.reach c.loop-place.before
+    (omega (arith, length-map items view, c.loop-place-test.false, c.loop-place.auto.place-end)) (omega (arith, length-map items view, c.requires))
+    c.loop-place.invariant

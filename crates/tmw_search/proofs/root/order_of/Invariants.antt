@@ -1,0 +1,6 @@
+use Rattle.tmw_search.proofs.Shared.{map, view}
+use Rattle.tmw_search.proofs.Rooting.{Rows}
+use Rattle.tmw_search.proofs.root.order_of.Given as goal
+
+abbrev pub invariant-loop-place : goal.invariant-loop-place
+invariant-loop-place l = Rows l.mask (map view l.items) l.place l.reach l.before

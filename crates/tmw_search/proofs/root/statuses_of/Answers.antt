@@ -1,0 +1,63 @@
+use Rattle.tmw_search.proofs.Shared.{Bool, HasEight, Marks, Some, View, ap, arith, effect_of, inl, inr, is_committed, is_pending, length, length-map, map, refl, slice_get, slice_get_read, slice_get_within, sym, view, ℕ, ◌+◌, ◌<◌, ◌∙◌, ◌≡◌}
+use Rattle.tmw_search.proofs.Bits.{same_place}
+use Rattle.tmw_search.proofs.Rooting.{marks-more, marks-same}
+use Rattle.tmw_search.proofs.WindowViews.{shown_at}
+use Rattle.tmw_search.proofs.root.statuses_of.Goals.{in-Committed, in-Pending, in-Live, in-Aborted}
+use Rattle.tmw_cuts.specs.declared.txn.Txn as cuts
+use Rattle.tmw_search.proofs.root.statuses_of.Goals as goal
+
+pub loop-place-preserved : goal.loop-place-preserved
+loop-place-preserved c =
+    let items = c.args.items.now in
+    let place = c.loop-place.place in
+    let within : place < 8 = omega (arith, c.loop-place-test.true, c.requires) in
+    let x = view c.index-items-place.result in
+    let at = shown_at items place c.index-items-place.result c.loop-place-test.true c.index-items-place.is in
+    let item = c.index-items-place.result in
+    let sized : HasEight (effect_of item) =
+    (rw c.effect.ensures at c.tell_eight.ensures, rw c.effect-in-loop-place.ensures at c.tell_eight-in-loop-place.ensures) in
+    let eight : (i : ℕ) (y : cuts.Txn) → i < place + 1 → slice_get items i ≡ Some y
+    → HasEight (effect_of y) =
+    λ i y below there. elim (same_place i place) [
+      | inl same ↦
+          let here : slice_get items place ≡ Some item = slice_get_read items (length items) place item refl c.loop-place-test.true c.index-items-place.is in
+          let is : y ≡ item = (let moved : slice_get items place ≡ Some y = ap (slice_get items) (sym same) ∙ there in cc) in
+          rw is sized
+      | inr apart ↦ c.loop-place.invariant.eight i y (omega (arith, below, apart)) there
+    ] in
+    let set = λ (holds : View → Bool) (mask : ℕ) (m : Marks holds (map view items) place mask). marks-more holds (map view items) place mask x within at m in
+    let keep = λ (holds : View → Bool) (mask : ℕ) (m : Marks holds (map view items) place mask). marks-same holds (map view items) place mask x at m in
+    let committed = c.loop-place.invariant.committed in
+    let pending = c.loop-place.invariant.pending in
+    elim c.match-item.branch [
+      | in-Committed w ↦ rw (w.committed-is, w.pending-is) (record {
+        committed = set _ _ committed (ap is_committed w.in-Committed.is);
+        pending = keep _ _ pending (ap is_pending w.in-Committed.is);
+        eight = eight;
+      })
+      | in-Pending w ↦ rw (w.committed-is, w.pending-is) (record {
+        committed = keep _ _ committed (ap is_committed w.in-Pending.is);
+        pending = set _ _ pending (ap is_pending w.in-Pending.is);
+        eight = eight;
+      })
+      | in-Live w ↦ rw (w.committed-is, w.pending-is) (record {
+        committed = keep _ _ committed (ap is_committed w.in-Live.is);
+        pending = keep _ _ pending (ap is_pending w.in-Live.is);
+        eight = eight;
+      })
+      | in-Aborted w ↦ rw (w.committed-is, w.pending-is) (record {
+        committed = keep _ _ committed (ap is_committed w.in-Aborted.is);
+        pending = keep _ _ pending (ap is_pending w.in-Aborted.is);
+        eight = eight;
+      })
+    ]
+
+pub returns-clause-shows : goal.returns-clause-shows
+returns-clause-shows c =
+    let all : c.loop-place.place ≡ length (map view c.args.items.now) =
+    omega (arith, length-map c.args.items.now view, c.loop-place-test.false, c.loop-place.auto.place-end) in
+    record { committed_at = rw all at c.loop-place.invariant.committed; pending_at = rw all at c.loop-place.invariant.pending }
+
+pub returns-clause-eight : goal.returns-clause-eight
+returns-clause-eight c = λ i x at.
+    c.loop-place.invariant.eight i x (let w = slice_get_within c.args.items.now i x at in omega (arith, w, c.loop-place-test.false)) at

@@ -1,0 +1,109 @@
+ghost use Rattle.std.specs.Prelude.{◌≡◌, ◌↔◌, ◌<◌, IsTrue, ℕ, slice_index};
+ghost use Rattle.std.specs.Int.{bit_at};
+ghost use Rattle.tmw_search.specs.Order.{Has, IsOrder, Narrows};
+ghost use Rattle.tmw_search.specs.Settled.{IfClear, IfStuck, lives};
+ghost use Rattle.tmw_search.specs.Chosen.{
+  Sourced,
+  SettledSource,
+  WithinSource,
+  ChosenBy,
+  Chosen,
+  SettledBy,
+  AllSettled,
+  Within,
+};
+
+use crate::settle::{Found, settle_read, settle_start};
+use crate::sources::{Choices, Source};
+use tmw_cuts::lowest;
+
+/// What follows from the source of one read.
+#[inline(always)]
+pub fn settle_source(reach: &mut [u8; 8], writers: u8, j: usize, source: Source) -> Found
+    requires second { j < 8 }
+    requires within { WithinSource source }
+    requires order { IsOrder reach.now }
+    ensures narrows { Narrows (Sourced writers j source) reach.old reach.new (lives result) }
+    ensures clear { IfClear result (SettledSource writers j source reach.new) }
+    ensures stuck { IfStuck result (Sourced writers j source) reach.old }
+{
+    match source {
+        Source::Open => Found::Clear,
+        Source::Start => {
+            if settle_start(reach, j, writers) {
+                Found::Clear
+            } else {
+                Found::Never
+            }
+        }
+        Source::From(i) => settle_read(reach, i as usize, j, writers),
+    }
+}
+
+/// What follows from the sources of one transaction's reads.
+#[inline(always)]
+fn settle_reads(reach: &mut [u8; 8], choices: &Choices, j: usize) -> Found
+    requires second { j < 8 }
+    requires within { Within choices.now }
+    requires order { IsOrder reach.now }
+    ensures narrows { Narrows (ChosenBy choices.now j) reach.old reach.new (lives result) }
+    ensures clear { IfClear result (SettledBy choices.now j reach.new) }
+    ensures stuck { IfStuck result (ChosenBy choices.now j) reach.old }
+{
+    let mut found = Found::Clear;
+    let mut left = choices.reads[j];
+    while left != 0 {
+        let r = lowest(left);
+        left -= 1 << r;
+        match settle_source(reach, choices.writers[r], j, choices.sources[8 * j + r]) {
+            Found::Never => return Found::Never,
+            Found::Clear => {}
+            Found::Stuck(a, b, k) => found = Found::Stuck(a, b, k),
+        }
+    }
+    found
+}
+
+/// What follows from all sources, each taken once.
+fn settle_once(reach: &mut [u8; 8], choices: &Choices) -> Found
+    requires within { Within choices.now }
+    requires order { IsOrder reach.now }
+    ensures narrows { Narrows (Chosen choices.now) reach.old reach.new (lives result) }
+    ensures clear { IfClear result (AllSettled choices.now reach.new) }
+    ensures stuck { IfStuck result (Chosen choices.now) reach.old }
+{
+    let mut found = Found::Clear;
+    for j in 0..8usize {
+        match settle_reads(reach, choices, j) {
+            Found::Never => return Found::Never,
+            Found::Clear => {}
+            Found::Stuck(a, b, k) => found = Found::Stuck(a, b, k),
+        }
+    }
+    found
+}
+
+/// Tells whether the same come before the same.
+#[inline(always)]
+fn is_same(one: &[u8; 8], other: &[u8; 8]) -> bool
+    ensures { IsTrue result ↔ one.now ≡ other.now }
+{
+    *one == *other
+}
+
+/// What follows from all sources.
+pub fn settle(reach: &mut [u8; 8], choices: &Choices) -> Found
+    requires within { Within choices.now }
+    requires order { IsOrder reach.now }
+    ensures narrows { Narrows (Chosen choices.now) reach.old reach.new (lives result) }
+    ensures clear { IfClear result (AllSettled choices.now reach.new) }
+    ensures stuck { IfStuck result (Chosen choices.now) reach.new }
+{
+    let mut was = *reach;
+    let mut found = settle_once(reach, choices);
+    while found.is_alive() && !is_same(reach, &was) {
+        was = *reach;
+        found = settle_once(reach, choices);
+    }
+    found
+}

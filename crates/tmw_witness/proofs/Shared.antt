@@ -1,0 +1,27 @@
+-- What the proofs of this crate take from the libraries, from the crates below and from its specs.
+pub use Rattle.std.proofs.Common.{Bool, IfSome, IsTrue, List, None, Option, Some, [], ap, arith, bit_or, false, get_or, if◌then◌else◌, inl, inr, length, map, pow-suc, refl, rules, subst, suc, sym, true, w8, zero, ℕ, ◌%◌, ◌*◌, ◌++◌, ◌+◌, ◌-◌, ◌/◌, ◌<◌, ◌==◌, ◌^◌, ◌∙◌, ◌∷◌, ◌≡◌, ◌≤◌, ◌⊎◌}
+pub use Rattle.std.proofs.Math.Nat.{div-lt_iff_lt-mul, le-max_left, le-max_right, mod-eq_of_lt}
+pub use Rattle.std.proofs.lemmas.Bool.{and_parts, cases_Bool, cases_lt, eqb-true, false_from_ne_true, ltb-true, not-true}
+pub use Rattle.std.proofs.lemmas.List.{append-nil, get_or-set_other, get_or-set_same, length-append, length-map}
+pub use Rattle.std.proofs.lemmas.Nat.Bits.{bit_at-zero, bit_at_above, bit_at_ones, bit_at_set_other, bit_at_set_same, shr_and_one}
+pub use Rattle.std.proofs.lemmas.Option.{get_or_from_slice_get, slice_get-get_or, slice_get_within}
+pub use Rattle.std.specs.Int.{bit_at}
+pub use Rattle.std.specs.List.{Contains, list_any}
+pub use Rattle.std.specs.Prelude.{position, slice_get, slice_set}
+pub use Rattle.tmw_cuts.specs.Standing.{view_of, views_of}
+pub use Rattle.tmw_cuts.specs.Views.{View, answered_ops, bit, completed_mask, is_open_for, new_view, next_view, push_views, view}
+pub use Rattle.tmw_defs.proofs.QuietProof.{left_out, reads_hold-write}
+pub use Rattle.tmw_defs.proofs.QuietTexts.{AddsAWrite, tells_no_value}
+pub use Rattle.tmw_defs.specs.History.{Txn, is_ended, is_over, operation, status_of, transactions}
+pub use Rattle.tmw_defs.specs.Opaque.{State, after, after_writes, may_hold, precedes, reads_hold}
+pub use Rattle.tmw_defs.specs.Outcomes.{Ends, Leads}
+pub use Rattle.tmw_events.specs.declared.event.Kind.{Kind}
+pub use Rattle.tmw_events.specs.declared.event.Kind.TheVariants.{A, C, K, N, R, T, V, W}
+pub use Rattle.tmw_search.proofs.Bits.{bit_cases, same_place}
+pub use Rattle.tmw_search.proofs.LayerSteps.{slice_get_some}
+pub use Rattle.tmw_search.proofs.WindowViews.{shown_at, shows-views_of}
+pub use Rattle.tmw_witness.specs.Placing.{HasWriterOf, PlacesThose}
+pub use Rattle.tmw_witness.specs.Turns.{PrecedesNone, TurnsAt}
+pub use Rattle.tmw_witness.specs.Witness.{HasWriter, IsWitness, MayStand, Stands}
+pub use Rattle.tmw_witness.specs.Witnessing.{Witnesses, committed_of, rank_of, state_of}
+pub use Rattle.tmw_witness.specs.declared.witness.Witness.{Witness}

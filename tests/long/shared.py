@@ -1,0 +1,112 @@
+#!/usr/bin/env python3
+"""Writes the imports of a crate's proofs anew: what two files or more take from a module comes by one line through proofs/Shared.antt.
+
+    tests/long/shared.py CRATE..
+
+Run it at the top of the repository, then `rt fmt` and `rt check` in the crate's folder. It drops what a file names nowhere else, and
+takes a name from the same module in all files. A file keeps lines of its own for the crate's own lemmas and goals, for whole modules,
+for what it renames, and for modules that no other file cites. Of two things of one name the one that more files cite is shared. A
+second run changes nothing, and Proof.antt stays as it is. Output: for each crate how many files it wrote. Exit status: 0.
+"""
+import functools
+import re
+import subprocess
+import sys
+from collections import Counter, defaultdict
+from pathlib import Path
+
+HEAD = "-- What the proofs of this crate take from the libraries, from the crates below and from its specs."
+USE = re.compile(r"(?:unfoldable )?(?:pub )?use (\S+)\.\{(.*)\}")
+WORD = re.compile(r"\[\]|[^\s(){}\[\],;:.]+")
+LIBRARIES = Path(subprocess.check_output(["rt", "doc"], text=True).strip()).parent / "rlibs"
+
+
+def path_of(module):
+    """The file of a module of a crate or of the kit, where std stands for core too; of one that has no text its name."""
+    crate, *rest = module.removeprefix("Rattle.").split(".")
+    below = Path(*rest).with_suffix(".antt")
+    places = [Path("crates", crate), *(LIBRARIES / f"{it}.rlib/lang/antt" for it in (crate, "core"))]
+    return next((place / below for place in places if (place / below).is_file()), Path(module))
+
+
+@functools.cache
+def passed_on(module):
+    """Of what a module passes on: by name the module that it takes it from."""
+    path = path_of(module)
+    lines = path.read_text().split("\n") if path.is_file() else []
+    found = [USE.fullmatch(line) for line in lines if "pub use " in line]
+    return {name: it[1] for it in found if it for name in it[2].split(", ")}
+
+
+def home_of(module, name):
+    """The file that declares a thing."""
+    while name in passed_on(module):
+        module = passed_on(module)[name]
+    return path_of(module)
+
+
+class File:
+    """A file of proofs: by name the module that it takes it from, its other imports, the names that it unfolds, and the rest."""
+
+    def __init__(self, path, shared):
+        lines = path.read_text().split("\n")
+        uses = [line for line in lines if line.startswith("use ")]
+        self.path, self.names, self.kept = path, {}, []
+        self.rest = [line for line in lines if not line.startswith("use ")]
+        self.at = lines.index(uses[-1]) + 1 - len(uses) if uses else 0
+        body = "\n".join(line for line in self.rest if not line.lstrip().startswith("--"))
+        self.unfolded = set(" ".join(re.findall(r"\bunfold(?:ing)? (.*)", body)).split())
+        words = set(WORD.findall(body))
+        for use in uses:
+            it = USE.fullmatch(use)
+            if not it or " as " in it[2]:
+                self.kept.append(use)
+                continue
+            used = [name for name in it[2].split(", ") if name in words or words.issuperset(filter(None, name.split("◌")))]
+            self.names.update({name: passed_on(shared)[name] if it[1] == shared else it[1] for name in used})
+
+    def write(self, shared, through):
+        by = defaultdict(list, {shared: sorted(name for name, module in self.names.items() if through.get(name) == module)})
+        for name, module in self.names.items():
+            if name not in by[shared]:
+                by[module].append(name)
+        uses = [f"use {module}.{{{', '.join(names)}}}" for module, names in by.items() if names]
+        self.path.write_text("\n".join(self.rest[: self.at] + uses + self.kept + self.rest[self.at :]))
+
+
+def write_crate(crate):
+    top, own = Path("crates", crate, "proofs"), f"Rattle.{crate}.proofs."
+    paths = sorted(path for path in top.rglob("*.antt") if path.name not in ("Lib.antt", "Shared.antt", "Proof.antt"))
+    files = [File(path, own + "Shared") for path in paths]
+    cited = defaultdict(Counter)
+    for file in files:
+        for name, module in file.names.items():
+            cited[home_of(module, name), name][module] += 1
+    for file in files:
+        file.names = {name: cited[home_of(module, name), name].most_common(1)[0][0] for name, module in file.names.items()}
+    users = Counter(module for file in files for module in set(file.names.values()) if not module.startswith(own))
+    counts = Counter((name, module) for file in files for name, module in file.names.items() if users[module] > 1)
+    through = {name: module for (name, module), _ in sorted(counts.items(), key=lambda it: (it[1], it[0]))}
+    for file in files:
+        file.write(own + "Shared", through)
+    unfolded = {name for file in files for name in file.unfolded & set(file.names) if file.names[name] == through.get(name)}
+    write_shared(top, crate, through, unfolded)
+    print(f"{crate}: {len(files) + 1}")
+
+
+def write_shared(top, crate, through, unfolded):
+    by = defaultdict(list)
+    for name, module in sorted(through.items()):
+        rank = not module.startswith("Rattle.std."), module.startswith(f"Rattle.{crate}.")
+        by[rank, module, "unfoldable pub" if name in unfolded else "pub"].append(name)
+    lines = [f"{how} use {module}.{{{', '.join(names)}}}" for (_, module, how), names in sorted(by.items())]
+    (top / "Shared.antt").write_text("\n".join([HEAD, *lines, ""]))
+    lib = top / "Lib.antt"
+    mods = lib.read_text().split("\n") if lib.is_file() else [""]
+    if "mod Shared" not in mods:
+        mods.insert(next((i for i, line in enumerate(mods) if line.split("mod ")[-1] > "Shared"), len(mods) - 1), "mod Shared")
+        lib.write_text("\n".join(mods))
+
+
+for one in sys.argv[1:]:
+    write_crate(one)
