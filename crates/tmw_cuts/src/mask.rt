@@ -1,5 +1,5 @@
 ghost use Rattle.std.specs.Int.{bit_at};
-ghost use Rattle.std.specs.Prelude.{◌≡◌, ◌<◌, ◌≤◌, length, map};
+ghost use Rattle.std.specs.Prelude.{◌≡◌, ◌<◌, ◌≤◌, length, map, ℕ};
 ghost use Rattle.tmw_cuts.specs.Views.{view, completed_mask};
 
 use crate::txn::Txn;
@@ -27,6 +27,7 @@ pub fn lowest(mask: u8) -> usize
     requires { 0 < mask }
     ensures within { result < 8 }
     ensures among { bit_at mask result ≡ 1 }
+    ensures lowest { (i : ℕ) → i < result → bit_at mask i ≡ 0 }
 {
     mask.trailing_zeros() as usize
 }

@@ -1,10 +1,8 @@
 -- The ends from each start and by each completion are those of the criterion.
-use Rattle.tmw_search.proofs.Shared.{Adds, Agree, AllOpen, AreEnds, AreEndsFrom, AreMembers, Bool, Completes, Contains, Criterion, Effect, EndsBy, EndsByMore, EndsFromAll, EndsIn, EndsOf, Event, In, IsLegal, IsNode, IsRead, IsRoot, IsTrue, LeadsBy, List, Node, Open, Reads, ReadsAll, Source, State, States, Window, [], ap, arith, bit_at, bit_at-zero, bit_at_ones, bit_or, contains_none, effects, false, get_or, get_or_default, inl, inr, length, map, members, members_of, not, refl, slice_index, subst, sym, transactions, true, view, views, ℕ, ◌%◌, ◌*◌, ◌+◌, ◌-◌, ◌<◌, ◌^◌, ◌↔◌, ◌∙◌, ◌≡◌, ◌≤◌, ◌⊎◌}
+use Rattle.tmw_search.proofs.Shared.{Adds, Agree, AllOpen, AreEnds, AreEndsFrom, AreMembers, Bool, Completes, Contains, Criterion, Effect, EndsBy, EndsByMore, EndsByReading, EndsFromAll, EndsIn, Entails, Event, In, IsEndOf, IsLegal, IsNode, IsRead, IsRoot, IsTrue, LeadsBy, List, Node, Open, Reads, ReadsAll, Source, State, States, Window, [], ap, arith, bit_at, bit_at-zero, bit_at_ones, bit_or, contains_none, effects, false, get_or, get_or_default, inl, inr, length, map, members, members_of, not, refl, slice_index, subst, sym, transactions, true, view, views, ℕ, ◌%◌, ◌*◌, ◌+◌, ◌-◌, ◌<◌, ◌^◌, ◌↔◌, ◌∙◌, ◌≡◌, ◌≤◌, ◌⊎◌}
 use Rattle.tmw_search.specs.declared.completions.Reading.{Reading}
 use Rattle.tmw_search.specs.declared.end_states.EndStates.{EndStates}
 use Rattle.tmw_search.specs.declared.end_states.EndStates.TheVariants.{Few, Many}
-use Rattle.tmw_search.specs.Completed.{EndsByReading}
-use Rattle.tmw_search.specs.Narrowed.{Follows}
 use Rattle.tmw_search.proofs.Adding.{adds-to, adds-empty, adds-both}
 use Rattle.tmw_search.proofs.Answering.{Begun, Shown, legal-root, shown-of}
 use Rattle.tmw_search.proofs.Bits.{same_place, bit_cases, less_of, less_has}
@@ -21,7 +19,7 @@ all-registers r few = bit_at_ones 8 r few
 -- an end of other orders that are legal too
 moved : {xs : List Effect} {one other : State} {node next : Node} {base e : State}
     → ((held : ℕ) (rank : ℕ → ℕ) → IsLegal xs one 0 node held rank → IsLegal xs other 0 next held rank)
-    → EndsOf xs one node 255 base e → EndsOf xs other next 255 base e
+    → IsEndOf xs one node 255 base e → IsEndOf xs other next 255 base e
 moved onto x = record { held = x.held; rank = x.rank; legal = onto x.held x.rank x.legal; size = x.size; settled = x.settled; rest = x.rest }
 
 -- from another start that has the same in each register that is read
@@ -58,8 +56,8 @@ pub ends-read : {xs : List Effect} {start : State} {root : Node} {done : Bool} {
     → ((state : State) → IsNode xs state 0 root) → AllOpen root.choices.reads root → ReadsAll xs root
     → ((j r : ℕ) → j < 8 → r < 8 → IsRead root.choices j r → In needed r)
     → ((r : ℕ) → r < 8 → In needed r → slice_index reading.start r ≡ slice_index start r)
-    → Follows xs reading.start 0 root reading.node reading.alive
-    → Adds done old new (EndsByReading xs reading start) → Adds done old new (EndsOf xs start root 255 start)
+    → Entails xs reading.start 0 root reading.node reading.alive
+    → Adds done old new (EndsByReading xs reading start) → Adds done old new (IsEndOf xs start root 255 start)
 ends-read {start = start} {root = root} needed reading nodes waits all reads same f a =
     let agree = λ (j r : ℕ) (within_j : j < 8) (within_r : r < 8) (read : IsRead root.choices j r). same r within_r (reads j r within_j within_r read) in
     let onto = legal-start (nodes start) waits all agree in
@@ -72,7 +70,7 @@ pub same-ends : (xs : List Effect) (one other : State) (root : Node) (shown : �
     → ReadsAll xs root → ((j r : ℕ) → j < 8 → r < 8 → IsRead root.choices j r → In shown r)
     → ((r : ℕ) → r < 8 → (In shown r → ⊥) → (k : ℕ) × (k < 8) × In (slice_index root.choices.writers r) k)
     → ((r : ℕ) → r < 8 → In shown r → slice_index other r ≡ slice_index one r)
-    → EndsOf xs one root 255 one e → EndsOf xs other root 255 other e
+    → IsEndOf xs one root 255 one e → IsEndOf xs other root 255 other e
 same-ends xs one other root shown e n waits all needed written same x = record {
   held = x.held;
   rank = x.rank;
@@ -94,20 +92,20 @@ same-ends xs one other root shown e n waits all needed written same x = record {
 pub record EndsBelow (xs : List Effect) (starts : List State) (root : Node) (n : ℕ) (e : State) : Type 0 where
   pub index : ℕ
   pub below : index < n
-  pub ends : EndsOf xs (get_or starts index []) root 255 (get_or starts index []) e
+  pub ends : IsEndOf xs (get_or starts index []) root 255 (get_or starts index []) e
 
 below-more : {xs : List Effect} {starts : List State} {root : Node} {n : ℕ} {e : State} → EndsBelow xs starts root n e → EndsBelow xs starts root (n + 1) e
 below-more x = record { index = x.index; below = omega (arith, x.below); ends = x.ends }
 
 below-last : {xs : List Effect} {starts : List State} {root : Node} {n : ℕ} {e : State} → EndsBelow xs starts root (n + 1) e
-    → EndsBelow xs starts root n e ⊎ EndsOf xs (get_or starts n []) root 255 (get_or starts n []) e
+    → EndsBelow xs starts root n e ⊎ IsEndOf xs (get_or starts n []) root 255 (get_or starts n []) e
 below-last {n = n} x = elim (same_place x.index n) [
   | inl same ↦ inr (rw same at x.ends)
   | inr apart ↦ inl (record { index = x.index; below = omega (arith, x.below, apart); ends = x.ends })
 ]
 
 pub below-next : {xs : List Effect} {starts : List State} {root : Node} {n : ℕ} {done : Bool} {old mid new : List State}
-    → Adds true old mid (EndsBelow xs starts root n) → Adds done mid new (EndsOf xs (get_or starts n []) root 255 (get_or starts n []))
+    → Adds true old mid (EndsBelow xs starts root n) → Adds done mid new (IsEndOf xs (get_or starts n []) root 255 (get_or starts n []))
     → Adds done old new (EndsBelow xs starts root (n + 1))
 below-next {n = n} a b =
     adds-both a b (λ e x. below-more x) (λ e x. record { index = n; below = omega arith; ends = x }) (λ e x. below-last x)
@@ -136,13 +134,13 @@ below-all {xs = xs} {starts = starts} {root = root} most all a = adds-to
     record {
       index = j;
       below = omega (arith, within, all done);
-      ends = subst (λ (s : State). EndsOf xs s root 255 s e) (sym is ∙ get_or_default starts j x.start [] within) x.ends;
+      ends = subst (λ (s : State). IsEndOf xs s root 255 s e) (sym is ∙ get_or_default starts j x.start [] within) x.ends;
     }) a
 
 -- the node's ends are those of the law
 ends-law : (criterion : Criterion) (xs : List Effect) (n : ℕ) (start : State) (reach : List ℕ) (held : ℕ) (node : Node) (e : State)
     → ((i : ℕ) → In held i → i < n) → IsRoot criterion xs n reach held node
-    → EndsOf xs start node 255 start e ↔ ((more : ℕ) × Completes held 0 more × EndsIn xs start reach (members_of criterion n more) more e)
+    → IsEndOf xs start node 255 start e ↔ ((more : ℕ) × Completes held 0 more × EndsIn xs start reach (members_of criterion n more) more e)
 ends-law criterion xs n start reach held node e within is =
     let legal = λ (more : ℕ) (rank : ℕ → ℕ). legal-root criterion xs start n reach held 0 more rank node is
     (λ i has. elim has [ inl own ↦ within i own | inr none ↦ absurd (omega (arith, none, bit_at-zero i)) ]) in (

@@ -1,14 +1,13 @@
 -- What is found from one start, and from each.
-use Rattle.tmw_search.proofs.Shared.{Agree, Contains, Contains-append_cases, Criterion, Effect, Explains, HasNone, IsFound, List, MatchOption, Node, None, NoneExplains, Option, Refutes, Some, State, States, TellsEnd, Window, [], arith, false, get_or, get_or_default, inl, inr, length, map, members, refl, subst, suc, take, take_more, true, view, views, zero, ℕ, ◌+◌, ◌<◌, ◌∙◌, ◌∷◌, ◌≡◌}
-use Rattle.tmw_search.specs.Narrowed.{Follows}
+use Rattle.tmw_search.proofs.Shared.{Agree, Contains, Contains-append_cases, Criterion, Effect, Entails, Explains, HasNone, IsFound, List, MatchOption, Node, None, NoneExplains, Option, Refutes, Some, State, States, TellsEnd, Window, [], arith, false, get_or, get_or_default, inl, inr, length, map, members, refl, subst, suc, take, take_more, true, view, views, zero, ℕ, ◌+◌, ◌<◌, ◌∙◌, ◌∷◌, ◌≡◌}
 use Rattle.tmw_search.proofs.Branching.{never-true}
 use Rattle.tmw_cuts.specs.declared.txn.Txn as cuts
 
-pub none-read : {xs : List Effect} {start : State} {may : ℕ} {root node : Node} → Follows xs start may root node false
+pub none-read : {xs : List Effect} {start : State} {may : ℕ} {root node : Node} → Entails xs start may root node false
     → HasNone xs start may root
 none-read f held rank l = absurd (never-true (f.onto held rank l).0)
 
-pub any-read : (xs : List Effect) (start : State) (may : ℕ) (root node : Node) (found : Option Node) → Follows xs start may root node true
+pub any-read : (xs : List Effect) (start : State) (may : ℕ) (root node : Node) (found : Option Node) → Entails xs start may root node true
     → MatchOption found (HasNone xs start may node) (λ n. IsFound xs start may node n)
     → MatchOption found (HasNone xs start may root) (λ n. IsFound xs start may root n)
 any-read xs start may root node None f none = λ held rank l. none held rank (f.onto held rank l).1

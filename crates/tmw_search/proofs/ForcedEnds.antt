@@ -1,7 +1,6 @@
 -- An end state that is known is the only one, where the end states are forced.
-use Rattle.tmw_search.proofs.Shared.{AreForced, Contains, Criterion, Event, IsForced, List, Replaces, StandsFor, State, States, Txn, View, Window, [], ap, arith, cond, contains_cases, contains_here, contains_none, count_by, count_by-le-length, inl, inr, is_writer, length, list_all-map, map, members, operations, refl, status_of, subst, sum_by-cons, sym, transactions, true, view_of, views, ℕ, ◌+◌, ◌<◌, ◌↔◌, ◌∙◌, ◌∷◌, ◌≡◌, ◌≤◌}
+use Rattle.tmw_search.proofs.Shared.{AreForced, Contains, Criterion, EndsOf, Event, IsForced, List, Replaces, StandsFor, State, States, Txn, View, Window, [], ap, arith, cond, contains_cases, contains_here, contains_none, count_by, count_by-le-length, inl, inr, is_writer, length, list_all-map, map, members, operations, refl, status_of, subst, sum_by-cons, sym, transactions, true, view_of, views, ℕ, ◌+◌, ◌<◌, ◌↔◌, ◌∙◌, ◌∷◌, ◌≡◌, ◌≤◌}
 use Rattle.tmw_defs.specs.Cuts.{is_cut}
-use Rattle.tmw_search.specs.Ended.{EndsOf}
 use Rattle.tmw_search.proofs.ForcedProof.{forced-end_by}
 
 only_member : (x y : State) → Contains (x ∷ []) y → x ≡ y

@@ -1,5 +1,5 @@
 -- Which of a register's writers is its last, one other after another.
-use Rattle.tmw_search.proofs.Shared.{Adds, AddsMember, Bool, Choices, Chosen, ComeBefore, ComesLast, Effect, EndWith, EndsAt, EndsOf, Has, HasNone, In, IsFound, IsLast, IsLegal, IsNode, IsOrder, IsPutLast, IsRead, IsTrue, Joins, LeftByOne, List, Narrows, Node, State, Writes, ap, arith, bit_and, bit_at, bit_at-lt, bit_at-trailing_zeros, bit_at-zero, bit_at_and, bit_at_not, bit_not, bit_or, ext_get_or, get_or-map, get_or-set_other, get_or-set_same, inl, inr, left_at, length, length-map, length-set, map, or_of_8, ordered, refl, slice_index, slice_set, subst, sym, trailing_zeros, true, w8, ℕ, ◌<◌, ◌^◌, ◌↔◌, ◌∙◌, ◌≡◌}
+use Rattle.tmw_search.proofs.Shared.{Adds, AddsMember, Bool, Choices, Chosen, ComeBefore, ComesLast, Effect, EndWith, EndsAt, Has, HasNone, In, IsEndOf, IsFound, IsLast, IsLegal, IsNode, IsOrder, IsPutLast, IsRead, IsTrue, Joins, LeftByOne, List, Narrows, Node, State, Writes, ap, arith, bit_and, bit_at, bit_at-lt, bit_at-trailing_zeros, bit_at-zero, bit_at_and, bit_at_not, bit_not, bit_or, ext_get_or, get_or-map, get_or-set_other, get_or-set_same, inl, inr, left_at, length, length-map, length-set, map, or_of_8, ordered, refl, slice_index, slice_set, subst, sym, trailing_zeros, true, w8, ℕ, ◌<◌, ◌^◌, ◌↔◌, ◌∙◌, ◌≡◌}
 use Rattle.tmw_search.proofs.Adding.{ByOne, adds-to, adds-empty, adds-one}
 use Rattle.tmw_search.proofs.Bits.{same_place, bit_cases, IsLess, or-left, or-right, or_either}
 use Rattle.tmw_search.proofs.Nodes.{found-clear, legal-chosen, legal-less, legal-with, node-ordered}
@@ -77,15 +77,15 @@ writes-in xs start node r k held rank within few n l is =
 
 -- no register is left
 pub settled_end : (xs : List Effect) (start : State) (node : Node) (registers : ℕ) (base e : State) → registers ≡ 0 → length base ≡ 8
-    → EndsOf xs start node registers base e → e ≡ base
+    → IsEndOf xs start node registers base e → e ≡ base
 settled_end xs start node registers base e none size x =
     ext_get_or 0 e base (x.size ∙ sym size) (λ q within. x.settled q (omega (arith, within, x.size))
     (λ is. absurd (omega (arith, is, ap (λ (m : ℕ). bit_at m q) none, bit_at-zero q))))
 
 pub ends-found : (xs : List Effect) (start : State) (node found : Node) (base : State) (old new : List State) → length base ≡ 8
-    → IsFound xs start 0 node found → AddsMember old new base → Adds true old new (EndsOf xs start node 0 base)
+    → IsFound xs start 0 node found → AddsMember old new base → Adds true old new (IsEndOf xs start node 0 base)
 ends-found xs start node found base old new size f adds =
-    let here : EndsOf xs start node 0 base base = record {
+    let here : IsEndOf xs start node 0 base base = record {
       held = found.held;
       rank = f.rank;
       legal = f.legal f.rank f.ranking;
@@ -93,11 +93,11 @@ ends-found xs start node found base old new size f adds =
       settled = λ r few out. refl;
       rest = λ r few is. absurd (omega (arith, is, bit_at-zero r));
     } in
-    adds-to (λ e same. subst (EndsOf xs start node 0 base) (sym same) here) (λ all e x. settled_end xs start node 0 base e refl size x)
+    adds-to (λ e same. subst (IsEndOf xs start node 0 base) (sym same) here) (λ all e x. settled_end xs start node 0 base e refl size x)
     (adds-one adds)
 
 pub ends-none : (xs : List Effect) (start : State) (node : Node) (registers : ℕ) (base : State) (old : List State)
-    → HasNone xs start 0 node → Adds true old old (EndsOf xs start node registers base)
+    → HasNone xs start 0 node → Adds true old old (IsEndOf xs start node registers base)
 ends-none xs start node registers base old none =
     adds-empty (λ e x. none x.held x.rank x.legal)
 
@@ -109,7 +109,7 @@ plain-found xs start node plain n =
 
 -- an end that the one at the place leaves last
 pub record LeavesAt (xs : List Effect) (start : State) (node : Node) (r registers : ℕ) (base : State) (place : ℕ) (e : State) : Type 0 where
-  pub ends : EndsOf xs start node registers base e
+  pub ends : IsEndOf xs start node registers base e
   pub last : IsLast xs ends.held ends.rank r (slice_index e r) place
 
 -- a writer before which no other of them comes behind
@@ -149,8 +149,8 @@ put-here base r value within size = get_or-set_same base r value 0 (omega (arith
 -- The ends of a node, one register after another: this is the next.
 module _ {xs : List Effect} {start : State} {r registers rest : ℕ} (base : State) (within : r < 8) (size : length base ≡ 8)
     (is_in : In registers r) (less : IsLess registers r rest) where
-  abbrev put-value : (node other : Node) (value : ℕ) (e : State) (x : EndsOf xs start node registers base e) → slice_index e r ≡ value
-      → IsLegal xs start 0 other x.held x.rank → EndsOf xs start other rest (slice_set base r value) e
+  abbrev put-value : (node other : Node) (value : ℕ) (e : State) (x : IsEndOf xs start node registers base e) → slice_index e r ≡ value
+      → IsLegal xs start 0 other x.held x.rank → IsEndOf xs start other rest (slice_set base r value) e
   put-value node other value e x is legal = record {
     held = x.held;
     rank = x.rank;
@@ -166,11 +166,11 @@ module _ {xs : List Effect} {start : State} {r registers rest : ℕ} (base : Sta
         (x.rest q few (less.other q apart ∙ has));
   }
 
-  ends-here : (other : Node) (value : ℕ) (e : State) → EndsOf xs start other rest (slice_set base r value) e → slice_index e r ≡ value
+  ends-here : (other : Node) (value : ℕ) (e : State) → IsEndOf xs start other rest (slice_set base r value) e → slice_index e r ≡ value
   ends-here other value e x = x.settled r within (λ has. absurd (omega (arith, has, less.new))) ∙ put-here base r value within size
 
-  abbrev take-value : (node other : Node) (value : ℕ) (e : State) (x : EndsOf xs start other rest (slice_set base r value) e)
-      → IsLegal xs start 0 node x.held x.rank → EndsAt xs x.held x.rank r (slice_index base r) value → EndsOf xs start node registers base e
+  abbrev take-value : (node other : Node) (value : ℕ) (e : State) (x : IsEndOf xs start other rest (slice_set base r value) e)
+      → IsLegal xs start 0 node x.held x.rank → EndsAt xs x.held x.rank r (slice_index base r) value → IsEndOf xs start node registers base e
   take-value node other value e x legal ends = record {
     held = x.held;
     rank = x.rank;
@@ -191,7 +191,7 @@ module _ {xs : List Effect} {start : State} {r registers rest : ℕ} (base : Sta
 
   -- a register whose end is known needs no choice
   pub known-ends : (node : Node) (value : ℕ) (e : State) → IsNode xs start 0 node → EndWith xs node r (slice_index base r) value
-      → EndsOf xs start node registers base e ↔ EndsOf xs start node rest (slice_set base r value) e
+      → IsEndOf xs start node registers base e ↔ IsEndOf xs start node rest (slice_set base r value) e
   known-ends node value e n known = (
     λ x. put-value node node value e x (one-end xs x.held x.rank r (slice_index base r) (slice_index e r) value x.legal.ranking.apart
         (x.rest r within is_in) (known start n x.held x.rank x.legal)) x.legal,
@@ -202,7 +202,7 @@ module _ {xs : List Effect} {start : State} {r registers rest : ℕ} (base : Sta
   module _ (node : Node) (i : ℕ) (reach : List ℕ) (alive : Bool) (n : IsNode xs start 0 node)
       (m : Narrows (IsPutLast node.choices (slice_index node.choices.writers r) i) node.reach reach alive) where
     pub child-of : (e : State) → LeavesAt xs start node r registers base i e
-        → IsTrue alive × EndsOf xs start (ordered node reach) rest (slice_set base r (left_at xs i r)) e
+        → IsTrue alive × IsEndOf xs start (ordered node reach) rest (slice_set base r (left_at xs i r)) e
     child-of e w =
         let x = w.ends in
         let put : IsPutLast node.choices (slice_index node.choices.writers r) i x.rank = (
@@ -216,7 +216,7 @@ module _ {xs : List Effect} {start : State} {r registers rest : ℕ} (base : Sta
 
     pub of-child : i < 8 → In (slice_index node.choices.writers r) i
         → ((k : ℕ) → k < 8 → In (slice_index node.choices.writers r) k → Has reach k i) → (e : State)
-        → EndsOf xs start (ordered node reach) rest (slice_set base r (left_at xs i r)) e → LeavesAt xs start node r registers base i e
+        → IsEndOf xs start (ordered node reach) rest (slice_set base r (left_at xs i r)) e → LeavesAt xs start node r registers base i e
     of-child within_i writes last e x =
         let legal = legal-less {xs = xs} {start = start} {node = node} m.grows x.legal in
         let l : IsLast xs x.held x.rank r (left_at xs i r) i = record {
@@ -233,7 +233,7 @@ module _ {xs : List Effect} {start : State} {r registers rest : ℕ} (base : Sta
   module _ (node : Node) (before : ℕ) (fits : before < 2 ^ 8) (n : IsNode xs start 0 node)
       (comes : ComeBefore node.reach (slice_index node.choices.writers r) before)
       (some : (k : ℕ) × (k < 8) × In (slice_index node.choices.writers r) k) where
-    last-at : (e : State) → EndsOf xs start node registers base e
+    last-at : (e : State) → IsEndOf xs start node registers base e
         → ByOne (LeavesAt xs start node r registers base) (bit_and (slice_index node.choices.writers r) (bit_not w8 before)) e
     last-at e x = elim (x.rest r within is_in) [
       | inl (nobody, same) ↦
@@ -259,14 +259,14 @@ module _ {xs : List Effect} {start : State} {r registers rest : ℕ} (base : Sta
 
     pub all-last : (old new : List State)
         → Adds true old new (ByOne (LeavesAt xs start node r registers base) (bit_and (slice_index node.choices.writers r) (bit_not w8 before)))
-        → Adds true old new (EndsOf xs start node registers base)
+        → Adds true old new (IsEndOf xs start node registers base)
     all-last old new a = adds-to (λ e (i, few, is, w). w.ends) (λ all. last-at) a
 
     -- of the last register, where each order is legal
     pub adds-last : (old new : List State) → slice_index node.choices.writers r < 2 ^ 8 → rest ≡ 0
         → ((j q : ℕ) → IsRead node.choices j q → ⊥)
         → Adds true old new (LeftByOne xs r (bit_and (slice_index node.choices.writers r) (bit_not w8 before)) base)
-        → Adds true old new (EndsOf xs start node registers base)
+        → Adds true old new (IsEndOf xs start node registers base)
     adds-last old new small none plain a =
         let writers = slice_index node.choices.writers r in
         let long : (value : ℕ) → length (slice_set base r value) ≡ 8 = λ value. length-set base r value ∙ size in

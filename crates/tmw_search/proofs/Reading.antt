@@ -1,13 +1,12 @@
 -- What follows from each read, one after another.
-use Rattle.tmw_search.proofs.Shared.{Bool, Branch, Chosen, Effect, From, Gives, HasNone, In, IsBranch, IsFalse, IsLegal, IsNode, IsOnly, IsRead, IsSound, IsTrue, KeepsOthers, LeavesOut, List, Narrows, Node, NoneMay, Open, Reads, ReadsFrom, SettledSource, Settles, Source, Sourced, Start, State, Writes, ap, arith, bit_and, bit_at, bit_at-lt, bit_at-pow_other, bit_at-zero, bit_at_and, bit_at_clear_other, bit_not, eq-eqb, false, get_or-set_other, get_or-set_same, inl, inr, length, looking, need_at, ordered, refl, set, shift_is, slice_index, source_at, subst, sym, true, w8, ℕ, ◌%◌, ◌*◌, ◌+◌, ◌-◌, ◌<◌, ◌==◌, ◌^◌, ◌↔◌, ◌∙◌, ◌≡◌, ◌≤◌, ◌⊎◌}
-use Rattle.tmw_search.specs.Narrowed.{Follows}
+use Rattle.tmw_search.proofs.Shared.{Bool, Branch, Chosen, Effect, Entails, From, Gives, HasNone, In, IsBranch, IsFalse, IsLegal, IsNode, IsOnly, IsRead, IsSound, IsTrue, KeepsOthers, LeavesOut, List, Narrows, Node, NoneMay, Open, Reads, ReadsFrom, SettledSource, Settles, Source, Sourced, Start, State, Writes, ap, arith, bit_and, bit_at, bit_at-lt, bit_at-pow_other, bit_at-zero, bit_at_and, bit_at_clear_other, bit_not, eq-eqb, false, get_or-set_other, get_or-set_same, inl, inr, length, looking, need_at, ordered, refl, set, shift_is, slice_index, source_at, subst, sym, true, w8, ℕ, ◌%◌, ◌*◌, ◌+◌, ◌-◌, ◌<◌, ◌==◌, ◌^◌, ◌↔◌, ◌∙◌, ◌≡◌, ◌≤◌, ◌⊎◌}
 use Rattle.tmw_search.proofs.Bits.{same_place, less_of, less_has}
 use Rattle.tmw_search.proofs.Branching.{never-true}
 use Rattle.tmw_search.proofs.Giving.{is_pair}
 use Rattle.tmw_search.proofs.Nodes.{node-ordered, legal-chosen, legal-with, legal-less, reads-sourced, before-of}
 
-pub follows-then : {xs : List Effect} {start : State} {may : ℕ} {old mid new : Node} {alive : Bool} → Follows xs start may old mid true
-    → Follows xs start may mid new alive → Follows xs start may old new alive
+pub follows-then : {xs : List Effect} {start : State} {may : ℕ} {old mid new : Node} {alive : Bool} → Entails xs start may old mid true
+    → Entails xs start may mid new alive → Entails xs start may old new alive
 follows-then f g = record {
   is = g.is;
   into = λ held rank lives l. f.into held rank refl (g.into held rank lives l);
@@ -15,7 +14,7 @@ follows-then f g = record {
 }
 
 -- there is no legal order
-pub follows-none : {xs : List Effect} {start : State} {may : ℕ} {old new : Node} → HasNone xs start may old → Follows xs start may old new false
+pub follows-none : {xs : List Effect} {start : State} {may : ℕ} {old new : Node} → HasNone xs start may old → Entails xs start may old new false
 follows-none none = record {
   is = λ alive. absurd (never-true alive);
   into = λ held rank alive l. absurd (never-true alive);
@@ -32,9 +31,9 @@ legal-looking reads = (
 
 -- a settled read is left out
 pub follows-left : {xs : List Effect} {start : State} {may j r : ℕ} {old new : Node} → LeavesOut j r old new → Settles xs start may old j r
-    → IsNode xs start may old → Follows xs start may old new true
+    → IsNode xs start may old → Entails xs start may old new true
 follows-left {xs = xs} {start = start} {may = may} {j = j} {r = r} {old = old} lo settled n =
-    subst (λ (node : Node). Follows xs start may old node true) (sym lo.is) (record {
+    subst (λ (node : Node). Entails xs start may old node true) (sym lo.is) (record {
       is = λ alive. record {
         order = n.order;
         writers = n.writers;
@@ -72,7 +71,7 @@ alone mask j k none within within_j is = elim (same_place k j) [
 pub follows-alone : {xs : List Effect} {start : State} {may j r : ℕ} {old new : Node} {b : Bool} → j < 8 → r < 8 → IsNode xs start may old
     → IsRead old.choices j r → source_at old.choices j r ≡ Open → NoneMay xs may r
     → ((k : ℕ) → k < 8 → In (slice_index old.choices.writers r) k → k ≡ j) → LeavesOut j r old new
-    → b ≡ (slice_index start r == need_at xs j r) → (IsTrue b → slice_index start r ≡ need_at xs j r) → Follows xs start may old new b
+    → b ≡ (slice_index start r == need_at xs j r) → (IsTrue b → slice_index start r ≡ need_at xs j r) → Entails xs start may old new b
 follows-alone {xs = xs} {start = start} {may = may} {j = j} {r = r} {old = old} {b = b} within_j within_r n read free none only lo tells value =
     let mine : (held k : ℕ) → ((i : ℕ) → i < 8 → In held i → In old.held i ⊎ In may i) → Writes xs held r k → k ≡ j =
     λ held k among w. only k w.0 (held-writes xs start may r k held old within_r n none among w) in
@@ -96,7 +95,7 @@ follows-alone {xs = xs} {start = start} {may = may} {j = j} {r = r} {old = old} 
 
 -- none offered, none legal
 pub follows-never : {xs : List Effect} {start : State} {may : ℕ} {node : Node} {b : Branch} → IsBranch xs start may node b → b.writers ≡ 0
-    → (IsTrue b.start → ⊥) → Follows xs start may node node false
+    → (IsTrue b.start → ⊥) → Entails xs start may node node false
 follows-never is none not = follows-none (λ held rank l. elim (is.all held rank l) [
   | inl (yes_start, s) ↦ absurd (not yes_start)
   | inr (i, few, one, f) ↦ absurd (omega (arith, one, ap (λ (m : ℕ). bit_at m i) none, bit_at-zero i))
@@ -122,7 +121,7 @@ only-reads xs start may node b (From i) is only held rank l = elim (is.all held 
 pub follows-given : {xs : List Effect} {start : State} {may : ℕ} {old mid : Node} {reach : List ℕ} {b : Branch} {source : Source} {alive : Bool}
     → IsBranch xs start may old b → IsOnly b source → Gives xs start may old b.reader b.register source mid
     → Narrows (Sourced (slice_index mid.choices.writers b.register) b.reader source) mid.reach reach alive
-    → Follows xs start may old (ordered mid reach) alive
+    → Entails xs start may old (ordered mid reach) alive
 follows-given {xs = xs} {start = start} {may = may} {old = old} {mid = mid} {reach = reach} {b = b} {source = source} is only g n = record {
   is = λ lives. node-ordered n.grows n.order g.is;
   into = λ held rank lives l. g.into held rank (legal-less n.grows l);
@@ -137,8 +136,8 @@ follows-given {xs = xs} {start = start} {may = may} {old = old} {mid = mid} {rea
 }
 
 -- what follows from all sources that are chosen is known
-pub follows-settled : {xs : List Effect} {start : State} {may : ℕ} {old mid : Node} {reach : List ℕ} {alive : Bool} → Follows xs start may old mid true
-    → Narrows (Chosen mid.choices) mid.reach reach alive → Follows xs start may old (ordered mid reach) alive
+pub follows-settled : {xs : List Effect} {start : State} {may : ℕ} {old mid : Node} {reach : List ℕ} {alive : Bool} → Entails xs start may old mid true
+    → Narrows (Chosen mid.choices) mid.reach reach alive → Entails xs start may old (ordered mid reach) alive
 follows-settled {xs = xs} {start = start} {may = may} {mid = mid} {reach = reach} f n = record {
   is = λ lives. node-ordered n.grows n.order (f.is refl);
   into = λ held rank lives l. f.into held rank refl (legal-less n.grows l);
@@ -182,13 +181,13 @@ only-closed b (From i) only same = absurd (cc)
 
 -- the reads of one transaction, those of the mask left
 pub record ReadBy (xs : List Effect) (start : State) (may j left : ℕ) (old now : Node) : Type 0 where
-  pub follows : Follows xs start may old now true
+  pub follows : Entails xs start may old now true
   pub waits : (q : ℕ) → q < 8 → In left q → IsRead now.choices j q × (source_at now.choices j q ≡ Open)
   pub others : (a q : ℕ) → a < 8 → q < 8 → (a ≡ j → ⊥) → IsRead old.choices a q
       → IsRead now.choices a q × (source_at now.choices a q ≡ source_at old.choices a q)
 
 pub read-more : {xs : List Effect} {start : State} {may j left : ℕ} {old mid new : Node} (r : ℕ) → j < 8 → r < 8 → In left r
-    → ReadBy xs start may j left old mid → Follows xs start may mid new true → KeepsOthers j r mid new
+    → ReadBy xs start may j left old mid → Entails xs start may mid new true → KeepsOthers j r mid new
     → ReadBy xs start may j (left - 1 * 2 ^ r % 2 ^ 8) old new
 read-more {j = j} {left = left} r within_j within_r one b f kept =
     let less = less_of left r within_r one in
@@ -207,11 +206,11 @@ read-more {j = j} {left = left} r within_j within_r one b f kept =
 
 -- the reads of the transactions from this one on
 pub record ReadFrom (xs : List Effect) (start : State) (may j : ℕ) (reads : List ℕ) (old now : Node) : Type 0 where
-  pub follows : Follows xs start may old now true
+  pub follows : Entails xs start may old now true
   pub waits : (a q : ℕ) → j ≤ a → a < 8 → q < 8 → In (slice_index reads a) q → IsRead now.choices a q × (source_at now.choices a q ≡ Open)
 
 pub read-next : {xs : List Effect} {start : State} {may j : ℕ} {reads : List ℕ} {old mid new : Node} → ReadFrom xs start may j reads old mid
-    → Follows xs start may mid new true
+    → Entails xs start may mid new true
     → ((a q : ℕ) → a < 8 → q < 8 → (a ≡ j → ⊥) → IsRead mid.choices a q
     → IsRead new.choices a q × (source_at new.choices a q ≡ source_at mid.choices a q))
     → ReadFrom xs start may (j + 1) reads old new

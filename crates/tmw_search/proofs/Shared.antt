@@ -40,13 +40,13 @@ pub use Rattle.tmw_defs.specs.declared.status.Status.{Status}
 pub use Rattle.tmw_defs.specs.declared.status.Status.TheVariants.{Aborted, Committed, Live, Pending}
 pub use Rattle.tmw_events.specs.declared.event.Event.{Event}
 pub use Rattle.tmw_search.specs.Chosen.{AllSettled, Chosen, ChosenBy, IsRead, SettledBy, SettledSource, Sourced, Within, WithinSource, source_at}
-pub use Rattle.tmw_search.specs.Completed.{AreEndsFrom, Completes, EndsByMore, EndsFromAll}
-pub use Rattle.tmw_search.specs.Ended.{AreEnds, AreMembers, Replaces, TellsEnd}
+pub use Rattle.tmw_search.specs.Completed.{AreEndsFrom, Completes, EndsByMore, EndsByReading, EndsFromAll}
+pub use Rattle.tmw_search.specs.Ended.{AreEnds, AreMembers, EndsOf, Replaces, TellsEnd}
 pub use Rattle.tmw_search.specs.ForcedTransactions.{AreForced, IsForced, is_blind_writer, is_committed, is_writer}
-pub use Rattle.tmw_search.specs.Last.{Adds, ComeBefore, ComesLast, EndWith, EndsOf, IsPutLast, LeftByOne}
+pub use Rattle.tmw_search.specs.Last.{Adds, ComeBefore, ComesLast, EndWith, IsEndOf, IsPutLast, LeftByOne}
 pub use Rattle.tmw_search.specs.Layers.{InLayer, LeavesNone, chosen}
 pub use Rattle.tmw_search.specs.Legal.{FromIs, Gives, HasNone, Holds, In, IsBranch, IsFound, IsLegal, IsMid, IsNode, IsSound, Leaves, MayBe, MayGive, Needs, Reads, ReadsFrom, ReadsStart, Settles, Writes, effects, idle, left_at, need_at, ordered}
-pub use Rattle.tmw_search.specs.Narrowed.{AllOpen, IsOnly, KeepsOthers, LeavesOut, NoneMay, looking}
+pub use Rattle.tmw_search.specs.Narrowed.{AllOpen, Entails, IsOnly, KeepsOthers, LeavesOut, NoneMay, looking}
 pub use Rattle.tmw_search.specs.Nexts.{AddsPairs, Follows, IsFirst, Makes, MakesAt}
 pub use Rattle.tmw_search.specs.Opens.{is_open, opens}
 unfoldable pub use Rattle.tmw_search.specs.Opens.{count}

@@ -13,7 +13,7 @@ Sourced writers j Open rank = Unit {0}
 Sourced writers j Start rank = FromStart writers j rank
 Sourced writers j (From i) rank = IsSource writers i j rank
 
--- Every ranking that keeps who precedes whom has.
+-- Who precedes whom decides it: each ranking that keeps that has the read's value come from its source.
 abbrev pub SettledSource : ℕ → ℕ → Source → List ℕ → Type 0
 SettledSource writers j Open reach = Unit {0}
 SettledSource writers j Start reach = (k : ℕ) → k < 8 → bit_at writers k ≡ 1 → Has reach j k
@@ -30,7 +30,7 @@ source_at c j r = get_or c.sources (8 * j + r) Open
 abbrev pub IsRead : Choices → ℕ → ℕ → Type 0
 IsRead c j r = bit_at (slice_index c.reads j) r ≡ 1
 
--- All sources of the transaction's reads, and all sources.
+-- Each read of the transaction, or of all, that is looked at has its value from its source, if one is chosen.
 abbrev pub ChosenBy : Choices → ℕ → (ℕ → ℕ) → Type 0
 ChosenBy c j rank = (r : ℕ) → r < 8 → IsRead c j r → Sourced (slice_index c.writers r) j (source_at c j r) rank
 

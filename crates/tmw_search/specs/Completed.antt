@@ -14,19 +14,19 @@ use Rattle.tmw_search.specs.declared.end_states.EndStates.{EndStates}
 use Rattle.tmw_search.specs.Ended.{AreMembers}
 use Rattle.tmw_cuts.specs.declared.effect.Effect.{Effect}
 use Rattle.tmw_search.specs.declared.node.Node.{Node}
-use Rattle.tmw_search.specs.Last.{EndsOf}
+use Rattle.tmw_search.specs.Last.{IsEndOf}
 use Rattle.tmw_search.specs.Legal.{In}
 use Rattle.tmw_search.specs.Polygraph.{EndsIn, members_of}
 
 -- An end of the reading's orders, if there may be one, where the registers that none writes hold what the state does.
 abbrev pub EndsByReading : List Effect → Reading → State → State → Type 0
-EndsByReading xs reading state e = IsTrue reading.alive × EndsOf xs reading.start reading.node 255 state e
+EndsByReading xs reading state e = IsTrue reading.alive × IsEndOf xs reading.start reading.node 255 state e
 
 -- An end of the node's legal orders from one of the starts.
 pub record EndsFromAll (xs : List Effect) (starts : List State) (node : Node) (e : State) : Type 0 where
   pub start : State
   pub from : Contains starts start
-  pub ends : EndsOf xs start node 255 start e
+  pub ends : IsEndOf xs start node 255 start e
 
 -- The completion holds the first, and beside them only some of the second.
 pub record Completes (held left more : ℕ) : Type 0 where

@@ -24,7 +24,7 @@ pub record ComeBefore (reach : List ℕ) (these before : ℕ) : Type 0 where
   pub all : (i j : ℕ) → i < 8 → j < 8 → In these j → Has reach i j → (i ≡ j → ⊥) → In before i
 
 -- The end of a legal order of the node, where each register that is not in the mask holds what the state does.
-pub record EndsOf (xs : List Effect) (start : State) (node : Node) (registers : ℕ) (base end : State) : Type 0 where
+pub record IsEndOf (xs : List Effect) (start : State) (node : Node) (registers : ℕ) (base end : State) : Type 0 where
   pub held : ℕ
   pub rank : ℕ → ℕ
   pub legal : IsLegal xs start 0 node held rank

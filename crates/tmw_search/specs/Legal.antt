@@ -54,7 +54,8 @@ Reads xs held start rank j r Open = ReadsStart xs held start rank j r ⊎ ((i : 
 Reads xs held start rank j r Start = ReadsStart xs held start rank j r
 Reads xs held start rank j r (From i) = ReadsFrom xs held rank j r i
 
--- S: the ranking is a legal order of the node in which these are held.
+-- A legal order of the node: the completion holds what the node does and else only some of `may`, the ranks keep who precedes whom,
+-- and the transactions in the order agree with themselves and read from their sources.
 pub record IsLegal (xs : List Effect) (start : State) (may : ℕ) (node : Node) (held : ℕ) (rank : ℕ → ℕ) : Type 0 where
   pub ranking : IsRanking rank node.reach
   pub more : (i : ℕ) → i < 8 → In node.held i → In held i

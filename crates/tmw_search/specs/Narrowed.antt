@@ -10,7 +10,7 @@ use Rattle.tmw_search.specs.Chosen.{IsRead, source_at}
 use Rattle.tmw_search.specs.Legal.{In, Leaves, IsLegal, IsNode}
 
 -- The legal orders of the one are those of the other, and there are none if the answer is no.
-pub record Follows (xs : List Effect) (start : State) (may : ℕ) (old new : Node) (alive : Bool) : Type 0 where
+pub record Entails (xs : List Effect) (start : State) (may : ℕ) (old new : Node) (alive : Bool) : Type 0 where
   pub is : IsTrue alive → IsNode xs start may new
   pub into : (held : ℕ) (rank : ℕ → ℕ) → IsTrue alive → IsLegal xs start may new held rank → IsLegal xs start may old held rank
   pub onto : (held : ℕ) (rank : ℕ → ℕ) → IsLegal xs start may old held rank → IsTrue alive × IsLegal xs start may new held rank
@@ -24,7 +24,7 @@ KeepsOthers j r old new = (a q : ℕ) → a < 8 → q < 8 → ((a ≡ j) × (q �
 abbrev pub looking : Node → List ℕ → Node
 looking node reads = record node { choices = record node.choices { reads = reads } }
 
--- No read but this one is left out.
+-- No read but this one is left out, if any.
 pub record LeavesOut (j r : ℕ) (old new : Node) : Type 0 where
   pub reads : List ℕ
   pub is : new ≡ looking old reads

@@ -7,7 +7,7 @@ use Rattle.tmw_search.specs.declared.settle.Step.TheVariants.{Dead, Decided, Und
 use Rattle.tmw_search.specs.declared.settle.Found.{Found}
 use Rattle.tmw_search.specs.declared.settle.Found.TheVariants.{Never, Clear, Stuck}
 
--- The first is the last of these that the second comes after.
+-- The first comes before the second, and none of the writers comes between them.
 pub record IsSource (writers i j : ℕ) (rank : ℕ → ℕ) : Type 0 where
   pub before : rank i < rank j
   pub out : (k : ℕ) → k < 8 → bit_at writers k ≡ 1 → Out k i j rank
@@ -41,7 +41,7 @@ IfClear Never A = Unit {0}
 IfClear Clear A = A
 IfClear (Stuck i j k) A = Unit {0}
 
--- The first is settled to be the last of these that the second comes after.
+-- Who precedes whom says that the first comes before the second, and none of the writers between them.
 pub record IsSettled (writers i j : ℕ) (reach : List ℕ) : Type 0 where
   pub has : Has reach i j
   pub apart : i ≡ j → ⊥

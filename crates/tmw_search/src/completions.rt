@@ -5,9 +5,9 @@ ghost use Rattle.tmw_cuts.specs.Members.{members};
 ghost use Rattle.tmw_defs.specs.Opaque.{State};
 ghost use Rattle.tmw_search.specs.Chosen.{IsRead};
 ghost use Rattle.tmw_search.specs.Completed.{AreEndsFrom, EndsByReading, EndsFromAll, EndsByMore};
-ghost use Rattle.tmw_search.specs.Last.{EndsOf, Adds};
+ghost use Rattle.tmw_search.specs.Last.{IsEndOf, Adds};
 ghost use Rattle.tmw_search.specs.Legal.{In, effects, IsNode};
-ghost use Rattle.tmw_search.specs.Narrowed.{AllOpen, Follows};
+ghost use Rattle.tmw_search.specs.Narrowed.{AllOpen, Entails};
 ghost use Rattle.tmw_search.specs.Order.{IsOrder};
 ghost use Rattle.tmw_search.specs.Rooted.{ReadsAll};
 
@@ -27,7 +27,7 @@ use tmw_defs::Criterion;
 fn read_settled(items: &[Txn], start: &State, node: &mut Node) -> bool
     requires node { IsNode (effects items.now) start.now 0 node.now }
     requires waits { AllOpen node.now.choices.reads node.now }
-    ensures { Follows (effects items.now) start.now 0 node.old node.new result }
+    ensures { Entails (effects items.now) start.now 0 node.old node.new result }
 {
     if !read_all(items, start, 0, 0, node) {
         return false;
@@ -47,7 +47,7 @@ pub struct Reading {
 fn reading_of(items: &[Txn], start: &State, root: &Node) -> Reading
     requires node { IsNode (effects items.now) start.now 0 root.now }
     requires waits { AllOpen root.now.choices.reads root.now }
-    ensures follows { Follows (effects items.now) result.start 0 root.now result.node result.alive }
+    ensures follows { Entails (effects items.now) result.start 0 root.now result.node result.alive }
     ensures start { result.start ≡ start.now }
 {
     let mut node = *root;
@@ -63,8 +63,10 @@ fn reading_of(items: &[Txn], start: &State, root: &Node) -> Reading
 fn read_from(items: &[Txn], start: &State, root: &Node, needed: u8, reading: &mut Reading)
     requires node { IsNode (effects items.now) start.now 0 root.now }
     requires waits { AllOpen root.now.choices.reads root.now }
-    requires follows { Follows (effects items.now) reading.now.start 0 root.now reading.now.node reading.now.alive }
-    ensures follows { Follows (effects items.now) reading.new.start 0 root.now reading.new.node reading.new.alive }
+    requires follows { Entails (effects items.now) reading.now.start 0 root.now
+        reading.now.node reading.now.alive }
+    ensures follows { Entails (effects items.now) reading.new.start 0 root.now
+        reading.new.node reading.new.alive }
     ensures agree { (r : ℕ) → r < 8 → In needed r
         → slice_index reading.new.start r ≡ slice_index start.now r }
 {

@@ -46,7 +46,7 @@ pub fn outcomes(
 }
 
 /// Replaces the states by the outcomes of the window's transactions from them, if these are at most `cap`, and tells
-/// whether they are. `known` may be one of them: if there can be no other, nothing is searched.
+/// whether they are. `known`, if given, has to be one of them: if there can be no other, nothing is searched.
 pub fn replace_by_outcomes(
     criterion: Criterion,
     alloc: Global,

@@ -2,7 +2,7 @@
 ghost use Rattle.std.specs.Prelude.{◌≡◌, ◌↔◌, ◌<◌, ◌≤◌, IsTrue, IsFalse, ℕ, slice_index, IfOk, IfSome, IfNone, OnOk, length, true};
 ghost use Rattle.tmw_cuts.specs.Members.{members};
 ghost use Rattle.tmw_search.specs.Chosen.{IsRead, Within};
-ghost use Rattle.tmw_search.specs.Last.{ComeBefore, EndsOf, EndWith, IsPutLast, LeftByOne, Adds};
+ghost use Rattle.tmw_search.specs.Last.{ComeBefore, IsEndOf, EndWith, IsPutLast, LeftByOne, Adds};
 ghost use Rattle.tmw_search.specs.Legal.{In, effects, left_at, ordered, IsNode};
 ghost use Rattle.tmw_defs.specs.Opaque.{State};
 ghost use Rattle.tmw_search.specs.Order.{Has, IsOrder, Narrows};
@@ -135,7 +135,7 @@ fn add_end(
 ) -> Result<(), AllocError>
     requires node { IsNode (effects items.now) start.now 0 (ordered node.now reach.now) }
     ensures adds { OnOk result (Adds true (members found.old.ends) (members found.new.ends)
-        (EndsOf (effects items.now) start.now (ordered node.now reach.now) 0 end.now)) }
+        (IsEndOf (effects items.now) start.now (ordered node.now reach.now) 0 end.now)) }
     ensures cap { found.new.cap ≡ found.old.cap }
 {
     if is_plain(&node.choices) {
@@ -187,8 +187,8 @@ fn known_end(items: &[Txn], node: &Node, register: usize, held: u64) -> Option<u
 /// Puts into the state what each register ends with of which that is known. Returns the other registers, as a mask.
 pub fn put_known(items: &[Txn], node: &Node, end: &mut State) -> u8
     ensures ends { (start : State) → IsNode (effects items.now) start 0 node.now → (e : State)
-        → EndsOf (effects items.now) start node.now 255 end.old e
-        ↔ EndsOf (effects items.now) start node.now result end.new e }
+        → IsEndOf (effects items.now) start node.now 255 end.old e
+        ↔ IsEndOf (effects items.now) start node.now result end.new e }
     ensures written { (r : ℕ) → r < 8 → In result r
         → (k : ℕ) × (k < 8) × In (slice_index node.now.choices.writers r) k }
 {
@@ -221,7 +221,7 @@ pub fn add_last(
     requires written { (r : ℕ) → r < 8 → In registers r
         → (k : ℕ) × (k < 8) × In (slice_index node.now.choices.writers r) k }
     ensures adds { IfOk result (λ done. Adds done (members found.old.ends) (members found.new.ends)
-        (EndsOf (effects items.now) start.now (ordered node.now reach.now) registers end.now)) }
+        (IsEndOf (effects items.now) start.now (ordered node.now reach.now) registers end.now)) }
     ensures cap { found.new.cap ≡ found.old.cap }
     ensures more { IfOk result (λ done. IsFalse done → found.old.cap < length (members found.new.ends)) }
 {

@@ -1,5 +1,5 @@
 //! Which serial orders of a window's transactions are legal, and in which states they end: one search, by who precedes
-//! whom and who reads from whom. Layers tell the same of parts of the window.
+//! whom and who reads from whom. Layers tell by opacity what each part of the window may end in.
 #![tactic(auto)]
 
 mod completions;

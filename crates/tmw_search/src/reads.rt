@@ -3,7 +3,7 @@ ghost use Rattle.std.specs.Prelude.{◌≡◌, ◌<◌, ℕ, IsTrue, IsFalse, Ma
 ghost use Rattle.tmw_search.specs.Chosen.{IsRead, source_at};
 ghost use Rattle.tmw_search.specs.declared.sources.Source.TheVariants.{Open};
 ghost use Rattle.tmw_search.specs.Legal.{effects, need_at, In, IsNode, IsBranch};
-ghost use Rattle.tmw_search.specs.Narrowed.{AllOpen, Follows, IsOnly, KeepsOthers, LeavesOut, NoneMay};
+ghost use Rattle.tmw_search.specs.Narrowed.{AllOpen, Entails, IsOnly, KeepsOthers, LeavesOut, NoneMay};
 
 use crate::effects::{need_at, written_at};
 use crate::node::{Branch, Node};
@@ -57,7 +57,7 @@ fn give_only(
     requires branch { IsBranch (effects items.now) start.now may node.now branch.now }
     requires only { IsOnly branch.now source }
     requires free { IsTrue free → NoneMay (effects items.now) may branch.now.register }
-    ensures follows { Follows (effects items.now) start.now may node.old node.new result }
+    ensures follows { Entails (effects items.now) start.now may node.old node.new result }
     ensures others { KeepsOthers branch.now.reader branch.now.register node.old node.new }
 {
     let j = branch.reader;
@@ -92,7 +92,7 @@ fn read_one(
     requires open { source_at node.now.choices j r ≡ Open }
     requires node { IsNode (effects items.now) start.now may node.now }
     requires free { IsTrue free → NoneMay (effects items.now) may r }
-    ensures follows { Follows (effects items.now) start.now may node.old node.new result }
+    ensures follows { Entails (effects items.now) start.now may node.old node.new result }
     ensures others { KeepsOthers j r node.old node.new }
 {
     if free && node.choices.writers[r] & !(1 << j) == 0 {
@@ -139,7 +139,7 @@ fn read_by(
     requires written { (r : ℕ) → r < 8 → (In written r → ⊥) → NoneMay (effects items.now) may r }
     requires waits { (q : ℕ) → q < 8 → In reads q
         → IsRead node.now.choices j q × (source_at node.now.choices j q ≡ Open) }
-    ensures follows { Follows (effects items.now) start.now may node.old node.new result }
+    ensures follows { Entails (effects items.now) start.now may node.old node.new result }
     ensures others { IsTrue result → (a q : ℕ) → a < 8 → q < 8 → (a ≡ j → ⊥) → IsRead node.old.choices a q
         → IsRead node.new.choices a q
         × (source_at node.new.choices a q ≡ source_at node.old.choices a q) }
@@ -161,7 +161,7 @@ pub fn read_all(items: &[Txn], start: &State, may: u8, written: u8, node: &mut N
     requires node { IsNode (effects items.now) start.now may node.now }
     requires written { (r : ℕ) → r < 8 → (In written r → ⊥) → NoneMay (effects items.now) may r }
     requires waits { AllOpen node.now.choices.reads node.now }
-    ensures { Follows (effects items.now) start.now may node.old node.new result }
+    ensures { Entails (effects items.now) start.now may node.old node.new result }
 {
     let reads = node.choices.reads;
     for j in 0..8usize {
