@@ -1,6 +1,6 @@
 -- What each change of a kept witness makes of it.
-use Rattle.tmw_witness.proofs.Shared.{Contains, IsTrue, List, State, TurnsAt, View, Witness, Witnesses, [], after_writes, arith, bit, bit_at, committed_of, false, get_or-set_other, get_or-set_same, inl, inr, length, may_hold, rank_of, reads_hold, refl, slice_get_some, slice_get_within, slice_set, state_of, sym, true, ℕ, ◌++◌, ◌+◌, ◌-◌, ◌<◌, ◌∙◌, ◌∷◌, ◌≡◌, ◌≤◌, ◌⊎◌}
-use Rattle.tmw_witness.proofs.Turning.{witness-begun, witness-stays, witness-moved, witness-held, witness-released}
+use Rattle.tmw_witness.proofs.Shared.{Contains, IsTrue, List, State, TurnsAt, View, Witness, Witnesses, [], after_writes, arith, bit, bit_at, committed_of, false, get_or-set_other, get_or-set_same, inl, inr, length, may_hold, rank_of, reads_hold, refl, slice_get_some, slice_get_within, slice_set, state_of, sym, true, ℕ, ◌++◌, ◌+◌, ◌<◌, ◌∙◌, ◌∷◌, ◌≡◌, ◌≤◌, ◌⊎◌}
+use Rattle.tmw_witness.proofs.Turning.{witness-begun, witness-stays, witness-moved, witness-held}
 
 -- the arrays have their lengths
 pub record AreLong (w : Witness) : Type 0 where
@@ -122,28 +122,4 @@ end-kept starts xs ys x y w p end long few room turns out may reads to was = λ 
           let z = slice_get_some xs j (let inside = slice_get_within xs p x turns.was in omega (arith, before, inside)) in
           (before, rw (here, ranks_same j apart, held_same j apart) ((is.each j z.0 z.1).within));
       leads = λ h. rw (here, low w.top (omega arith)) (last ∙ to);
-    })
-
--- the last that was held is left out
-pub released-kept : (starts : List State) (xs ys : List View) (x y : View) (w : Witness) (p : ℕ) → AreLong w → p < 8 → TurnsAt xs ys p x y
-    → committed_of w p ≡ true → IsTrue (may_hold y.status false) → y.ops ≡ x.ops → ((i : ℕ) → i < length ys → rank_of w i < w.top)
-    → rank_of w p + 1 ≡ w.top → Witnesses starts xs w
-    → Witnesses starts ys (record w { committed = slice_set w.committed p false; top = w.top - 1 })
-released-kept starts xs ys x y w p long few turns at may same behind last was = λ known.
-    let is = was known in
-    let old = is.each p x turns.was in
-    let held = long.held in
-    let new : Witness = record w { committed = slice_set w.committed p false; top = w.top - 1 } in
-    let now : committed_of new p ≡ false = get_or-set_same w.committed p false false (omega (arith, held, few)) in
-    let held_same : (i : ℕ) → (i ≡ p → ⊥) → committed_of new i ≡ committed_of w i = λ i apart. get_or-set_other w.committed p i false false apart in
-    witness-released (Contains starts) xs ys p x y (rank_of w) (committed_of w) (committed_of new) (state_of w) w.top (w.top - 1) is turns
-    held_same at now (omega (arith, last)) (omega (arith, last)) behind (record {
-      within = rw now (omega (arith, last));
-      may = inl (rw now may);
-      reads = rw same old.reads;
-      kept = λ j one.
-          let (before, kept) = old.kept j (rw turns.before at one) in
-          let apart : j ≡ p → ⊥ = λ k. absurd (omega (arith, before, k)) in
-          (before, rw (held_same j apart) kept);
-      leads = λ h. absurd (let k : true ≡ false = sym h ∙ now in cc);
     })

@@ -1,5 +1,5 @@
 -- One transaction of a window that has a witness gets an event more: what has to hold of it for the others to stand as before.
-use Rattle.tmw_witness.proofs.Shared.{Bool, HasWriter, IsTrue, IsWitness, List, Some, Stands, State, TurnsAt, View, [], ap, arith, bit, bit_at, cases_Bool, cases_lt, false, inl, inr, length, length-append, may_hold, refl, same_place, slice_get, slice_get_some, slice_get_within, suc, sym, true, zero, ℕ, ◌++◌, ◌+◌, ◌<◌, ◌∙◌, ◌∷◌, ◌≡◌, ◌≤◌}
+use Rattle.tmw_witness.proofs.Shared.{Bool, HasWriter, IsTrue, IsWitness, List, Some, Stands, State, TurnsAt, View, [], ap, arith, bit, bit_at, cases_lt, false, inl, inr, length, length-append, may_hold, refl, same_place, slice_get, slice_get_some, slice_get_within, suc, sym, true, zero, ℕ, ◌++◌, ◌+◌, ◌<◌, ◌∙◌, ◌∷◌, ◌≡◌, ◌≤◌}
 
 -- The new ranks are the old ones but at the place, where they are well told; the states are as before up to a rank that is above all
 -- others.
@@ -164,45 +164,6 @@ witness-held S xs ys p x y rank rank_new held held_new state state_new top w tur
           ranked = at_top ∙ omega (arith, low, not_earlier);
         }
       ];
-    })
-
--- the last that was held is left out, where none stands behind it
-pub witness-released : (S : State → Type 0) (xs ys : List View) (p : ℕ) (x y : View) (rank : ℕ → ℕ) (held held_new : ℕ → Bool)
-    (state : ℕ → State) (top top_new : ℕ) → IsWitness S xs rank held state top → TurnsAt xs ys p x y
-    → ((i : ℕ) → (i ≡ p → ⊥) → held_new i ≡ held i) → held p ≡ true → held_new p ≡ false
-    → top ≡ top_new + 1 → rank p ≡ top_new → ((i : ℕ) → i < length ys → rank i < top) → Stands rank held_new state top_new p y
-    → IsWitness S ys rank held_new state top_new
-witness-released S xs ys p x y rank held held_new state top top_new w turns unmoved is left one_less at_end none_behind stands =
-    let size = turns.same_length in
-    let in_xs : p < length xs = (let within = slice_get_within ys p y turns.here in omega (arith, size, within)) in
-    witness-turned S xs ys p x y rank rank held held_new state state top top_new w turns (record {
-      high = top_new;
-      unmoved = λ i apart. (refl, unmoved i apart);
-      below = λ i within other. elim (cases_Bool (held i)) [
-        | inl i_held ↦
-            let apart : rank i ≡ top_new → ⊥ =
-            λ same. other (w.apart i p (omega (arith, within, size)) in_xs i_held is (same ∙ sym at_end)) in
-            let low = none_behind i within in
-            rw i_held (elim (cases_lt (rank i) top_new) [
-              | inl less ↦ omega (arith, less)
-              | inr not_less ↦ absurd (apart (omega (arith, low, one_less, not_less)))
-            ])
-        | inr i_out ↦ let low = none_behind i within in rw i_out (omega (arith, low, one_less))
-      ];
-      under = omega arith;
-      states = λ r low. refl;
-      stands = stands;
-      apart = λ i within other p_held i_held same. absurd (let k : true ≡ false = sym p_held ∙ left in cc);
-      full = λ r low.
-          let writer = w.full r (omega (arith, low, one_less)) in
-          let other : writer.place ≡ p → ⊥ = λ same.
-          absurd (let ranked : rank p ≡ r = rw same at writer.ranked in omega (arith, ranked, low, at_end)) in
-          record {
-            place = writer.place;
-            within = (let inside = writer.within in omega (arith, inside, size));
-            is = unmoved writer.place other ∙ writer.is;
-            ranked = writer.ranked;
-          };
     })
 
 slice_get_front : {A : Type 0} (xs ys : List A) (i : ℕ) → i < length xs → slice_get (xs ++ ys) i ≡ slice_get xs i

@@ -1,4 +1,4 @@
-ghost use Rattle.std.specs.Prelude.{◌≡◌, ◌+◌, ◌≤◌, ◌<◌, ℕ, [], ◌∷◌, ◌++◌, List, IfSome, IsTrue, IsFalse, length, false, true, Some, None};
+ghost use Rattle.std.specs.Prelude.{◌≡◌, ◌+◌, ◌≤◌, ◌<◌, ℕ, [], ◌∷◌, ◌++◌, List, IfSome, IsTrue, IsFalse, length, map, false, true, Some, None};
 ghost use Rattle.tmw_defs.specs.History.{status_after};
 ghost use Rattle.std.specs.Int.{bit_at};
 ghost use Rattle.tmw_defs.specs.Opaque.{State, may_hold, reads_hold, after_writes};
@@ -190,51 +190,40 @@ impl Witness {
         }
     }
 
-    /// Whether none of so many transactions stands at the highest rank.
-    fn none_at_top(&self, count: usize) -> bool
-        ensures { IsTrue result → (i : ℕ) → i < 8 → i < count → rank_of self.now i < self.now.top }
+    /// Takes in that the transaction has aborted: it is left out. If it was taken as committed, the order is replayed without it.
+    fn abort(&mut self, items: &[Txn], place: usize)
+        requires few { length items.now ≤ 8 }
+        requires known { IsTrue self.old.known }
+        ensures { (starts : List State) (xs : List View) (x y : View)
+            → TurnsAt xs (map view items.now) place x y → y.status ≡ Aborted → y.ops ≡ x.ops
+            → Witnesses starts xs self.old → Witnesses starts (map view items.now) self.new }
     {
-        for place in 0..8 {
-            if place < count && self.ranks[place] >= self.top {
-                return false;
-            }
-        }
-        true
-    }
-
-    /// Takes in that the transaction has aborted: it is left out, or can be, where it was the last that was taken as committed.
-    fn abort(&mut self, place: usize, count: usize)
-        ensures { (starts : List State) (xs ys : List View) (x y : View) → TurnsAt xs ys place x y
-            → y.status ≡ Aborted → y.ops ≡ x.ops → length ys ≡ count → Witnesses starts xs self.old
-            → Witnesses starts ys self.new }
-    {
-        if place >= 8 || count > 8 {
+        if place >= 8 {
             self.known = false;
             return;
         }
         if !self.committed[place] {
             return;
         }
-        if u32::from(self.ranks[place]) + 1 != u32::from(self.top) || !self.none_at_top(count) {
-            self.known = false;
-            return;
-        }
         self.committed[place] = false;
-        self.top -= 1;
+        self.replay(items);
     }
 
     /// Takes in that the transaction at the place has an event of this kind more.
     #[inline(always)]
-    fn go_on(&mut self, item: &Txn, place: usize, count: usize, kind: Kind)
-        ensures { (starts : List State) (xs ys : List View) (x : View)
-            → TurnsAt xs ys place x (view item.now) → view item.now ≡ next_view kind x
-            → length ys ≡ count → Witnesses starts xs self.old → Witnesses starts ys self.new }
+    fn go_on(&mut self, items: &[Txn], item: &Txn, place: usize, kind: Kind)
+        requires few { length items.now ≤ 8 }
+        requires known { IsTrue self.old.known }
+        ensures { (starts : List State) (xs : List View) (x : View)
+            → TurnsAt xs (map view items.now) place x (view item.now)
+            → view item.now ≡ next_view kind x
+            → Witnesses starts xs self.old → Witnesses starts (map view items.now) self.new }
     {
         match kind {
             Kind::V(_) => self.answer(item, place),
             Kind::T => self.ask(item, place),
             Kind::C => self.commit(item, place),
-            Kind::A => self.abort(place, count),
+            Kind::A => self.abort(items, place),
             Kind::R(_) | Kind::W(_, _) | Kind::N(_, _) | Kind::X | Kind::K => self.keep(place),
         }
     }
@@ -258,7 +247,7 @@ impl Witness {
         };
         let items = window.transactions();
         match items.get(place) {
-            Some(item) => self.go_on(item, place, items.len(), event.kind),
+            Some(item) => self.go_on(items, item, place, event.kind),
             None => self.known = false,
         }
     }

@@ -12,8 +12,17 @@ use tmw_cuts::{State, States, Txn, Window};
 use tmw_defs::Criterion;
 use tmw_search::{Step, find_order, is_next, may_hold};
 
+/// Returns how many of these are above the number.
+fn count_above(numbers: &[u8; 8], number: u8) -> usize {
+    let mut above = 0usize;
+    for other in numbers {
+        above = above.wrapping_add(usize::from(*other > number));
+    }
+    above
+}
+
 impl Witness {
-    ghost use Rattle.tmw_witness.specs.Witnessing.{Witnesses};
+    ghost use Rattle.tmw_witness.specs.Witnessing.{Witnesses, state_of};
     ghost use Rattle.tmw_witness.specs.Placing.{PlacesThose};
 
     /// Places a transaction after those of the mask, if it can stand there, and returns the mask with it.
@@ -66,6 +75,49 @@ impl Witness {
             mask = above;
         }
         self.known = usize::from(mask) + 1 == 1 << items.len();
+    }
+
+    /// Returns a number for each of so many transactions that rises with the order: by rank, and at each rank those that are
+    /// left out come first. The other numbers are 0.
+    fn numbers(&self, count: usize) -> [u8; 8] {
+        let mut numbers = [0u8; 8];
+        for place in 0..8usize {
+            if place < count {
+                let held = u8::from(self.committed[place]);
+                let rank = self.ranks[place].wrapping_mul(2).wrapping_add(held);
+                numbers[place] = rank.wrapping_mul(8).wrapping_add(place as u8 + 1);
+            }
+        }
+        numbers
+    }
+
+    /// Lists the order as its ranks tell it: step n is the one with n steps after it. Nothing is claimed of the list.
+    fn steps(&self, count: usize) -> [Step; 8] {
+        let numbers = self.numbers(count);
+        let mut steps = [Step {
+            place: 0,
+            held: false,
+        }; 8];
+        for place in 0..8usize {
+            if place < count {
+                let held = self.committed[place];
+                if let Some(step) = steps.get_mut(count_above(&numbers, numbers[place])) {
+                    *step = Step { place, held };
+                }
+            }
+        }
+        steps
+    }
+
+    /// Takes the order in anew, as its ranks tell it. It stays known if it is one of all transactions.
+    pub(crate) fn replay(&mut self, items: &[Txn])
+        requires { length items.now ≤ 8 }
+        ensures { (starts : List State) → Contains starts (state_of self.old 0)
+            → Witnesses starts (map view items.now) self.new }
+    {
+        let steps = self.steps(items.len());
+        let start = self.states[0];
+        self.take(items, &start, &steps);
     }
 
     /// Looks for a legal serial order of the window's transactions, for some completion, from one of the states, and tells

@@ -1,4 +1,4 @@
-use Rattle.tmw_witness.proofs.Shared.{[], ap, arith, length, length-map, ltb-true, shown_at, sym, view, views_of, ◌++◌, ◌∙◌, ◌∷◌, ◌≡◌}
+use Rattle.tmw_witness.proofs.Shared.{[], length, ltb-true, shown_at, sym, view, views_of, ◌++◌, ◌∙◌, ◌∷◌}
 use Rattle.tmw_witness.proofs.Pushed.{turns-pushed}
 use Rattle.tmw_witness.proofs.witness.Witness.follow.Goals as goal
 
@@ -13,6 +13,4 @@ returns-in-Some-get c = λ starts events stands found was.
     let look = c.in-Some-get.ensures.lookup in
     let at = rw shown at (shown_at items c.in-Some.place c.in-Some-get.item.now (ltb-true c.in-Some.place (length items) (sym look.0)) look.1) in
     let (x, turns, next) = turns-pushed events c.args.event c.in-Some.place (view c.in-Some-get.item.now) here at in
-    let size : length (views_of (events ++ c.args.event ∷ [])) ≡ length items =
-    (let one = length-map items view in let two = ap length shown in omega (arith, one, two)) in
-    c.go_on.ensures starts (views_of events) (views_of (events ++ c.args.event ∷ [])) x turns next size was
+    rw shown at (c.go_on.ensures starts (views_of events) x (rw (← shown) at turns) next was)
