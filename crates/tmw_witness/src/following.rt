@@ -86,11 +86,14 @@ impl Witness {
     }
 
     /// Updates the order for an answer to a read or an add of the transaction: it stands where it stood, or at
-    /// another rank.
-    fn answer(&mut self, item: &Txn, place: usize)
-        ensures { (starts : List State) (xs ys : List View) (x : View)
-            → TurnsAt xs ys place x (view item.now) → IsTrue (may_hold item.now.status false)
-            → Witnesses starts xs self.old → Witnesses starts ys self.new }
+    /// another rank. If it fits none, the order is replayed with it at the end.
+    fn answer(&mut self, items: &[Txn], item: &Txn, place: usize)
+        requires few { length items.now ≤ 8 }
+        requires known { IsTrue self.old.known }
+        ensures { (starts : List State) (xs : List View) (x : View)
+            → TurnsAt xs (map view items.now) place x (view item.now)
+            → IsTrue (may_hold item.now.status false)
+            → Witnesses starts xs self.old → Witnesses starts (map view items.now) self.new }
     {
         if place >= 8 || self.committed[place] {
             self.known = false;
@@ -101,7 +104,7 @@ impl Witness {
         }
         match self.other_rank(item) {
             Some(rank) => self.ranks[place] = rank,
-            None => self.known = false,
+            None => self.put_last(items, place),
         }
     }
 
@@ -220,7 +223,7 @@ impl Witness {
             → Witnesses starts xs self.old → Witnesses starts (map view items.now) self.new }
     {
         match kind {
-            Kind::V(_) => self.answer(item, place),
+            Kind::V(_) => self.answer(items, item, place),
             Kind::T => self.ask(item, place),
             Kind::C => self.commit(item, place),
             Kind::A => self.abort(items, place),

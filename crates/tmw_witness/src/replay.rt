@@ -1,4 +1,4 @@
-ghost use Rattle.std.specs.Prelude.{◌≡◌, ◌≤◌, List, IfSome, IsTrue, length, map};
+ghost use Rattle.std.specs.Prelude.{◌≡◌, ◌<◌, ◌≤◌, List, IfSome, IsTrue, length, map};
 ghost use Rattle.std.specs.List.{Contains};
 ghost use Rattle.tmw_events.specs.declared.event.Event.{Event};
 ghost use Rattle.tmw_defs.specs.Opaque.{State};
@@ -9,8 +9,22 @@ ghost use Rattle.tmw_search.specs.Ended.{TellsEnd};
 
 use crate::witness::Witness;
 use tmw_cuts::{State, States, Txn, Window};
-use tmw_defs::Criterion;
+use tmw_defs::{Criterion, Status};
 use tmw_search::{Step, find_order, is_next, may_hold};
+
+/// The highest rank that there is: of a window in which all have committed.
+const LAST_RANK: u8 = 8;
+
+/// Returns which of the transactions have committed.
+fn committed_of(items: &[Txn]) -> [bool; 8] {
+    let mut committed = [false; 8];
+    for (place, item) in items.iter().enumerate() {
+        if let Some(one) = committed.get_mut(place) {
+            *one = item.status == Status::Committed;
+        }
+    }
+    committed
+}
 
 /// Returns how many of these are above the number.
 fn count_above(numbers: &[u8; 8], number: u8) -> usize {
@@ -107,6 +121,19 @@ impl Witness {
             }
         }
         steps
+    }
+
+    /// Takes the order in anew with the transaction at its end, where each commit-pending one is left out. So it may read what
+    /// those that asked to commit earlier have not written yet.
+    pub(crate) fn put_last(&mut self, items: &[Txn], place: usize)
+        requires few { length items.now ≤ 8 }
+        requires within { place < 8 }
+        ensures { (starts : List State) → Contains starts (state_of self.old 0)
+            → Witnesses starts (map view items.now) self.new }
+    {
+        self.committed = committed_of(items);
+        self.ranks[place] = LAST_RANK;
+        self.replay(items);
     }
 
     /// Takes the order in anew, as its ranks tell it. It stays known if it is one of all transactions.

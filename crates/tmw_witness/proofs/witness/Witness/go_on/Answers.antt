@@ -6,7 +6,7 @@ use Rattle.tmw_witness.proofs.witness.Witness.go_on.Goals as goal
 pub returns-in-V : goal.returns-in-V
 returns-in-V c = λ starts xs x turns next was.
     let live : c.args.item.now.status ≡ Live = ap (λ (v : View). v.status) (rw c.in-V.is at next) in
-    c.answer.ensures starts xs (map view c.args.items.now) x turns (rw live refl) was
+    c.answer.ensures starts xs x turns (rw live refl) was
 
 pub returns-in-T : goal.returns-in-T
 returns-in-T c = λ starts xs x turns next was.
