@@ -1,4 +1,5 @@
 -- An event that is taken at once leaves the history fine: where it leads to no cut, and where the only transaction ends with it.
+use Rattle.tmw_witness.specs.declared.witness.Witness.{Witness}
 use Rattle.tmw_monitor.proofs.Shared.{Bool, Closes, Contains, EndsOf, Event, IsTrue, Keeps, List, None, Note, Notes, Open, Outcome, Rules, StandsFor, State, StaysOpen, TellsWrong, Witnesses, [], arith, contains_here, drop, false, inl, inr, is_cut, is_quiet_by, length, length-transactions_push, members, refl, subst, sym, transactions, true, views_of, ◌++◌, ◌+◌, ◌<◌, ◌∙◌, ◌∷◌, ◌≡◌, ◌≤◌, ◌⊎◌}
 use Rattle.tmw_wellformed.specs.GoingOn.{TakesAs}
 use Rattle.tmw_search.proofs.ForcedEnds.{alone-end}
@@ -65,3 +66,15 @@ last-fine rules h e old new keeps end takes some one only_start ends states stan
       witness = witness;
     } in
     follows-told rules h e old keeps (length h + 1) rules.states quiet new Outcome refl refl takes.tracks narrow refl (inr closes)
+
+-- another order of the same transactions is kept
+pub keeps-order : (rules : Rules) (h : List Event) (old : Open) (w : Witness)
+    → ((starts : List State) (events : List Event) → StandsFor old.window events → Witnesses starts (views_of events) old.witness
+    → Witnesses starts (views_of events) w) → Keeps rules h old → Keeps rules h (record old { witness = w })
+keeps-order rules h old w stands k = record {
+  cut = k.cut;
+  sums_up = k.sums_up;
+  stands = k.stands;
+  tracks = k.tracks;
+  witness = stands (members old.states) (drop k.cut h) k.stands k.witness;
+}

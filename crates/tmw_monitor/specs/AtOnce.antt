@@ -19,3 +19,7 @@ StaysFine criterion bounds event old new = (rules : Rules) (history : List Event
 abbrev pub IsOpenAt : Option ℕ → Event → Open → Type 0
 IsOpenAt place event kept = (events : List Event) → StandsFor kept.window events
     → place ≡ position (is_open_for event.thread.number) (views_of events)
+
+-- Whatever history the one is kept of, the other is too.
+abbrev pub StaysKept : Open → Open → Type 0
+StaysKept old new = (rules : Rules) (history : List Event) → Keeps rules history old → Keeps rules history new

@@ -1,7 +1,7 @@
 //! The way that most events take: few steps, no search and no memory.
 ghost use Rattle.std.specs.Prelude.{◌≡◌, ◌<◌, None, Some, IsTrue, IsFalse};
 ghost use Rattle.tmw_cuts.specs.Standing.{count_of};
-ghost use Rattle.tmw_monitor.specs.AtOnce.{IsOpenAt, StaysFine};
+ghost use Rattle.tmw_monitor.specs.AtOnce.{IsOpenAt, StaysFine, StaysKept};
 
 use crate::bounds::Bounds;
 use crate::open::Open;
@@ -9,11 +9,12 @@ use tmw_defs::Criterion;
 use tmw_events::Event;
 
 /// Takes the next event if no search is needed to see that nothing is wrong with it by this criterion. Else it returns
-/// `false` and changes nothing. It is inlined into its callers, which mostly know the kind of their event.
+/// `false`, and what is kept is of the history without it. It is inlined into its callers, which mostly know the kind of
+/// their event.
 #[inline(always)]
 pub fn take_at_once(kept: &mut Open, bounds: Bounds, criterion: Criterion, event: Event) -> bool
     ensures taken { IsTrue result → StaysFine criterion bounds event kept.old kept.new }
-    ensures left { IsFalse result → kept.new ≡ kept.old }
+    ensures left { IsFalse result → StaysKept kept.old kept.new }
 {
     match kept.window.open_place(event.thread) {
         None => begin_at_once(kept, bounds, criterion, event),
@@ -52,8 +53,9 @@ fn go_on_at_once(
     requires within { place < count_of kept.old.window }
     requires open { IsOpenAt (Some place) event kept.old }
     ensures taken { IsTrue result → StaysFine criterion bounds event kept.old kept.new }
-    ensures left { IsFalse result → kept.new ≡ kept.old }
+    ensures left { IsFalse result → StaysKept kept.old kept.new }
 {
+    kept.witness.hold_pending(&kept.window, place, event.kind);
     if !kept.witness.explains_open(&kept.window, place, event) {
         return ask_at_once(kept, bounds, criterion, place, event);
     }
@@ -73,7 +75,7 @@ fn go_on_at_once(
     true
 }
 
-/// Takes at once an event of the transaction at this place where it is quiet, as a request to commit is.
+/// Takes at once an event of the transaction at this place if it is quiet. It is asked where no order is known.
 #[inline(always)]
 fn ask_at_once(
     kept: &mut Open,

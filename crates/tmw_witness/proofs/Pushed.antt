@@ -28,6 +28,19 @@ completed-before ts p x z at i there one =
     bit_true true h = refl
     bit_true false h = absurd (omega (arith, h))
 
+-- one that is not over stands as it stood
+pub turns-still : (events : List Event) (p : ℕ) (x : View) → slice_get (views_of events) p ≡ Some x → is_over x.status ≡ false
+    → TurnsAt (views_of events) (views_of events) p x x
+turns-still events p x at lives = record {
+  same_length = refl;
+  was = at;
+  here = at;
+  before = refl;
+  others = λ i apart. refl;
+  alone = λ i z there one.
+      absurd (let k : true ≡ false = sym (completed-before (transactions events) p x z at i there one) ∙ lives in cc);
+}
+
 -- the first that is open for the thread takes the event, and the others stay
 push-here : (e : Event) (before : ℕ) (vs : List View) (i : ℕ) (d : View) → i < length vs → is_open_for e.thread.number (get_or vs i d) ≡ true
     → ((k : ℕ) → k < i → is_open_for e.thread.number (get_or vs k d) ≡ false)

@@ -65,10 +65,8 @@ impl Witness {
         match kind {
             Kind::V(value) => !self.committed[place] && self.has_value(item, place, value),
             Kind::C => self.committed[place] || self.leaves_nothing(item, place),
-            Kind::T => !self.committed[place] && item.only_reads(),
-            Kind::R(_) | Kind::W(_, _) | Kind::N(_, _) | Kind::X | Kind::K | Kind::A => {
-                !self.committed[place]
-            }
+            Kind::R(_) | Kind::W(_, _) | Kind::N(_, _) | Kind::T | Kind::X | Kind::K | Kind::A =>
+                !self.committed[place],
         }
     }
 

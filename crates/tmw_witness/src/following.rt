@@ -1,4 +1,4 @@
-ghost use Rattle.std.specs.Prelude.{◌≡◌, ◌+◌, ◌≤◌, ◌<◌, ℕ, [], ◌∷◌, ◌++◌, List, IfSome, IsTrue, IsFalse, length, map, false, true, Some, None};
+ghost use Rattle.std.specs.Prelude.{◌≡◌, ◌+◌, ◌≤◌, ◌<◌, ℕ, [], ◌∷◌, ◌++◌, List, IfSome, IsTrue, IsFalse, length, false, true, Some, None};
 ghost use Rattle.tmw_defs.specs.History.{status_after};
 ghost use Rattle.std.specs.Int.{bit_at};
 ghost use Rattle.tmw_defs.specs.Opaque.{State, may_hold, reads_hold, after_writes};
@@ -7,13 +7,14 @@ ghost use Rattle.tmw_cuts.specs.Views.{View, view, bit};
 
 use crate::witness::Witness;
 use tmw_cuts::{State, Txn, Window};
+use tmw_defs::Status;
 use tmw_events::{Event, Kind};
 
 impl Witness {
     ghost use Rattle.tmw_witness.specs.Witnessing.{Witnesses, rank_of, committed_of, state_of};
     ghost use Rattle.tmw_witness.specs.Turns.{TurnsAt};
     ghost use Rattle.tmw_events.specs.declared.event.Event.{Event};
-    ghost use Rattle.tmw_cuts.specs.Standing.{StandsFor, views_of};
+    ghost use Rattle.tmw_cuts.specs.Standing.{StandsFor, count_of, views_of};
     ghost use Rattle.tmw_cuts.specs.Views.{next_view, is_open_for};
     ghost use Rattle.std.specs.Prelude.{position};
 
@@ -86,14 +87,11 @@ impl Witness {
     }
 
     /// Updates the order for an answer to a read or an add of the transaction: it stands where it stood, or at
-    /// another rank. If it fits none, the order is replayed with it at the end.
-    fn answer(&mut self, items: &[Txn], item: &Txn, place: usize)
-        requires few { length items.now ≤ 8 }
-        requires known { IsTrue self.old.known }
-        ensures { (starts : List State) (xs : List View) (x : View)
-            → TurnsAt xs (map view items.now) place x (view item.now)
-            → IsTrue (may_hold item.now.status false)
-            → Witnesses starts xs self.old → Witnesses starts (map view items.now) self.new }
+    /// another rank.
+    fn answer(&mut self, item: &Txn, place: usize)
+        ensures { (starts : List State) (xs ys : List View) (x : View)
+            → TurnsAt xs ys place x (view item.now) → IsTrue (may_hold item.now.status false)
+            → Witnesses starts xs self.old → Witnesses starts ys self.new }
     {
         if place >= 8 || self.committed[place] {
             self.known = false;
@@ -104,11 +102,11 @@ impl Witness {
         }
         match self.other_rank(item) {
             Some(rank) => self.ranks[place] = rank,
-            None => self.put_last(items, place),
+            None => self.known = false,
         }
     }
 
-    /// Puts the transaction, which was left out, at the end and takes it as committed, where its reads hold there. It is called, so
+    /// Puts the transaction, which was left out, at the end and takes it as committed, if its reads hold there. It is called, so
     /// that what has to be part of the reading of each line stays small enough to be.
     #[inline(never)]
     fn hold(&mut self, item: &Txn, place: usize) -> bool
@@ -116,6 +114,7 @@ impl Witness {
             → TurnsAt xs ys place x (view item.now) → IsTrue (may_hold item.now.status true)
             → Witnesses starts xs self.old → Witnesses starts ys self.new }
         ensures left { IsFalse result → self.new ≡ self.old }
+        ensures known { self.new.known ≡ self.old.known }
     {
         let rank = usize::from(self.top);
         if place >= 8 || rank >= 8 || self.committed[place] {
@@ -131,6 +130,28 @@ impl Witness {
         true
     }
 
+    /// If the transaction at this place has asked to commit and this is the answer that it has, takes it as committed at the end of
+    /// the order, if its reads hold there. So the order is that in which transactions have committed.
+    #[inline(always)]
+    pub fn hold_pending(&mut self, window: &Window, place: usize, kind: Kind)
+        requires { place < count_of window.now }
+        ensures known { self.new.known ≡ self.old.known }
+        ensures stands { (starts : List State) (events : List Event)
+            → StandsFor window.now events → Witnesses starts (views_of events) self.old
+            → Witnesses starts (views_of events) self.new }
+    {
+        if !self.known || !matches!(kind, Kind::C) {
+            return;
+        }
+        let item = &window.transactions()[place];
+        if item.only_reads() {
+            return;
+        }
+        if let Status::Pending = item.status {
+            let _held = self.hold(item, place);
+        }
+    }
+
     /// Takes in an event after which the transaction stands as before, and is to be left out.
     #[inline(always)]
     fn keep(&mut self, place: usize)
@@ -141,19 +162,6 @@ impl Witness {
     {
         if place >= 8 || self.committed[place] {
             self.known = false;
-        }
-    }
-
-    /// Takes in that the transaction has asked to commit: it goes to the end, where its reads hold there.
-    #[inline(always)]
-    fn ask(&mut self, item: &Txn, place: usize)
-        ensures { (starts : List State) (xs ys : List View) (x : View)
-            → TurnsAt xs ys place x (view item.now) → item.now.status ≡ Pending
-            → item.now.ops.items ≡ x.ops → Witnesses starts xs self.old
-            → Witnesses starts ys self.new }
-    {
-        if !self.hold(item, place) {
-            self.keep(place);
         }
     }
 
@@ -193,41 +201,18 @@ impl Witness {
         }
     }
 
-    /// Takes in that the transaction has aborted: it is left out. If it was taken as committed, the order is replayed without it.
-    fn abort(&mut self, items: &[Txn], place: usize)
-        requires few { length items.now ≤ 8 }
-        requires known { IsTrue self.old.known }
-        ensures { (starts : List State) (xs : List View) (x y : View)
-            → TurnsAt xs (map view items.now) place x y → y.status ≡ Aborted → y.ops ≡ x.ops
-            → Witnesses starts xs self.old → Witnesses starts (map view items.now) self.new }
-    {
-        if place >= 8 {
-            self.known = false;
-            return;
-        }
-        if !self.committed[place] {
-            return;
-        }
-        self.committed[place] = false;
-        self.replay(items);
-    }
-
     /// Takes in that the transaction at the place has an event of this kind more.
     #[inline(always)]
-    fn go_on(&mut self, items: &[Txn], item: &Txn, place: usize, kind: Kind)
-        requires few { length items.now ≤ 8 }
-        requires known { IsTrue self.old.known }
-        ensures { (starts : List State) (xs : List View) (x : View)
-            → TurnsAt xs (map view items.now) place x (view item.now)
-            → view item.now ≡ next_view kind x
-            → Witnesses starts xs self.old → Witnesses starts (map view items.now) self.new }
+    fn go_on(&mut self, item: &Txn, place: usize, kind: Kind)
+        ensures { (starts : List State) (xs ys : List View) (x : View)
+            → TurnsAt xs ys place x (view item.now) → view item.now ≡ next_view kind x
+            → Witnesses starts xs self.old → Witnesses starts ys self.new }
     {
         match kind {
-            Kind::V(_) => self.answer(items, item, place),
-            Kind::T => self.ask(item, place),
+            Kind::V(_) => self.answer(item, place),
             Kind::C => self.commit(item, place),
-            Kind::A => self.abort(items, place),
-            Kind::R(_) | Kind::W(_, _) | Kind::N(_, _) | Kind::X | Kind::K => self.keep(place),
+            Kind::R(_) | Kind::W(_, _) | Kind::N(_, _) | Kind::T | Kind::X | Kind::K | Kind::A =>
+                self.keep(place),
         }
     }
 
@@ -250,7 +235,7 @@ impl Witness {
         };
         let items = window.transactions();
         match items.get(place) {
-            Some(item) => self.go_on(items, item, place, event.kind),
+            Some(item) => self.go_on(item, place, event.kind),
             None => self.known = false,
         }
     }

@@ -3,20 +3,20 @@
 use Rattle.tmw_monitor.proofs.Shared.{Contains, Ends, Tracks, [], arith, committed_of, contains_here, drop, ends-by, false, inr, members, rank_of, refl, state_of, sym, transactions, views_of, ◌++◌, ◌∙◌, ◌∷◌, ◌≡◌}
 use Rattle.tmw_search.proofs.WindowViews.{shows-views_of}
 use Rattle.tmw_witness.proofs.Path.{witness-ends}
-use Rattle.tmw_monitor.proofs.AtOnce.{open-fine, last-fine}
+use Rattle.tmw_monitor.proofs.AtOnce.{keeps-order, open-fine, last-fine}
 use Rattle.tmw_monitor.proofs.at_once.go_on_at_once.Goals as goal
 
 pub returns-then-go_on-clause-taken : goal.returns-then-go_on-clause-taken
 returns-then-go_on-clause-taken c took rules history by window states keeps =
     let old = c.args.kept.now in
-    let w = old.witness in
+    let w = c.hold_pending.new.self in
     let starts = members old.states in
     let e = c.args.event in
     let rest = drop keeps.cut history in
     let all = rest ++ e ∷ [] in
     let explained = c.if-not-explains_open.false in
     let at = c.requires.open rest keeps.stands in
-    let witness = c.explains_open.ensures.stands explained starts rest keeps.stands at keeps.witness in
+    let witness = c.explains_open.ensures.stands explained starts rest keeps.stands at (c.hold_pending.ensures.stands starts rest keeps.stands keeps.witness) in
     let ends : Ends (Contains starts) (transactions all) (state_of w w.top) =
     witness-ends (Contains starts) (views_of all) (transactions all) (rank_of w) (committed_of w) (state_of w) w.top
     (witness (c.explains_open.ensures.known explained)) (shows-views_of all) in
@@ -26,14 +26,14 @@ returns-then-go_on-clause-taken c took rules history by window states keeps =
 pub returns-clause-taken : goal.returns-clause-taken
 returns-clause-taken c took rules history by window states keeps =
     let old = c.args.kept.now in
-    let w = old.witness in
+    let w = c.hold_pending.new.self in
     let starts = members old.states in
     let e = c.args.event in
     let rest = drop keeps.cut history in
     let all = rest ++ e ∷ [] in
     let explained = c.if-not-explains_open.false in
     let at = c.requires.open rest keeps.stands in
-    let witness = c.explains_open.ensures.stands explained starts rest keeps.stands at keeps.witness in
+    let witness = c.explains_open.ensures.stands explained starts rest keeps.stands at (c.hold_pending.ensures.stands starts rest keeps.stands keeps.witness) in
     let ends : Ends (Contains starts) (transactions all) (state_of w w.top) =
     witness-ends (Contains starts) (views_of all) (transactions all) (rank_of w) (committed_of w) (state_of w) w.top
     (witness (c.explains_open.ensures.known explained)) (shows-views_of all) in
@@ -46,3 +46,22 @@ returns-clause-taken c took rules history by window states keeps =
     (sym c.len.ensures ∙ c.if-len-ne1.false)
     (ends-by rules.criterion (Contains starts) (transactions all) (state_of w w.top) ends) only c.clear.ensures.stands
     (c.restart_at_end-end.ensures.witnesses (members c.put_only.new.self) (rw c.put_only.ensures (contains_here c.restart_at_end-end.result [])))
+
+pub returns-then-not-explains_open-clause-taken : goal.returns-then-not-explains_open-clause-taken
+returns-then-not-explains_open-clause-taken c = λ took rules history by window states keeps.
+    c.ask_at_once.ensures.taken took rules history by window states
+    (keeps-order rules history c.args.kept.now c.hold_pending.new.self c.hold_pending.ensures.stands keeps)
+
+pub returns-then-not-explains_open-clause-left : goal.returns-then-not-explains_open-clause-left
+returns-then-not-explains_open-clause-left c = λ none rules history keeps.
+    rw (c.ask_at_once.ensures.left none) (keeps-order rules history c.args.kept.now c.hold_pending.new.self c.hold_pending.ensures.stands keeps)
+
+pub returns-then-count-ne1-clause-left : goal.returns-then-count-ne1-clause-left
+returns-then-count-ne1-clause-left c = λ none rules history keeps.
+    rw (c.go_on.ensures.kept c.if-go_on.false)
+    (keeps-order rules history c.args.kept.now c.hold_pending.new.self c.hold_pending.ensures.stands keeps)
+
+pub returns-then-not-end_last-clause-left : goal.returns-then-not-end_last-clause-left
+returns-then-not-end_last-clause-left c = λ none rules history keeps.
+    rw (c.end_last.ensures.kept c.if-not-end_last.true, c.go_on.ensures.kept c.if-go_on.false)
+    (keeps-order rules history c.args.kept.now c.hold_pending.new.self c.hold_pending.ensures.stands keeps)

@@ -1,10 +1,10 @@
-use Rattle.tmw_witness.proofs.Shared.{arith, inl, map, rules, view}
+use Rattle.tmw_witness.proofs.Shared.{arith, inl, rules, view}
 use Rattle.tmw_witness.proofs.Kept.{AreLong, left_out-kept, moved-kept}
 use Rattle.tmw_witness.proofs.witness.Witness.answer.Goals as goal
 
 pub returns-then-holds_at : goal.returns-then-holds_at
-returns-then-holds_at c = λ starts xs x turns may was.
-    left_out-kept starts xs (map view c.args.items.now) x (view c.args.item.now) c.args.self.now c.args.place turns c.if-self-place.false (inl may)
+returns-then-holds_at c = λ starts xs ys x turns may was.
+    left_out-kept starts xs ys x (view c.args.item.now) c.args.self.now c.args.place turns c.if-self-place.false (inl may)
     (λ reads. c.holds_at.ensures c.if-holds_at.true) was
 
 pub returns-in-Some : goal.returns-in-Some
@@ -15,9 +15,6 @@ returns-in-Some c =
       states = search rules;
     } in
     let found = c.in-Some.ensures in
-    λ starts xs x turns may was.
-    moved-kept starts xs (map view c.args.items.now) x (view c.args.item.now) c.args.self.now c.args.place c.in-Some.rank c.in-Some.rank long c.if-place-ge8.false
+    λ starts xs ys x turns may was.
+    moved-kept starts xs ys x (view c.args.item.now) c.args.self.now c.args.place c.in-Some.rank c.in-Some.rank long c.if-place-ge8.false
     turns c.if-self-place.false may (omega arith) found.0 found.3 found.2 was
-
-pub returns-in-None : goal.returns-in-None
-returns-in-None c = λ starts xs x turns may was. c.put_last.ensures starts (was c.requires.known).start

@@ -1,13 +1,10 @@
 -- One that is left out stands where it stood, where the event adds no answer, or one that its rank's state has; and so does one that is held and commits.
-use Rattle.tmw_witness.proofs.Shared.{C, IsTrue, Kind, T, View, inl, inr, left_out, next_view, not-true, rank_of, refl, state_of, tells_no_value, view, ◌≡◌}
+use Rattle.tmw_witness.proofs.Shared.{C, IsTrue, Kind, View, inl, inr, left_out, next_view, not-true, rank_of, refl, state_of, tells_no_value, view, ◌≡◌}
 use Rattle.tmw_witness.proofs.Kept.{left_out-kept, held-kept}
 use Rattle.tmw_witness.proofs.Quiet.{ops-none, reads-quiet}
 use Rattle.tmw_witness.proofs.witness.Witness.explains_at.Goals as goal
 
--- a request and a commit event leave the operations
-same-ops : (x : View) (kind : Kind) → (kind ≡ T) → (next_view kind x).ops ≡ x.ops
-same-ops x kind is = rw is (ops-none x.ops x.call T refl)
-
+-- a commit event leaves the operations
 committed-ops : (x : View) (kind : Kind) → (kind ≡ C) → (next_view kind x).ops ≡ x.ops
 committed-ops x kind is = rw is (ops-none x.ops x.call C refl)
 
@@ -32,14 +29,6 @@ returns-else-self-place c leaves starts xs ys turns was =
     left_out-kept starts xs ys x (next_view c.args.kind x) w c.args.place turns c.if-self-place.false
     (inr (rw c.in-C.is refl, rw same (c.leaves_nothing.ensures leaves))) (λ reads. rw same reads) was
 
-pub returns-then-not-self-place-2 : goal.returns-then-not-self-place-2
-returns-then-not-self-place-2 c only starts xs ys turns was =
-    let w = c.args.self.now in
-    let x = view c.args.item.now in
-    let same = same-ops x c.args.kind c.in-T.is in
-    left_out-kept starts xs ys x (next_view c.args.kind x) w c.args.place turns c.if-not-self-place-2.true
-    (inl (rw c.in-T.is refl)) (λ reads. rw same reads) was
-
 -- such an event answers no read, no add and no commit request
 record IsQuiet (kind : Kind) : Type 0 where
   no_value : IsTrue (tells_no_value kind)
@@ -53,7 +42,8 @@ returns-in-R c out starts xs ys turns was =
       | inr (inr (inl (r, v, is))) ↦ rw is (record { no_value = refl; no_commit = λ h. absurd (cc) })
       | inr (inr (inr (inl is))) ↦ rw is (record { no_value = refl; no_commit = λ h. absurd (cc) })
       | inr (inr (inr (inr (inl is)))) ↦ rw is (record { no_value = refl; no_commit = λ h. absurd (cc) })
-      | inr (inr (inr (inr (inr is)))) ↦ rw is (record { no_value = refl; no_commit = λ h. absurd (cc) })
+      | inr (inr (inr (inr (inr (inl is))))) ↦ rw is (record { no_value = refl; no_commit = λ h. absurd (cc) })
+      | inr (inr (inr (inr (inr (inr is))))) ↦ rw is (record { no_value = refl; no_commit = λ h. absurd (cc) })
     ] in
     let w = c.args.self.now in
     let x = view c.args.item.now in

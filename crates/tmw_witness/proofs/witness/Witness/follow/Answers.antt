@@ -13,4 +13,4 @@ returns-in-Some-get c = λ starts events stands found was.
     let look = c.in-Some-get.ensures.lookup in
     let at = rw shown at (shown_at items c.in-Some.place c.in-Some-get.item.now (ltb-true c.in-Some.place (length items) (sym look.0)) look.1) in
     let (x, turns, next) = turns-pushed events c.args.event c.in-Some.place (view c.in-Some-get.item.now) here at in
-    rw shown at (c.go_on.ensures starts (views_of events) x (rw (← shown) at turns) next was)
+    c.go_on.ensures starts (views_of events) (views_of (events ++ c.args.event ∷ [])) x turns next was
