@@ -7,7 +7,7 @@ use Rattle.tmw_search.specs.declared.sources.Choices.{Choices}
 use Rattle.tmw_search.specs.declared.sources.Source.{Source}
 use Rattle.tmw_search.specs.declared.sources.Source.TheVariants.{Open, Start, From}
 
--- The ranking has the read's value come from its source, if that is chosen.
+-- The ranking puts the read after its source and no writer between, or before all writers if its source is the start.
 abbrev pub Sourced : ℕ → ℕ → Source → (ℕ → ℕ) → Type 0
 Sourced writers j Open rank = Unit {0}
 Sourced writers j Start rank = FromStart writers j rank
@@ -30,7 +30,7 @@ source_at c j r = get_or c.sources (8 * j + r) Open
 abbrev pub IsRead : Choices → ℕ → ℕ → Type 0
 IsRead c j r = bit_at (slice_index c.reads j) r ≡ 1
 
--- Each read of the transaction, or of all, that is looked at has its value from its source, if one is chosen.
+-- So it is for each read of the transaction, or of all, that is looked at.
 abbrev pub ChosenBy : Choices → ℕ → (ℕ → ℕ) → Type 0
 ChosenBy c j rank = (r : ℕ) → r < 8 → IsRead c j r → Sourced (slice_index c.writers r) j (source_at c j r) rank
 

@@ -23,7 +23,8 @@ pub record ComeBefore (reach : List ℕ) (these before : ℕ) : Type 0 where
   pub only : (i : ℕ) → i < 8 → In before i → (j : ℕ) × (j < 8) × In these j × Has reach i j × (i ≡ j → ⊥)
   pub all : (i j : ℕ) → i < 8 → j < 8 → In these j → Has reach i j → (i ≡ j → ⊥) → In before i
 
--- The end of a legal order of the node, where each register that is not in the mask holds what the state does.
+-- The state, with each register of the mask set to its last writer's value, if it has a writer, in one legal order of the node that holds
+-- those that the node does.
 pub record IsEndOf (xs : List Effect) (start : State) (node : Node) (registers : ℕ) (base end : State) : Type 0 where
   pub held : ℕ
   pub rank : ℕ → ℕ

@@ -12,6 +12,7 @@ use Rattle.tmw_search.specs.declared.node.Branch.{Branch}
 use Rattle.tmw_search.specs.Order.{Has, IsOrder, IsRanking}
 use Rattle.tmw_search.specs.Chosen.{IsRead, source_at}
 
+-- At a place without a transaction: it is never a member, since it does not agree with itself.
 abbrev pub idle : Effect
 idle = record { needs = []; leaves = []; needed = 0; left = 0; agrees = false }
 
@@ -74,7 +75,7 @@ IsSound xs start held j r Open = Unit {0}
 IsSound xs start held j r Start = slice_index start r ≡ need_at xs j r
 IsSound xs start held j r (From i) = Writes xs held r i × (left_at xs i r ≡ need_at xs j r)
 
--- Whatever may yet be held, in each order that keeps who precedes whom the read has its value from where it may.
+-- Whichever of `may` are held, in each order that keeps who precedes whom the read has its value, from its source if one is chosen.
 abbrev pub Settles : List Effect → State → ℕ → Node → ℕ → ℕ → Type 0
 Settles xs start may node j r = (held : ℕ) (rank : ℕ → ℕ) → IsRanking rank node.reach → ((i : ℕ) → i < 8 → In node.held i → In held i)
     → ((i : ℕ) → i < 8 → In held i → In node.held i ⊎ In may i) → Reads xs held start rank j r (source_at node.choices j r)
@@ -89,7 +90,7 @@ pub record IsNode (xs : List Effect) (start : State) (may : ℕ) (node : Node) :
   pub agree : (j : ℕ) → j < 8 → In node.members j → IsTrue (get_or xs j idle).agrees
   pub sound : (j r : ℕ) → j < 8 → r < 8 → IsSound xs start node.held j r (source_at node.choices j r)
 
--- The order is legal, whatever ranks it has.
+-- The found node has an order, and each order that keeps who precedes whom there is legal for the node, with those held that are there.
 pub record IsFound (xs : List Effect) (start : State) (may : ℕ) (node found : Node) : Type 0 where
   pub order : IsOrder found.reach
   pub rank : ℕ → ℕ
@@ -130,7 +131,7 @@ pub record Gives (xs : List Effect) (start : State) (may : ℕ) (node : Node) (j
   pub reads : (a q : ℕ) → a < 8 → q < 8 → IsRead node.choices a q → IsRead next.choices a q
   pub others : (a q : ℕ) → q < 8 → ((a ≡ j) × (q ≡ r) → ⊥) → source_at next.choices a q ≡ source_at node.choices a q
 
--- It leaves there what the read needs, and does not come after the read.
+-- It agrees with itself, leaves in the register what the read needs, and is not known to come after the reader. It may be held or not.
 pub record MayBe (xs : List Effect) (node : Node) (j r i : ℕ) : Type 0 where
   pub leaves : Leaves xs i r
   pub value : left_at xs i r ≡ need_at xs j r

@@ -15,19 +15,20 @@ use Rattle.tmw_cuts.specs.declared.effect.Effect.{Effect}
 use Rattle.tmw_search.specs.declared.sources.Source.TheVariants.{Open}
 use Rattle.tmw_search.specs.Legal.{idle, In, Needs, left_at, Writes, Reads}
 
--- The members, by their ranks, are in a serial order that keeps who precedes whom and is legal: each read has its value from the start or
--- from a writer before it.
+-- The ranks keep who precedes whom, and are a legal serial order: the members agree with themselves, and each of their reads has the value
+-- of the last held writer before it, or that of the start where there is none.
 pub record IsSerial (xs : List Effect) (start : State) (mat : List ℕ) (members held : ℕ) (rank : ℕ → ℕ) : Type 0 where
   pub ranking : IsRanking rank mat
   pub agree : (j : ℕ) → j < 8 → In members j → IsTrue (get_or xs j idle).agrees
   pub reads : (j r : ℕ) → j < 8 → r < 8 → In members j → Needs xs j r → Reads xs held start rank j r Open
 
--- What a register ends with that held `old`: the value of the writer ranked last, or `old` where there is none.
+-- The place is that of the register's writer that is ranked last, and the value the one that it leaves.
 pub record IsLast (xs : List Effect) (held : ℕ) (rank : ℕ → ℕ) (r value place : ℕ) : Type 0 where
   pub writes : Writes xs held r place
   pub is : value ≡ left_at xs place r
   pub last : (k : ℕ) → Writes xs held r k → rank k ≤ rank place
 
+-- What a register ends with that held `old`: the value of the writer ranked last, or `old` where there is none.
 abbrev pub EndsAt : List Effect → ℕ → (ℕ → ℕ) → ℕ → ℕ → ℕ → Type 0
 EndsAt xs held rank r old value =
     (((k : ℕ) → Writes xs held r k → ⊥) × (value ≡ old)) ⊎ ((place : ℕ) × IsLast xs held rank r value place)

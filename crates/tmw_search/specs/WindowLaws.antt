@@ -38,7 +38,7 @@ HasEight e = (length e.needs ≡ 8) × (length e.leaves ≡ 8)
 abbrev pub HaveEight : List cuts.Txn → Type 0
 HaveEight items = (i : ℕ) (x : cuts.Txn) → slice_get items i ≡ Some x → HasEight (effect_of x)
 
--- Of whatever events these are the transactions, no legal serial order begins from the start. `Explains`: some does.
+-- For all events whose transactions these are: no legal serial order begins from the start. `Explains`: some does.
 abbrev pub Refutes : Criterion → List cuts.Txn → State → Type 0
 Refutes criterion items start = (events : List Event) → map view items ≡ views_of events → (end : State)
     → EndsBy criterion (Only start) (transactions events) end → ⊥

@@ -16,8 +16,8 @@ fn written_by(item: &Txn) -> u8
     }
 }
 
-/// Tells whether no register that two committed transactions write is written blindly by one. All their orders then end
-/// in one state.
+/// Tells whether no register that two committed transactions write is written blindly by one. Once all have ended, all
+/// their orders from one start then end in one state.
 pub fn is_forced(items: &[Txn]) -> bool
     ensures { IsTrue result → AreForced (map view items.now) }
 {
