@@ -1,4 +1,3 @@
-pub mod Candidates
 pub mod Finding
 pub mod Found
 pub mod Kept

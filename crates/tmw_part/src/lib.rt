@@ -9,17 +9,14 @@ mod find;
 mod follows;
 mod kept_part;
 mod known;
-mod least;
 mod left;
 mod marks;
 mod part;
 mod piece;
 mod prune;
 mod reason;
-mod sources;
 mod step;
 mod transaction;
-mod tried;
 mod violated;
 
 pub use find::{MOST_EVENTS, find_part};

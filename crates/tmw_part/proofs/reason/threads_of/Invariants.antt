@@ -1,4 +1,5 @@
-use Rattle.tmw_part.proofs.Shared.{drop, map, threads_of, txns_of, ◌++◌, ◌≡◌}
+use Rattle.tmw_part.proofs.Shared.{drop, map, txns_of, ◌++◌, ◌≡◌}
+use Rattle.tmw_part.specs.Found.{threads_of}
 use Rattle.tmw_part.proofs.reason.threads_of.Given as goal
 
 abbrev pub invariant-loop-transaction : goal.invariant-loop-transaction
