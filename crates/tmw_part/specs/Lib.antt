@@ -1,6 +1,7 @@
 pub mod Finding
 pub mod Found
 pub mod Kept
+pub mod Names
 pub mod Pieces
 pub mod Reasons
 pub mod Shown

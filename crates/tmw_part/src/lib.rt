@@ -11,6 +11,7 @@ mod kept_part;
 mod known;
 mod left;
 mod marks;
+mod names;
 mod part;
 mod piece;
 mod prune;
@@ -21,6 +22,7 @@ mod violated;
 
 pub use find::{MOST_EVENTS, find_part};
 pub use marks::kept_of;
+pub use names::{Name, names_of};
 pub use part::law_test;
 pub use piece::Piece;
 pub use reason::{Reason, find_reason, law_reason};

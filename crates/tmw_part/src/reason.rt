@@ -1,6 +1,6 @@
-ghost use Rattle.std.specs.Prelude.{◌≡◌, IfOk, IfSome, map};
+ghost use Rattle.std.specs.Prelude.{IfOk, IfSome};
 ghost use Rattle.tmw_defs.specs.History.{transactions};
-ghost use Rattle.tmw_part.specs.Found.{IsFound, IsPruned, threads_of};
+ghost use Rattle.tmw_part.specs.Found.{IsFound, IsPruned};
 ghost use Rattle.tmw_part.specs.Reasons.{ReasonLaw, ReasonTells};
 ghost use Rattle.tmw_part.specs.Shown.{txns_of};
 
@@ -13,29 +13,15 @@ use crate::transaction::{MOST_TRANSACTIONS, Transaction, transactions};
 use std::alloc::{AllocError, Global};
 use tmw_cuts::State;
 use tmw_defs::Criterion;
-use tmw_events::{Event, Ix};
+use tmw_events::Event;
 
 /// Why no serial order explains some transactions.
 #[derive(Drop)]
 pub struct Reason {
-    /// The thread of each transaction.
-    pub threads: Vec<Ix>,
     /// What holds in each order. Each follows from those before it, and none of them can be left out.
     pub steps: Vec<Step>,
     /// What the steps come to.
     pub end: Contradiction,
-}
-
-/// The threads of the transactions.
-fn threads_of(alloc: Global, transactions: &[Transaction]) -> Result<Vec<Ix>, AllocError>
-    ensures { IfOk result (λ threads. map (λ ix. ix.number) threads.items
-        ≡ threads_of (txns_of transactions.now)) }
-{
-    let mut threads = Vec::new(alloc);
-    for transaction in transactions {
-        threads.push(transaction.thread)?;
-    }
-    Ok(threads)
 }
 
 /// Finds the steps of a reason, and what they come to.
@@ -77,12 +63,7 @@ pub fn find_reason(
     let Some((steps, end)) = find_steps(criterion, alloc, states, &list)? else {
         return Ok(None);
     };
-    let threads = threads_of(alloc, &list)?;
-    Ok(Some(Reason {
-        threads,
-        steps,
-        end,
-    }))
+    Ok(Some(Reason { steps, end }))
 }
 
 /// Proves that the steps of a reason hold in each serial order, over all lists of transactions that begin at different

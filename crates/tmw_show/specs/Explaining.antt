@@ -13,6 +13,8 @@ use Rattle.tmw_part.specs.Finding.{FindsPart}
 use Rattle.tmw_part.specs.Found.{IsFound}
 use Rattle.tmw_part.specs.declared.reason.Reason.{Reason}
 use Rattle.tmw_part.specs.Kept.{all_kept, kept_of}
+use Rattle.tmw_part.specs.Names.{names_of}
+use Rattle.tmw_part.specs.declared.names.Name.{Name}
 use Rattle.tmw_window.specs.declared.showing.Showing.{Showing}
 use Rattle.tmw_show.specs.declared.command.needed.Needed.{Needed}
 use Rattle.tmw_show.specs.declared.command.shown.Shown.{Shown}
@@ -40,6 +42,10 @@ pub record IsShownFor (criterion : Criterion) (why : Bool) (registers : Register
 abbrev pub marks_of : Needed → List Event → List Bool
 marks_of (Part marks reason) events = marks.items
 marks_of _ events = all_kept events
+
+-- The names of the transactions that are shown.
+abbrev pub shown_names : Needed → List Event → List Name
+shown_names needed events = names_of (marks_of needed events) events
 
 -- how many events of how many are shown
 abbrev pub counts_words : ℕ → ℕ → List ℕ
