@@ -16,20 +16,31 @@ function told(event, by) {
 
 NR == 1 { next }
 
+# A transaction has its name before its first event. They are counted anew once none is open, as in the last window.
 {
-    thread[NR - 1] = substr($0, 1, 1) + 0
-    text[NR - 1] = substr($0, 3)
-    if (thread[NR - 1] > last)
-        last = thread[NR - 1]
+    number = NR - 1
+    thread[number] = substr($0, 1, 1) + 0
+    text[number] = substr($0, 3)
+    if (!(thread[number] in open)) {
+        if (length(open) == 0)
+            count = 0
+        open[thread[number]]
+        text[number] = "T" ++count " " text[number]
+    } else
+        text[number] = "   " text[number]
+    if ($2 == "C" || $2 == "A")
+        delete open[thread[number]]
+    if (thread[number] > last)
+        last = thread[number]
 }
 
 END {
     head = "    event"
     for (t = 0; t <= last; t++)
-        head = head "  thread " t (t < last ? "  " : "")
+        head = head "  thread " t (t < last ? "     " : "")
     print head
     for (i = 1; i < NR; i++) {
-        line = sprintf("%9d", i) blanks(12 * thread[i] + 2) text[i]
+        line = sprintf("%9d", i) blanks(15 * thread[i] + 2) text[i]
         print line (told(i) == "" ? "" : blanks(length(head) + 2 - length(line)) told(i))
     }
 }

@@ -198,15 +198,15 @@ both_of two_writers 8 0 0 0
 expect examples/left_open.trace 2 "$(printf '%s\n' '{"at":16,"events":16,"verdict":"undecided","why":"transactions"}' \
     '{"at":16,"criterion":"strict","events":16,"verdict":"undecided","why":"transactions"}')" judge --criterion both
 # where each went wrong: the report's line, the states, the heads and the window's events
-expect examples/dirty_read.trace 1 "$(printf '%s\n' '{"at":4,"events":8,"verdict":"violated"}' '    state  0' '    event  thread 0    thread 1' \
-    '        1  W 0 1' '        2  K' '        3              R 0' '        4              V 1       violated, by opacity')" show
-expect examples/stale_read.trace 1 "$(printf '%s\n' '{"at":6,"events":6,"verdict":"violated"}' '    state  1' '    event  thread 0    thread 1' \
-    '        5              R 0' '        6              V 0       violated, by opacity')" show --criterion=opacity
+expect examples/dirty_read.trace 1 "$(printf '%s\n' '{"at":4,"events":8,"verdict":"violated"}' '    state  0' '    event  thread 0       thread 1' \
+    '        1  T1 W 0 1' '        2     K' '        3                 T2 R 0' '        4                    V 1    violated, by opacity')" show
+expect examples/stale_read.trace 1 "$(printf '%s\n' '{"at":6,"events":6,"verdict":"violated"}' '    state  1' '    event  thread 0       thread 1' \
+    '        5                 T1 R 0' '        6                    V 0    violated, by opacity')" show --criterion=opacity
 expect examples/stale_read.trace 1 "$(printf '%s\n' 'opacity-trace 2 1 1' '1 R 0' '1 V 0')" show --trace
 expect examples/own_write.trace 0 "$(printf '%s\n' '{"events":6,"verdict":"opaque so far"}' '    state  0' '    event  thread 0' \
-    '        1  W 0 7' '        2  K' '        3  R 0' '        4  V 7' '        5  T' '        6  C')" show
+    '        1  T1 W 0 7' '        2     K' '        3     R 0' '        4     V 7' '        5     T' '        6     C')" show
 expect examples/dirty_read.trace 2 "$(printf '%s\n' '{"at":3,"criterion":"strict","events":8,"verdict":"undecided","why":"transactions"}' '    state  0' \
-    '    event  thread 0    thread 1' '        1  W 0 1' '        2  K' '        3              R 0       undecided, by transactions')" \
+    '    event  thread 0       thread 1' '        1  T1 W 0 1' '        2     K' '        3                 T2 R 0    undecided, by transactions')" \
     show --criterion strict --window 1
 expect examples/two_writers.trace 2 "$(printf '%s\n' 'opacity-trace 2 1 0' "$(sed 1d "$top/examples/two_writers.trace")")" show --states=1 --trace
 # two states at the cut of a violated run: each of the two traces is violated
@@ -436,8 +436,8 @@ expect_long '1,000,004 events' 1 judge --criterion both
 seq 9999 | awk 'BEGIN { print "opacity-trace 1 1" } { printf "0 W 0 %d\n0 K\n", $1 } END { print "0 R 0\n0 V 9998" }' >"$folder/made"
 seq 9999 | awk '
     BEGIN { print "{\"at\":20000,\"events\":20000,\"verdict\":\"violated\"}\n    state  0\n    event  thread 0" }
-    { printf "%9d  W 0 %d\n%9d  K\n", 2 * $1 - 1, $1, 2 * $1 }
-    END { print "    19999  R 0\n    20000  V 9998    violated, by opacity" }' >"$folder/wanted"
+    { printf "%9d  %s W 0 %d\n%9d     K\n", 2 * $1 - 1, NR == 1 ? "T1" : "  ", $1, 2 * $1 }
+    END { print "    19999     R 0\n    20000     V 9998  violated, by opacity" }' >"$folder/wanted"
 expect_long 'a window of 20,000 events' 1 show
 # a writer whose events are taken one after another, each by eight steps
 seq 0 6249 | awk '

@@ -107,9 +107,9 @@ ends 'the version of the package' 0 grep -q "^tmwatch $version, " "$folder/told"
 tells judge '{"at":4,"events":8,"verdict":"violated"}' 1 "$installed" judge <"$examples/dirty_read.trace"
 tells show '{"at":6,"events":6,"verdict":"violated"}
     state  1
-    event  thread 0    thread 1
-        5              R 0
-        6              V 0       violated, by opacity' 1 "$installed" show <"$examples/stale_read.trace"
+    event  thread 0       thread 1
+        5                 T1 R 0
+        6                    V 0    violated, by opacity' 1 "$installed" show <"$examples/stale_read.trace"
 tells 'judge, by tar' '{"at":4,"events":8,"verdict":"violated"}' 1 "$prefix/bin/tmwatch" judge <"$examples/dirty_read.trace"
 
 # The library: its names and links, and programs in C that are linked against it.

@@ -179,8 +179,8 @@ drawn_window() {
     echo "{\"at\":$((2 * $1 + 2)),\"events\":$((2 * $1 + 2)),\"verdict\":\"violated\"}"
     printf '%s\n' '    state  0' '    event  thread 0'
     seq "$1" | awk '
-        { printf "%9d  W 0 %d\n%9d  K\n", 2 * $1 - 1, $1, 2 * $1 }
-        END { printf "%9d  R 0\n%9d  V 0       violated, by opacity\n", 2 * NR + 1, 2 * NR + 2 }'
+        { printf "%9d  %s W 0 %d\n%9d     K\n", 2 * $1 - 1, NR == 1 ? "T1" : "  ", $1, 2 * $1 }
+        END { printf "%9d     R 0\n%9d     V 0    violated, by opacity\n", 2 * NR + 1, 2 * NR + 2 }'
 }
 
 traced_window() {

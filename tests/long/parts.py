@@ -74,12 +74,8 @@ def without(piece, events):
 
 def named(part, window):
     """The transaction of the window in which each one of the part lies, by the name that a sentence gives it."""
-    own, left = {event: t for t in transactions(window) for event in t.events}, transactions(part)
-    numbers = [sum(u.events[0].thread == t.events[0].thread for u in left[:place]) for place, t in enumerate(left)]
-    several = Counter(t.events[0].thread for t in left)
-    names = [f"thread {t.events[0].thread}" for t in left]
-    names = [name + f"'s transaction {n + 1}" * (several[t.events[0].thread] > 1) for name, n, t in zip(names, numbers, left)]
-    return {name: own[t.events[0]] for name, t in zip(names, left)}
+    own = {event: (f"T{number}", t) for number, t in enumerate(transactions(window), 1) for event in t.events}
+    return dict(own[u.events[0]] for u in transactions(part))
 
 
 def has_read(t, register, value):
@@ -88,34 +84,34 @@ def has_read(t, register, value):
 
 def is_true(sentence, names, states, window):
     """Whether what is said of these transactions is so of the window. A sentence of no known form is false."""
-    name, number = "(thread \\d(?:'s transaction \\d)?)", "(\\d+)"
+    name, number = "(T\\d+)", "(\\d+)"
 
     def told(form):
         found = re.fullmatch(form.replace("A", name).replace("V", number), sentence)
         return found and [names[word] if word in names else int(word) for word in found.groups()]
 
-    if said := told("A had ended before A began"):
-        return said[0].precedes(said[1])
-    if said := told("A read V of register V, so it stands after A, which left it there"):
-        reader, value, register, writer = said
+    if said := told("A ended before A began: A before A"):
+        return said[0].precedes(said[1]) and said[2:] == said[:2]
+    if said := told("A read V from register V, which A left there: A before A"):
+        reader, value, register, writer, *order = said
         may_commit = writer.status in ("committed", "pending")
-        return has_read(reader, register, value) and may_commit and last_left(writer, register) == value
-    if said := told("A read V of register V, so it stands before A, which left another value there"):
-        reader, value, register, rival = said
-        return has_read(reader, register, value) and last_left(rival, register) not in (None, value)
-    if said := told("A left another value in register V, so it stands before A, whose value A read there"):
-        rival, register, writer, reader = said
+        return has_read(reader, register, value) and may_commit and last_left(writer, register) == value and order == [writer, reader]
+    if said := told("A read V from register V, where A left another value: A before A"):
+        reader, value, register, rival, *order = said
+        return has_read(reader, register, value) and last_left(rival, register) not in (None, value) and order == [reader, rival]
+    if said := told("A left another value in register V than A read: A before A"):
+        rival, register, reader, before, writer = said
         value = last_left(writer, register)
-        return has_read(reader, register, value) and last_left(rival, register) not in (None, value)
-    if said := told("A read V of register V, which no state before these events has there and no other commit can have left"):
+        return has_read(reader, register, value) and last_left(rival, register) not in (None, value) and before is rival
+    if said := told("A read V from register V, which neither the start nor another commit left"):
         reader, value, register = said
         others = [t for t in transactions(window) if t is not reader and t.status in ("committed", "pending")]
         left = [*[state[register] for state in states], *[last_left(t, register) for t in others]]
         return has_read(reader, register, value) and value not in left
-    if said := told("A read V of register V, where it had to find V"):
+    if said := told("A read V from register V, where it had to find V"):
         reader, value, register, expected = said
         return (expected, value) == first_unlike(reader, register)
-    return bool(told("A would stand before itself: a cycle"))
+    return bool(told("A would come before itself"))
 
 
 def random_part(rng, window, broken):
@@ -128,11 +124,13 @@ def random_part(rng, window, broken):
     return part
 
 
-def drawing_of(states, part, size, mark):
-    """What `show --why` draws of a part of a window with so many events, up to the comma and from the heads on."""
-    told = [*[f"    state  {words(state)}" for state in states], f"    part   {len(part)} of {size} events"]
-    heads = f"    event  {'    '.join(f'thread {thread}' for thread in range(max(event.thread for event in part) + 1))}"
-    rows = [f"{event.number:9d}{' ' * (2 + 12 * event.thread)}{words(event.kind)}" for event in part]
+def drawing_of(states, part, window, mark):
+    """What `show --why` draws of a part of a window, up to the comma and from the heads on."""
+    told = [*[f"    state  {words(state)}" for state in states], f"    part   {len(part)} of {len(window)} events"]
+    heads = f"    event  {'       '.join(f'thread {thread}' for thread in range(max(event.thread for event in part) + 1))}"
+    own = {event: f"T{number} " for number, t in enumerate(transactions(window), 1) for event in t.events}
+    begun = {u.events[0] for u in transactions(part)}
+    rows = [f"{event.number:9d}{' ' * (2 + 15 * event.thread)}{own[event] if event in begun else '   '}{words(event.kind)}" for event in part]
     return [*told, heads, *rows[:-1], f"{rows[-1].ljust(len(heads))}  {mark}"]
 
 
@@ -156,7 +154,7 @@ def compare(program, criterion, start, events):
     drawn = [line.partition(",")[0] if line.startswith("    part") else line for line in lines if not line.startswith("    why")]
     why = [line.removeprefix("    why    ") for line in lines if line.startswith("    why")]
     part = tuple(events[int(row[:9]) - 1] for row in drawn[len(states) + 2 :])
-    assert drawn == drawing_of(states, part, len(window), mark), "another drawing"
+    assert drawn == drawing_of(states, part, window, mark), "another drawing"
     assert part == tuple(event for event in window if event in part), "events out of order, or not of the window"
     assert is_part(part, window), "no part"
     assert not has_order(criterion, states, part), "the part has an order"

@@ -10,7 +10,7 @@
 #   missing only if the part doesn't read its value. A transaction of the part leaves what it left in each
 #   register that it changes, and its first answer unlike its own calls is as it was.
 # - What is left without one more transaction, or without one more call and its answer, is no such part, or has an order.
-# - Each sentence of the reason is true of the window: who had ended before another began, what a transaction read, what it left in a
+# - Each sentence of the reason is true of the window: who ended before another began, what a transaction read, what it left in a
 #   register at its end, and what it had to find by its own calls.
 # - The drawing and the traces of `--trace` have the part's events. `judge` finds each trace violated: if there is one, at its end.
 #

@@ -8,7 +8,6 @@ pub mod CriteriaLawProof
 pub mod DecisionProof
 pub mod Held
 pub mod OneMore
-pub mod PartProof
 pub mod Places
 pub mod QuietLaws
 pub mod QuietProof

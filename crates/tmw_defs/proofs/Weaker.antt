@@ -3,7 +3,7 @@
 use Rattle.tmw_defs.proofs.Shared.{AreHeld, Bool, Criterion, Ends, EndsBy, Event, HasOrder, HasStrictOrder, IsFinalOpaque, IsFinalStrict, IsOpaque, IsStrict, IsTrue, LeadsBy, List, Opacity, Placed, PlacesEach, Some, State, Strict, Txn, [], after, and_from, and_parts, ap, cases_Bool, end_state, false, inl, inr, is_legal, keeps_order, list_all, may_be, may_hold, not, operations, precedes, reads_hold, refl, remove, slice_get, status_of, suc, sym, take, transactions, true, zero, ℕ, ◌∙◌, ◌∷◌, ◌≡◌}
 
 -- A completion that leaves out the transaction with this index holds what one of the others holds.
-pub left_out : (ts members : List Txn) (i : ℕ) (t : Txn) → slice_get ts i ≡ Some t → IsTrue (may_hold (status_of t.text) false)
+left_out : (ts members : List Txn) (i : ℕ) (t : Txn) → slice_get ts i ≡ Some t → IsTrue (may_hold (status_of t.text) false)
     → AreHeld (remove ts i) members → AreHeld ts members
 left_out [] members i t at may are = absurd (cc)
 left_out (u ∷ ts) members zero t at may are = let same : u ≡ t = cc in inl (rw same may, are)
@@ -23,7 +23,7 @@ pub record IsTakenIn (ts members : List Txn) (t : Txn) : Type 0 where
   pub others : remove all place ≡ members
   pub are : AreHeld ts all
 
-pub taken_in : (ts members : List Txn) (i : ℕ) (t : Txn) → slice_get ts i ≡ Some t → IsTrue (may_hold (status_of t.text) true)
+taken_in : (ts members : List Txn) (i : ℕ) (t : Txn) → slice_get ts i ≡ Some t → IsTrue (may_hold (status_of t.text) true)
     → AreHeld (remove ts i) members → IsTakenIn ts members t
 taken_in [] members i t at may are = absurd (cc)
 taken_in (u ∷ ts) members zero t at may are =

@@ -1,5 +1,4 @@
--- Parts of a history's transactions: what is left of them when some are taken out, and some operations of others, so that the rest has
--- a serial order wherever the whole has one.
+-- Parts of a history's transactions: what is left of them when some are taken out, and some operations of others.
 use Rattle.std.specs.Prelude.{◌≡◌, ◌==◌, ◌&&◌, ◌+◌, ◌%◌, ◌^◌, ◌⊎◌, ℕ, Bool, true, false, not, List, [], ◌∷◌, map, remove, slice_get, Some, IsTrue}
 use Rattle.std.specs.List.{list_all}
 use Rattle.tmw_defs.specs.declared.criterion.Criterion.{Criterion}
@@ -70,8 +69,3 @@ pub record IsPart (part whole : List Txn) : Type 0 where
 -- Some serial order explains the transactions from the state, by this criterion.
 abbrev pub HasOrderBy : Criterion → State → List Txn → Type 0
 HasOrderBy criterion s ts = (order : List Placed) × ExplainsBy criterion s ts order
-
--- Where the whole has an order, each part has one. So a part that has none tells that the whole has none.
-abbrev pub PartLaw : Type 0
-PartLaw = (criterion : Criterion) (s : State) (part whole : List Txn) → IsPart part whole → HasOrderBy criterion s whole
-    → HasOrderBy criterion s part

@@ -1,6 +1,6 @@
 -- The transactions of a history begin apart, so that a reason tells of it.
 use Rattle.tmw_part.proofs.Shared.{Bool, Event, IsTrue, List, ReasonTells, Txn, [], add_event, add_event_here, add_event_past, and_from, and_parts, arith, begin_apart, begun, cases_Bool, inl, inr, joins, list_all, lt-ltb, ltb-true, nat_lt, ne_eqb, not, refl, transactions, transactions_from, true, ℕ, ◌+◌, ◌<◌, ◌==◌, ◌∷◌}
-use Rattle.tmw_part.proofs.Covering.{all-mono}
+use Rattle.tmw_part.proofs.ListFacts.{all-mono}
 use Rattle.tmw_part.proofs.StepsProof.{reason_law}
 
 -- it begins before the place

@@ -1,7 +1,5 @@
 mod Adding
 mod Closing
-mod Complete
-mod Covering
 mod EventsProof
 mod Fewer
 mod Growing

@@ -1,5 +1,6 @@
 -- What the registers hold along a serial order: what the last that is held and changes them left, or what the start has.
-use Rattle.tmw_part.proofs.Shared.{Add, Changes, IsTrue, IsUnchanged, Ix, List, None, Op, Option, Placed, Read, Some, State, Write, [], after, after_writes, and_parts, ap, arith, cases_Bool, end_state, eq-eqb, eqb-false, eqb-true, false, first_unlike, get_or-set_other, get_or-set_same, if◌then◌else◌, inl, inr, is_legal, is_some_of, left_by, length, length-set, needed_of, operations, or_parts, reads_hold, refl, slice_get, slice_index, slice_set, suc, sym, take, unlike_or, writes, zero, ℕ, ◌%◌, ◌+◌, ◌<◌, ◌==◌, ◌^◌, ◌∙◌, ◌∷◌, ◌≡◌, ◌⊎◌}
+use Rattle.tmw_part.proofs.Shared.{Add, Changes, IsTrue, IsUnchanged, List, None, Op, Option, Placed, Read, Some, State, Write, [], after, after_writes, and_parts, ap, arith, cases_Bool, end_state, eq-eqb, eqb-false, eqb-true, false, first_unlike, get_or-set_other, get_or-set_same, if◌then◌else◌, inl, inr, is_legal, is_some_of, left_by, length, length-set, needed_of, operations, or_parts, reads_hold, refl, slice_get, slice_index, slice_set, suc, sym, take, unlike_or, writes, zero, ℕ, ◌%◌, ◌+◌, ◌<◌, ◌==◌, ◌^◌, ◌∙◌, ◌∷◌, ◌≡◌, ◌⊎◌}
+use Rattle.tmw_events.specs.declared.ix.Ix.{Ix}
 
 -- a register that is set, and another
 set_here : (s : State) (q : Ix) (r v : ℕ) → length s ≡ 8 → IsTrue (q.number == r) → slice_index (slice_set s q.number v) r ≡ v

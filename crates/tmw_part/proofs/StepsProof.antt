@@ -1,5 +1,10 @@
 -- Steps that follow from those before them hold in each serial order, and contradict each other in none.
-use Rattle.tmw_part.proofs.Shared.{Aborted, All, All-contains, All-from_recursion, AllByRecursion, Bool, ChangedFirst, Changes, ComesFrom, Committed, Contains, Contradiction, Criterion, Cycle, Derives, ExplainsBy, From, HoldsIn, IsTrue, List, Live, NoSource, None, Opacity, Option, Pending, Placed, ReadFirst, RealTime, ReasonLaw, Some, Source, StandsAt, StandsBefore, StandsBeforeWriter, State, Status, Step, Strict, Through, Txn, Unlike, [], and_from, and_parts, ap, arith, begin_apart, begins_before, cases_Bool, cases_order, comes_not_else, contradicts, ends_before, eq-eqb, eqb-true, false, follows, from_else, gives, has_place, has_writer, inl, inr, is_asked, is_before, is_committed, is_excluded, is_held, is_known_rival, is_pair, is_rival, is_same_writer, is_some_of, left_by, length, list_all, list_any, list_any_at, ltb-true, may_come_from, may_hold, needed_of, not, not-true, operations, ops_at, or_cases, orders, range_with_len, refl, slice_get, slice_index, status_of, subst, suc, supplies, sym, take, take_all, true, txn_at, writes, zero, ℕ, ◌&&◌, ◌+◌, ◌<◌, ◌==◌, ◌||◌, ◌∙◌, ◌∷◌, ◌≡◌, ◌≤◌}
+use Rattle.tmw_part.proofs.Shared.{Aborted, All, All-contains, All-from_recursion, AllByRecursion, Bool, Changes, ComesFrom, Committed, Contains, Criterion, Derives, ExplainsBy, HoldsIn, IsTrue, List, Live, None, Opacity, Option, Pending, Placed, ReasonLaw, Some, StandsAt, StandsBefore, StandsBeforeWriter, State, Status, Step, Strict, Txn, [], and_from, and_parts, ap, arith, begin_apart, begins_before, cases_Bool, cases_order, comes_not_else, contradicts, ends_before, eq-eqb, eqb-true, false, follows, from_else, gives, has_place, has_writer, inl, inr, is_asked, is_before, is_committed, is_excluded, is_held, is_known_rival, is_pair, is_rival, is_same_writer, is_some_of, left_by, length, list_all, list_any, ltb-true, may_come_from, may_hold, needed_of, not, not-true, operations, ops_at, or_cases, orders, range_with_len, refl, slice_get, slice_index, status_of, subst, suc, supplies, sym, take, take_all, true, txn_at, writes, zero, ℕ, ◌&&◌, ◌+◌, ◌<◌, ◌==◌, ◌||◌, ◌∙◌, ◌∷◌, ◌≡◌, ◌≤◌}
+use Rattle.tmw_part.specs.declared.step.Step.TheVariants.{ChangedFirst, From, ReadFirst, RealTime, Through}
+use Rattle.tmw_part.specs.declared.step.Contradiction.{Contradiction}
+use Rattle.tmw_part.specs.declared.step.Contradiction.TheVariants.{Cycle, NoSource, Unlike}
+use Rattle.tmw_part.specs.declared.step.Source.{Source}
+use Rattle.std.proofs.lemmas.List.Folds.{list_any_at}
 use Rattle.tmw_part.proofs.ListFacts.{find_any, find_place, each_place, none_all, all-more, get_some}
 use Rattle.tmw_part.proofs.OrderFacts.{IsIn, IsSerial, apart, serial}
 use Rattle.tmw_part.proofs.OrderValues.{state_at, reads_at, length-state_at, value_at, needed_holds, reads_alike}

@@ -1,5 +1,6 @@
 -- The test of a part is right.
-use Rattle.tmw_part.proofs.Shared.{Aborted, Add, AreOpsLeft, AreStaying, Bool, Committed, Each, IsLeftOf, IsPart, IsTrue, List, Live, Op, Pending, Read, Some, Status, Txn, Write, [], agree, and_parts, ap, are_left_of, are_ops_left, are_placed, are_same_rows, arith, cases_Bool, eqb-true, false, inl, inr, is_among, is_left_of, is_part_at, is_same, is_same_op, is_same_row, is_same_status, is_unread, length, map, may_go, may_go_whole, nothing, operations, precedes, refl, remove, same_ix, slice_get, slice_index_or, status_of, staying_of, suc, sym, true, without_number, zero, ℕ, ◌+◌, ◌<◌, ◌==◌, ◌∙◌, ◌∷◌, ◌≡◌}
+use Rattle.tmw_part.proofs.Shared.{Aborted, Add, AreOpsLeft, AreStaying, Bool, Committed, Each, IsLeftOf, IsPart, IsTrue, List, Live, Op, Pending, Read, Some, Status, Txn, Write, [], agree, and_parts, ap, are_left_of, are_ops_left, are_placed, are_same_rows, arith, cases_Bool, eqb-true, false, inl, inr, is_among, is_left_of, is_part_at, is_same, is_same_op, is_same_row, is_same_status, is_unread, length, map, may_go, may_go_whole, nothing, operations, precedes, refl, remove, slice_get, slice_index_or, status_of, staying_of, suc, sym, true, without_number, zero, ℕ, ◌+◌, ◌<◌, ◌==◌, ◌∙◌, ◌∷◌, ◌≡◌}
+use Rattle.tmw_events.proofs.Same.{same_ix}
 
 same_op : (x y : Op) → is_same_op x y ≡ true → x ≡ y
 same_op (Read q w) (Read r v) same =

@@ -1,5 +1,5 @@
 -- What a search for an end state tells of events that were taken into its window.
-use Rattle.tmw_part.proofs.Shared.{AreTaken, AreUnfit, Bool, Criterion, Err, Event, Fails, IfOk, IsFalse, IsPart, IsTrue, IsViolated, IsViolatedPart, List, Ok, Result, State, TellsViolated, all_kept, and_parts, are_whole, arith, calls_from, end_state, false, inl, inr, keeps_last, keeps_part, kept_of, length, may_miss_all, members, not, owners, refl, transactions, true, ℕ, ◌≡◌, ◌≤◌}
+use Rattle.tmw_part.proofs.Shared.{AreTaken, Bool, Criterion, Err, Event, Fails, IfOk, IsFalse, IsPart, IsTrue, IsViolated, IsViolatedPart, List, Ok, Result, State, TellsViolated, all_kept, and_parts, are_whole, arith, calls_from, end_state, false, inl, inr, keeps_last, keeps_part, kept_of, length, may_miss_all, members, not, owners, refl, transactions, true, ℕ, ◌≡◌, ◌≤◌}
 use Rattle.tmw_wellformed.specs.declared.tracker.Tracker.{Tracker}
 use Rattle.tmw_cuts.specs.declared.states.States.{States}
 use Rattle.tmw_cuts.specs.declared.window.Window.{Window}

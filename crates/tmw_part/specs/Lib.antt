@@ -1,7 +1,7 @@
-pub mod Candidates
 pub mod Finding
 pub mod Found
 pub mod Kept
+pub mod Names
 pub mod Pieces
 pub mod Reasons
 pub mod Shown

@@ -58,10 +58,6 @@ pub record IsReason (criterion : Criterion) (states : List State) (ts : List Txn
   pub derives : Derives criterion states ts steps
   pub ends : IsTrue (contradicts criterion states ts steps end)
 
--- Each contradiction to which steps come that follow is one of these.
-abbrev pub TriesEnds : Criterion → List State → List Txn → List Contradiction → Type 0
-TriesEnds criterion states ts ends = (steps : List Step) (end : Contradiction) → IsReason criterion states ts steps end → Contains ends end
-
 -- None of the steps can be left out.
 abbrev pub IsNeededEach : Criterion → List State → List Txn → List Step → Contradiction → Type 0
 IsNeededEach criterion states ts steps end =

@@ -1,57 +1,83 @@
-ghost use Rattle.std.specs.Prelude.{◌≡◌, ◌++◌, IfOk, OnOk, map, not};
-ghost use Rattle.std.specs.List.{filter, flat_map};
-ghost use Rattle.tmw_part.specs.declared.step.Step.TheVariants.{From};
-ghost use Rattle.tmw_part.specs.Candidates.{firsts, real_times, silent_candidates, throughs, throughs_between, told_candidates};
-ghost use Rattle.tmw_part.specs.Steps.{has_writer};
-
-use crate::follows::has_writer;
+//! The steps that are tried. The contracts of those that choose among them say what a reason is, so which are here changes only which
+//! reasons are found.
+use crate::deeds::needed_of;
+use crate::follows::text_at;
 use crate::step::{Source, Step};
+use crate::transaction::Transaction;
 use std::alloc::{AllocError, Global};
+use tmw_events::Ix;
 
-/// Adds the step from real time between the one and each transaction.
-fn push_real_times(steps: &mut Vec<Step>, one: usize, places: &[usize]) -> Result<(), AllocError>
-    ensures { OnOk result (steps.new.items ≡ steps.old.items ++ real_times places.now one) }
-{
-    for other in places {
-        steps.push(Step::RealTime { one, other: *other })?;
+/// Adds the steps from real time between the one and each of so many transactions.
+fn push_real_times(steps: &mut Vec<Step>, count: usize, one: usize) -> Result<(), AllocError> {
+    for other in 0..count {
+        steps.push(Step::RealTime { one, other })?;
     }
     Ok(())
 }
 
-/// Adds the steps from real time.
-fn push_all_real_times(steps: &mut Vec<Step>, places: &[usize]) -> Result<(), AllocError>
-    ensures { OnOk result (steps.new.items
-        ≡ steps.old.items ++ flat_map (real_times places.now) places.now) }
-{
-    for one in places {
-        push_real_times(steps, *one, places)?;
+/// Adds the steps from real time between so many transactions.
+fn push_all_real_times(steps: &mut Vec<Step>, count: usize) -> Result<(), AllocError> {
+    for one in 0..count {
+        push_real_times(steps, count, one)?;
     }
     Ok(())
 }
 
-/// Adds the steps that say where a value comes from.
-fn push_sources(steps: &mut Vec<Step>, sources: &[Source]) -> Result<(), AllocError>
-    ensures { OnOk result (steps.new.items ≡ steps.old.items ++ map From sources.now) }
-{
+/// Adds a value's sources: the start, and each of so many transactions.
+fn push_sources_of(list: &mut Vec<Source>, count: usize, start: Source) -> Result<(), AllocError> {
+    list.push(start)?;
+    for place in 0..count {
+        list.push(Source {
+            writer: Some(place),
+            ..start
+        })?;
+    }
+    Ok(())
+}
+
+/// Adds the sources of what a reader needs in each register.
+fn push_sources_at(
+    list: &mut Vec<Source>,
+    transactions: &[Transaction],
+    reader: usize,
+) -> Result<(), AllocError> {
+    for number in 0..8u8 {
+        let register = Ix { number };
+        if let Some(value) = needed_of(register, text_at(transactions, reader)) {
+            let start = Source {
+                reader,
+                register,
+                value,
+                writer: None,
+            };
+            push_sources_of(list, transactions.len(), start)?;
+        }
+    }
+    Ok(())
+}
+
+/// Returns the sources of what each transaction needs.
+fn sources(alloc: Global, transactions: &[Transaction]) -> Result<Vec<Source>, AllocError> {
+    let mut list = Vec::new(alloc);
+    for reader in 0..transactions.len() {
+        push_sources_at(&mut list, transactions, reader)?;
+    }
+    Ok(list)
+}
+
+/// Adds the steps that say where values come from.
+fn push_sources(steps: &mut Vec<Step>, sources: &[Source]) -> Result<(), AllocError> {
     for source in sources {
         steps.push(Step::From(*source))?;
     }
     Ok(())
 }
 
-/// Adds the steps that this source and each transaction make, as its rival.
-fn push_firsts(steps: &mut Vec<Step>, source: &Source, places: &[usize]) -> Result<(), AllocError>
-    ensures { OnOk result (steps.new.items ≡ steps.old.items ++ firsts places.now source.now) }
-{
-    for rival in places {
-        steps.push(Step::ReadFirst {
-            source: *source,
-            rival: *rival,
-        })?;
-        steps.push(Step::ChangedFirst {
-            rival: *rival,
-            source: *source,
-        })?;
+/// Adds the steps that a source and each of so many transactions make, as its rival.
+fn push_firsts(steps: &mut Vec<Step>, count: usize, source: Source) -> Result<(), AllocError> {
+    for rival in 0..count {
+        steps.push(Step::ReadFirst { source, rival })?;
+        steps.push(Step::ChangedFirst { rival, source })?;
     }
     Ok(())
 }
@@ -59,98 +85,59 @@ fn push_firsts(steps: &mut Vec<Step>, source: &Source, places: &[usize]) -> Resu
 /// Adds the steps that sources and their rivals make.
 fn push_all_firsts(
     steps: &mut Vec<Step>,
+    count: usize,
     sources: &[Source],
-    places: &[usize],
-) -> Result<(), AllocError>
-    ensures { OnOk result (steps.new.items
-        ≡ steps.old.items ++ flat_map (firsts places.now) sources.now) }
-{
+) -> Result<(), AllocError> {
     for source in sources {
-        push_firsts(steps, source, places)?;
+        push_firsts(steps, count, *source)?;
     }
     Ok(())
 }
 
-/// Adds the steps that lead from the one transaction by another to each.
+/// Adds the steps that lead from the one transaction by the other to each of so many.
 fn push_throughs_between(
     steps: &mut Vec<Step>,
+    count: usize,
     one: usize,
     between: usize,
-    places: &[usize],
-) -> Result<(), AllocError>
-    ensures { OnOk result (steps.new.items
-        ≡ steps.old.items ++ throughs_between places.now one between) }
-{
-    for other in places {
+) -> Result<(), AllocError> {
+    for other in 0..count {
         steps.push(Step::Through {
             one,
             between,
-            other: *other,
+            other,
         })?;
     }
     Ok(())
 }
 
-/// Adds the steps that lead from the one transaction to another by a third.
-fn push_throughs(steps: &mut Vec<Step>, one: usize, places: &[usize]) -> Result<(), AllocError>
-    ensures { OnOk result (steps.new.items ≡ steps.old.items ++ throughs places.now one) }
-{
-    for between in places {
-        push_throughs_between(steps, one, *between, places)?;
+/// Adds the steps that lead from the one of so many transactions to another by a third.
+fn push_throughs(steps: &mut Vec<Step>, count: usize, one: usize) -> Result<(), AllocError> {
+    for between in 0..count {
+        push_throughs_between(steps, count, one, between)?;
     }
     Ok(())
 }
 
-/// Adds the steps that lead from a transaction to another by a third.
-fn push_all_throughs(steps: &mut Vec<Step>, places: &[usize]) -> Result<(), AllocError>
-    ensures { OnOk result (steps.new.items
-        ≡ steps.old.items ++ flat_map (throughs places.now) places.now) }
-{
-    for one in places {
-        push_throughs(steps, *one, places)?;
+/// Adds the steps that lead from one of so many transactions to another by a third.
+fn push_all_throughs(steps: &mut Vec<Step>, count: usize) -> Result<(), AllocError> {
+    for one in 0..count {
+        push_throughs(steps, count, one)?;
     }
     Ok(())
 }
 
-/// Adds the steps that say that a value stood there from the start.
-fn push_starts(steps: &mut Vec<Step>, sources: &[Source]) -> Result<(), AllocError>
-    ensures { OnOk result (steps.new.items
-        ≡ steps.old.items ++ map From (filter (λ s. not (has_writer s)) sources.now)) }
-{
-    for source in sources {
-        if !has_writer(source) {
-            steps.push(Step::From(*source))?;
-        }
-    }
-    Ok(())
-}
-
-/// Returns the steps to try that are not told, of transactions with these places and these sources.
-pub(crate) fn silent_candidates(
+/// Returns the steps to try, of these transactions. Those that tell more are tried first.
+pub(crate) fn candidates(
     alloc: Global,
-    sources: &[Source],
-    places: &[usize],
-) -> Result<Vec<Step>, AllocError>
-    ensures { IfOk result (λ steps. steps.items ≡ silent_candidates sources.now places.now) }
-{
+    transactions: &[Transaction],
+) -> Result<Vec<Step>, AllocError> {
+    let count = transactions.len();
+    let sources = sources(alloc, transactions)?;
     let mut steps = Vec::new(alloc);
-    push_starts(&mut steps, sources)?;
-    push_all_throughs(&mut steps, places)?;
-    Ok(steps)
-}
-
-/// Returns the steps to try but those by a third transaction, of transactions with these places and these sources. Those
-/// that tell more are tried first.
-pub(crate) fn told_candidates(
-    alloc: Global,
-    sources: &[Source],
-    places: &[usize],
-) -> Result<Vec<Step>, AllocError>
-    ensures { IfOk result (λ steps. steps.items ≡ told_candidates sources.now places.now) }
-{
-    let mut steps = Vec::new(alloc);
-    push_all_real_times(&mut steps, places)?;
-    push_sources(&mut steps, sources)?;
-    push_all_firsts(&mut steps, sources, places)?;
+    push_all_real_times(&mut steps, count)?;
+    push_sources(&mut steps, &sources)?;
+    push_all_firsts(&mut steps, count, &sources)?;
+    push_all_throughs(&mut steps, count)?;
     Ok(steps)
 }

@@ -1,5 +1,5 @@
 //! Which events of a window are kept: a mark for each, in order.
-ghost use Rattle.std.specs.Prelude.{◌≡◌, IfOk, position, slice_index_or, true};
+ghost use Rattle.std.specs.Prelude.{◌≡◌, ◌<◌, ◌≤◌, IfOk, IfSome, length, position, slice_index_or, true};
 ghost use Rattle.tmw_part.specs.Kept.{are_whole, keeps_last, kept_of, lies_in, may_miss, may_miss_all, owner, owners_among, places_from, without};
 ghost use Rattle.tmw_part.specs.Shown.{txn_of, txns_of};
 
@@ -61,8 +61,9 @@ fn lies_in(transaction: &Transaction, thread: Ix, from: usize, upto: usize) -> b
 
 /// The number of the thread's transaction in which these events lie, if they lie in one.
 fn find_owner(whole: &[Transaction], thread: Ix, from: usize, upto: usize) -> Option<usize>
-    ensures { result
+    ensures is { result
         ≡ position (λ one. lies_in thread.number from upto (txn_of one)) whole.now }
+    ensures within { IfSome result (λ number. number < length whole.now) }
 {
     whole
         .iter()
@@ -70,8 +71,9 @@ fn find_owner(whole: &[Transaction], thread: Ix, from: usize, upto: usize) -> Op
 }
 
 /// The number of the thread's transaction in which these events lie, or how many there are.
-fn owner(whole: &[Transaction], thread: Ix, from: usize, upto: usize) -> usize
-    ensures { result ≡ owner (txns_of whole.now) thread.number from upto }
+pub(crate) fn owner(whole: &[Transaction], thread: Ix, from: usize, upto: usize) -> usize
+    ensures is { result ≡ owner (txns_of whole.now) thread.number from upto }
+    ensures within { result ≤ length whole.now }
 {
     match find_owner(whole, thread, from, upto) {
         Some(number) => number,
@@ -80,7 +82,7 @@ fn owner(whole: &[Transaction], thread: Ix, from: usize, upto: usize) -> usize
 }
 
 /// The number at the place, or 0 if there is none.
-fn number_at(numbers: &[usize], place: usize) -> usize
+pub(crate) fn number_at(numbers: &[usize], place: usize) -> usize
     ensures { result ≡ slice_index_or numbers.now place 0 }
 {
     match numbers.get(place) {

@@ -1,6 +1,4 @@
-ghost use Rattle.std.specs.List.{Contains};
 ghost use Rattle.std.specs.Prelude.{◌≡◌, ◌↔◌, ◌≤◌, ◌<◌, IfOk, IsTrue, IsFalse, length, remove};
-ghost use Rattle.tmw_part.specs.declared.step.Step.{Step};
 ghost use Rattle.tmw_part.specs.Reasons.{IsNeededEach, IsReason};
 ghost use Rattle.tmw_part.specs.Shown.{txns_of};
 ghost use Rattle.tmw_part.specs.Steps.{Derives};
@@ -57,8 +55,6 @@ fn leave_out(
     requires { place < length steps.old.items }
     ensures out { IfOk result (λ out. IsTrue out → steps.new.items ≡ remove steps.old.items place
         × IsReason criterion states.now (txns_of transactions.now) steps.new.items end.now) }
-    ensures among { IfOk result (λ _. (step : Step) → Contains steps.new.items step
-        → Contains steps.old.items step) }
     ensures stays { let rest = remove steps.old.items place in
         IfOk result (λ out. IsFalse out → steps.new.items ≡ steps.old.items
         × (IsReason criterion states.now (txns_of transactions.now) rest end.now → ⊥)) }
@@ -84,8 +80,6 @@ fn leave_out_each(
     ensures reason { let ts = txns_of transactions.now in
         IfOk result (λ out. IsReason criterion states.now ts steps.old.items end.now
         → IsReason criterion states.now ts steps.new.items end.now) }
-    ensures among { IfOk result (λ _. (step : Step) → Contains steps.new.items step
-        → Contains steps.old.items step) }
     ensures fewer { IfOk result (λ out. IsTrue out
         → length steps.new.items < length steps.old.items) }
     ensures needed { IfOk result (λ out. IsFalse out
@@ -114,8 +108,6 @@ pub(crate) fn prune(
     requires { IsReason criterion states.now (txns_of transactions.now) steps.items end.now }
     ensures reason { IfOk result (λ kept.
         IsReason criterion states.now (txns_of transactions.now) kept.items end.now) }
-    ensures among { IfOk result (λ kept. (step : Step) → Contains kept.items step
-        → Contains steps.items step) }
     ensures needed { IfOk result (λ kept.
         IsNeededEach criterion states.now (txns_of transactions.now) kept.items end.now) }
 {

@@ -18,6 +18,9 @@ use Rattle.tmw_defs.specs.declared.verdict.Why.TheVariants.{Transactions, States
 use Rattle.tmw_wellformed.specs.declared.malformed.Malformed.{Malformed as Fault}
 use Rattle.tmw_wellformed.specs.declared.malformed.Malformed.TheVariants.{Register, Busy, Idle, Mismatch}
 use Rattle.tmw_part.specs.Kept.{kept_of}
+use Rattle.tmw_part.specs.Names.{names_of}
+use Rattle.tmw_part.specs.declared.names.Name.{Name}
+use Rattle.tmw_show.specs.Names.{label_at}
 use Rattle.tmw_monitor.specs.declared.broken.Broken.{Broken}
 use Rattle.tmw_show.specs.declared.command.told.Told.{Told}
 
@@ -40,19 +43,20 @@ last_thread (event ∷ events) = max event.thread.number (last_thread events)
 
 -- the heads of eight columns
 abbrev pub all_heads : List ℕ
-all_heads = codes "    event  thread 0    thread 1    thread 2    thread 3    thread 4    thread 5    thread 6    thread 7"
+all_heads = codes "    event  thread 0       thread 1       thread 2       thread 3       thread 4       thread 5       thread 6       thread 7"
 
--- the heads of the columns up to this thread's, of which each has 12 places
+-- the heads of the columns up to this thread's, of which each has 15 places
 abbrev pub heads_text : ℕ → List ℕ
-heads_text last = take (19 + 12 * last) all_heads
+heads_text last = take (19 + 15 * last) all_heads
 
 -- a number that ends at the ninth place, or beyond it where it is longer
 abbrev pub number_text : ℕ → List ℕ
 number_text number = blanks (9 - length (decimal number)) ++ decimal number
 
--- the event of this number, in its thread's column
-abbrev pub event_row : ℕ → Event → List ℕ
-event_row number event = number_text number ++ (blanks (2 + 12 * event.thread.number) ++ kind_text event.kind)
+-- the event of this number, in its thread's column, with the name of its transaction if that begins at this place of the window
+abbrev pub event_row : List Name → ℕ → ℕ → Event → List ℕ
+event_row names place number event =
+    number_text number ++ (blanks (2 + 15 * event.thread.number) ++ (label_at names place ++ kind_text event.kind))
 
 -- the words for what the prefix that ends here is, by the verdict
 abbrev pub violated_text : Criterion → List ℕ
@@ -93,13 +97,14 @@ beside gap (first ∷ rest) = blanks gap ++ (codes "  " ++ first ∷ rest)
 abbrev pub told_row : ℕ → List ℕ → List ℕ → List ℕ
 told_row width row told = row ++ beside (width - length row) told
 
--- a line for each event that has the mark. The first event has this number.
-abbrev pub rows_text : Told → ℕ → ℕ → List Bool → List Event → List ℕ
-rows_text told width number [] events = []
-rows_text told width number (mark ∷ marks) [] = []
-rows_text told width number (false ∷ marks) (event ∷ events) = rows_text told width (number + 1) marks events
-rows_text told width number (true ∷ marks) (event ∷ events) =
-    line (told_row width (event_row number event) (told_text told number)) ++ rows_text told width (number + 1) marks events
+-- a line for each event that has the mark. The first has this place in the window, behind which its number is one more than so many.
+abbrev pub rows_text : Told → ℕ → List Name → ℕ → ℕ → List Bool → List Event → List ℕ
+rows_text told width names from place [] events = []
+rows_text told width names from place (mark ∷ marks) [] = []
+rows_text told width names from place (false ∷ marks) (event ∷ events) = rows_text told width names from (place + 1) marks events
+rows_text told width names from place (true ∷ marks) (event ∷ events) =
+    line (told_row width (event_row names place (from + (place + 1)) event) (told_text told (from + (place + 1))))
+    ++ rows_text told width names from (place + 1) marks events
 
 -- the heads of the columns that these events need
 abbrev pub heads_for : List Event → List ℕ
@@ -108,4 +113,5 @@ heads_for events = heads_text (last_thread events)
 -- the line of the heads, and a line for each event that has the mark: the first event has the number that follows `from`
 abbrev pub window_text : Told → ℕ → List Bool → List Event → List ℕ
 window_text told from marks events =
-    line (heads_for (kept_of marks events)) ++ rows_text told (length (heads_for (kept_of marks events))) (from + 1) marks events
+    line (heads_for (kept_of marks events))
+    ++ rows_text told (length (heads_for (kept_of marks events))) (names_of marks events) from 0 marks events

@@ -1,5 +1,5 @@
 -- Which events of a window are shown: all, or those that contradict each other, where it is asked why the window is violated.
-use Rattle.std.specs.Prelude.{◌≡◌, ℕ, Bool, true, false, List, [], ◌++◌, length, nat_lt, codes, if◌then◌else◌, Option, None}
+use Rattle.std.specs.Prelude.{◌≡◌, ℕ, Bool, true, false, List, [], ◌++◌, length, nat_lt, codes, if◌then◌else◌, Option, None, IfSome}
 use Rattle.std.specs.Fmt.{decimal}
 use Rattle.tmw_cuts.specs.Members.{members}
 use Rattle.tmw_defs.specs.declared.criterion.Criterion.{Criterion}
@@ -10,9 +10,11 @@ use Rattle.tmw_events.specs.declared.registers.Registers.{Registers}
 use Rattle.tmw_lines.specs.Text.{line}
 use Rattle.tmw_defs.specs.History.{transactions}
 use Rattle.tmw_part.specs.Finding.{FindsPart}
-use Rattle.tmw_part.specs.Found.{FindsReason}
+use Rattle.tmw_part.specs.Found.{IsFound}
 use Rattle.tmw_part.specs.declared.reason.Reason.{Reason}
 use Rattle.tmw_part.specs.Kept.{all_kept, kept_of}
+use Rattle.tmw_part.specs.Names.{names_of}
+use Rattle.tmw_part.specs.declared.names.Name.{Name}
 use Rattle.tmw_window.specs.declared.showing.Showing.{Showing}
 use Rattle.tmw_show.specs.declared.command.needed.Needed.{Needed}
 use Rattle.tmw_show.specs.declared.command.shown.Shown.{Shown}
@@ -22,13 +24,13 @@ use Rattle.tmw_show.specs.declared.command.needed.Needed.TheVariants.{Unasked, N
 abbrev pub IsViolation : Verdict → Type 0
 IsViolation verdict = (at : ℕ) × (verdict ≡ Violated at)
 
--- Only where it is asked why a window is violated that is, a part of it is found, and a reason why that is violated, if there is one.
+-- Only where it is asked why a window is violated that is, a part of it is found, and maybe a reason why that is violated.
 abbrev pub IsNeededOf : Criterion → Bool → Registers → Showing → Needed → Type 0
 IsNeededOf criterion why registers showing Unasked = why ≡ false
 IsNeededOf criterion why registers showing NotViolated = (why ≡ true) × (IsViolation showing.verdict → ⊥)
 IsNeededOf criterion why registers showing (Part marks reason) = (why ≡ true)
     × IsViolation showing.verdict × FindsPart criterion registers.number (members showing.states) showing.events.items marks.items
-    × FindsReason criterion (members showing.states) (transactions (kept_of marks.items showing.events.items)) reason
+    × IfSome reason (IsFound criterion (members showing.states) (transactions (kept_of marks.items showing.events.items)))
 
 -- This is what is shown, where it is so asked, of a run with so many registers whose last window this is.
 pub record IsShownFor (criterion : Criterion) (why : Bool) (registers : Registers) (showing : Showing) (shown : Shown) : Type 0 where
@@ -40,6 +42,10 @@ pub record IsShownFor (criterion : Criterion) (why : Bool) (registers : Register
 abbrev pub marks_of : Needed → List Event → List Bool
 marks_of (Part marks reason) events = marks.items
 marks_of _ events = all_kept events
+
+-- The names of the transactions that are shown.
+abbrev pub shown_names : Needed → List Event → List Name
+shown_names needed events = names_of (marks_of needed events) events
 
 -- how many events of how many are shown
 abbrev pub counts_words : ℕ → ℕ → List ℕ

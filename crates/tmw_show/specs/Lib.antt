@@ -1,5 +1,6 @@
 pub mod Drawing
 pub mod Explaining
+pub mod Names
 pub mod Page
 pub mod Running
 pub mod Sentences

@@ -1,95 +1,82 @@
--- The sentences that tell why a part is violated. Transactions are named by their threads.
-use Rattle.std.specs.Prelude.{ℕ, min, ◌+◌, ◌==◌, List, [], ◌∷◌, ◌++◌, take, map, count_by, nat_lt, slice_index_or, codes, Option, Some, None, if◌then◌else◌}
+-- The sentences that tell why a part is violated.
+use Rattle.std.specs.Prelude.{ℕ, List, [], ◌∷◌, ◌++◌, codes, Option, Some, None}
 use Rattle.std.specs.List.{flat_map}
 use Rattle.std.specs.Fmt.{decimal}
 use Rattle.tmw_lines.specs.Text.{line}
+use Rattle.tmw_part.specs.declared.names.Name.{Name}
 use Rattle.tmw_part.specs.declared.reason.Reason.{Reason}
 use Rattle.tmw_part.specs.declared.step.Contradiction.{Contradiction}
 use Rattle.tmw_part.specs.declared.step.Contradiction.TheVariants.{Cycle, NoSource, Unlike}
 use Rattle.tmw_part.specs.declared.step.Source.{Source}
 use Rattle.tmw_part.specs.declared.step.Step.{Step}
 use Rattle.tmw_part.specs.declared.step.Step.TheVariants.{RealTime, From, ReadFirst, ChangedFirst, Through}
+use Rattle.tmw_show.specs.Names.{name_at}
 use Rattle.tmw_show.specs.declared.command.word.Word.{Word}
 use Rattle.tmw_show.specs.declared.command.word.Word.TheVariants.{Transaction, Number, Saying}
 use Rattle.tmw_show.specs.declared.command.word.Phrase.{Phrase}
-use Rattle.tmw_show.specs.declared.command.word.Phrase.TheVariants.{Ended, Began, Read, OfRegister, SoAfter, WhichLeftIt, SoBefore, WhichElse, LeftElse, Whose, ReadThere, NobodyLeft, HadToFind, Cycle as IsCycle}
-
--- the numbers of the threads
-abbrev pub numbers_of : Reason → List ℕ
-numbers_of reason = map (λ thread. thread.number) reason.threads.items
-
--- how many of these are this one
-abbrev pub count_of : ℕ → List ℕ → ℕ
-count_of thread threads = count_by (λ other. other == thread) threads
-
--- which of its thread's transactions one is, if there are several: it has so many before it, at most seven
-abbrev pub nth_text : ℕ → ℕ → List ℕ
-nth_text earlier all = if nat_lt 1 all then codes "'s transaction " ++ decimal (min earlier 7 + 1) else []
-
--- the transaction of this thread that has so many before it, of so many
-abbrev pub name_by : ℕ → ℕ → ℕ → List ℕ
-name_by thread earlier all = codes "thread " ++ (decimal thread ++ nth_text earlier all)
-
--- the transaction at this place of those that have these threads
-abbrev pub name_text : List ℕ → ℕ → List ℕ
-name_text threads place =
-    name_by (slice_index_or threads place 0) (count_of (slice_index_or threads place 0) (take place threads))
-    (count_of (slice_index_or threads place 0) threads)
+use Rattle.tmw_show.specs.declared.command.word.Phrase.TheVariants.{Ended, Began, Read, FromRegister, Which, LeftThere, Where, LeftAnother, LeftElse, Than, ReadIt, So, Before, NobodyLeft, HadToFind, Cycle as IsCycle}
 
 abbrev pub phrase_text : Phrase → List ℕ
-phrase_text Ended = codes " had ended before "
+phrase_text Ended = codes " ended before "
 phrase_text Began = codes " began"
 phrase_text Read = codes " read "
-phrase_text OfRegister = codes " of register "
-phrase_text SoAfter = codes ", so it stands after "
-phrase_text WhichLeftIt = codes ", which left it there"
-phrase_text SoBefore = codes ", so it stands before "
-phrase_text WhichElse = codes ", which left another value there"
+phrase_text FromRegister = codes " from register "
+phrase_text Which = codes ", which "
+phrase_text LeftThere = codes " left there"
+phrase_text Where = codes ", where "
+phrase_text LeftAnother = codes " left another value"
 phrase_text LeftElse = codes " left another value in register "
-phrase_text Whose = codes ", whose value "
-phrase_text ReadThere = codes " read there"
-phrase_text NobodyLeft = codes ", which no state before these events has there and no other commit can have left"
+phrase_text Than = codes " than "
+phrase_text ReadIt = codes " read"
+phrase_text So = codes ": "
+phrase_text Before = codes " before "
+phrase_text NobodyLeft = codes ", which neither the start nor another commit left"
 phrase_text HadToFind = codes ", where it had to find "
-phrase_text IsCycle = codes " would stand before itself: a cycle"
+phrase_text IsCycle = codes " would come before itself"
 
--- a word of a sentence, where the transactions have these threads
-abbrev pub word_text : List ℕ → Word → List ℕ
-word_text threads (Transaction place) = name_text threads place
-word_text threads (Number number) = decimal number
-word_text threads (Saying phrase) = phrase_text phrase
+-- a word of a sentence, where the transactions have these names
+abbrev pub word_text : List Name → Word → List ℕ
+word_text names (Transaction place) = name_at names place
+word_text names (Number number) = decimal number
+word_text names (Saying phrase) = phrase_text phrase
+
+-- what follows: the one stands before the other
+abbrev pub so_words : ℕ → ℕ → List Word
+so_words one other = Saying So ∷ Transaction one ∷ Saying Before ∷ Transaction other ∷ []
 
 -- what was read
 abbrev pub read_words : ℕ → ℕ → ℕ → List Word
 read_words reader value register =
-    Transaction reader ∷ Saying Read ∷ Number value ∷ Saying OfRegister ∷ Number register ∷ []
+    Transaction reader ∷ Saying Read ∷ Number value ∷ Saying FromRegister ∷ Number register ∷ []
 
 -- the source's
 abbrev pub of_source : Source → List Word
 of_source s = read_words s.reader s.value s.register.number
 
 abbrev pub real_time_words : ℕ → ℕ → List Word
-real_time_words one other = Transaction one ∷ Saying Ended ∷ Transaction other ∷ Saying Began ∷ []
+real_time_words one other =
+    Transaction one ∷ Saying Ended ∷ Transaction other ∷ Saying Began ∷ so_words one other
 
 -- who left it there, if it did not stand there from the start
 abbrev pub left_words : Source → Option ℕ → List Word
 left_words s None = []
-left_words s (Some writer) = of_source s ++ (Saying SoAfter ∷ Transaction writer ∷ Saying WhichLeftIt ∷ [])
+left_words s (Some writer) = of_source s ++ (Saying Which ∷ Transaction writer ∷ Saying LeftThere ∷ so_words writer s.reader)
 
 abbrev pub source_words : Source → List Word
 source_words s = left_words s s.writer
 
 abbrev pub read_first_words : Source → ℕ → List Word
-read_first_words s rival = of_source s ++ (Saying SoBefore ∷ Transaction rival ∷ Saying WhichElse ∷ [])
+read_first_words s rival = of_source s ++ (Saying Where ∷ Transaction rival ∷ Saying LeftAnother ∷ so_words s.reader rival)
 
--- before whom it stands: the source's writer (a reason has this step only where there is one)
-abbrev pub later_words : Option ℕ → List Word
-later_words None = []
-later_words (Some writer) = Saying SoBefore ∷ Transaction writer ∷ []
+-- before whom the rival stands: the source's writer (a reason has this step only where there is one)
+abbrev pub later_words : ℕ → Option ℕ → List Word
+later_words rival None = []
+later_words rival (Some writer) = so_words rival writer
 
 abbrev pub changed_first_words : ℕ → Source → List Word
 changed_first_words rival s =
-    Transaction rival ∷ Saying LeftElse ∷ Number s.register.number
-    ∷ (later_words s.writer ++ (Saying Whose ∷ Transaction s.reader ∷ Saying ReadThere ∷ []))
+    Transaction rival ∷ Saying LeftElse ∷ Number s.register.number ∷ Saying Than ∷ Transaction s.reader ∷ Saying ReadIt
+    ∷ later_words rival s.writer
 
 -- The sentence of a step. What follows through a third transaction is in the sentences of the others, and that a value stood there from the
 -- start is in the sentence that tells who changed it.
@@ -116,23 +103,21 @@ end_words (NoSource reader register value) = no_source_words reader value regist
 end_words (Unlike reader register expected read) = unlike_words reader read register.number expected
 
 -- a sentence as a line, unless it has no word
-abbrev pub sentence_line : List ℕ → List Word → List ℕ
-sentence_line threads [] = []
-sentence_line threads (word ∷ words) = line (codes "    why    " ++ flat_map (word_text threads) (word ∷ words))
+abbrev pub sentence_line : List Name → List Word → List ℕ
+sentence_line names [] = []
+sentence_line names (word ∷ words) = line (codes "    why    " ++ flat_map (word_text names) (word ∷ words))
 
 -- a line for each step and one for what they come to, where a reason is found
-abbrev pub reason_text : Option Reason → List ℕ
-reason_text None = []
-reason_text (Some reason) =
-    flat_map (λ step. sentence_line (numbers_of reason) (step_words step)) reason.steps.items
-    ++ sentence_line (numbers_of reason) (end_words reason.end)
+abbrev pub reason_text : List Name → Option Reason → List ℕ
+reason_text names None = []
+reason_text names (Some reason) =
+    flat_map (λ step. sentence_line names (step_words step)) reason.steps.items ++ sentence_line names (end_words reason.end)
 
 -- the same sentences in one line, each but the last with a semicolon
-abbrev pub clause_text : List ℕ → List Word → List ℕ
-clause_text threads [] = []
-clause_text threads (word ∷ words) = flat_map (word_text threads) (word ∷ words) ++ codes "; "
+abbrev pub clause_text : List Name → List Word → List ℕ
+clause_text names [] = []
+clause_text names (word ∷ words) = flat_map (word_text names) (word ∷ words) ++ codes "; "
 
-abbrev pub clauses_text : Reason → List ℕ
-clauses_text reason =
-    flat_map (λ step. clause_text (numbers_of reason) (step_words step)) reason.steps.items
-    ++ flat_map (word_text (numbers_of reason)) (end_words reason.end)
+abbrev pub clauses_text : List Name → Reason → List ℕ
+clauses_text names reason =
+    flat_map (λ step. clause_text names (step_words step)) reason.steps.items ++ flat_map (word_text names) (end_words reason.end)

@@ -5,6 +5,7 @@ mod answer;
 mod event_text;
 mod form;
 mod law;
+mod names;
 mod needed;
 mod numbers;
 mod options;

@@ -17,7 +17,7 @@ use crate::command::traces::push_traces;
 use crate::command::window::push_window;
 use std::alloc::{AllocError, Global};
 use tmw_defs::Criterion;
-use tmw_part::kept_of;
+use tmw_part::{Name, kept_of, names_of};
 use tmw_report::report_by;
 
 /// Makes the text of what is shown by this criterion, in this form. It fails only after a failed allocation.
@@ -59,17 +59,26 @@ fn drawn_text(alloc: Global, criterion: Criterion, shown: &Shown) -> Result<Vec<
         broken: showing.broken,
     };
     let marks = marks_of(alloc, &shown.needed, &showing.events)?;
-    push_window(&mut text, told, showing.from, &marks, &showing.events)?;
-    push_reason_of(&mut text, &shown.needed)?;
+    let names = names_of(alloc, &marks, &showing.events)?;
+    push_window(
+        &mut text,
+        told,
+        showing.from,
+        &names,
+        &marks,
+        &showing.events,
+    )?;
+    push_reason_of(&mut text, &names, &shown.needed)?;
     Ok(text)
 }
 
 /// Adds the reason that is told, if one is.
-fn push_reason_of(text: &mut Vec<u8>, needed: &Needed) -> Result<(), AllocError>
-    ensures { OnOk result (text.new.items ≡ text.old.items ++ reason_text (reason_of needed.now)) }
+fn push_reason_of(text: &mut Vec<u8>, names: &[Name], needed: &Needed) -> Result<(), AllocError>
+    ensures { OnOk result
+        (text.new.items ≡ text.old.items ++ reason_text names.now (reason_of needed.now)) }
 {
     match needed {
-        Needed::Part { reason, .. } => push_reason(text, reason),
+        Needed::Part { reason, .. } => push_reason(text, names, reason),
         Needed::Unasked | Needed::NotViolated => Ok(()),
     }
 }

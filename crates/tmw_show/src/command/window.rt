@@ -1,29 +1,33 @@
 ghost use Rattle.std.specs.Prelude.{◌≡◌, ◌+◌, ◌<◌, ◌≤◌, ◌^◌, ◌++◌, OnOk, length};
 ghost use Rattle.tmw_lines.specs.Text.{line};
+ghost use Rattle.tmw_part.specs.Names.{names_of};
 ghost use Rattle.tmw_show.specs.Drawing.{beside, event_row, heads_text, last_thread, rows_text, told_row, window_text};
 
 use crate::command::event_text::push_kind;
+use crate::command::names::push_label;
 use crate::command::numbers::push_blanks;
 use crate::command::told::{Told, told_of};
 use itoa::Buffer;
 use std::alloc::AllocError;
 use tmw_events::Event;
-use tmw_part::kept_of;
+use tmw_part::{Name, kept_of};
 
 /// The heads of eight columns.
 const ALL_HEADS: &[u8] =
-    b"    event  thread 0    thread 1    thread 2    thread 3    thread 4    thread 5    thread 6    thread 7";
+    b"    event  thread 0       thread 1       thread 2       thread 3       thread 4       thread 5       thread 6       thread 7";
 
-/// Adds the line of the heads, and a line for each event that has the mark, in a column for each thread. The first event has the
-/// number that follows `from`.
+/// Adds the line of the heads, and a line for each event that has the mark, in a column for each thread, behind its
+/// transaction's name if that begins with it. The first event has the number that follows `from`.
 pub fn push_window(
     text: &mut Vec<u8>,
     told: Told,
     from: u64,
+    names: &[Name],
     marks: &[bool],
     events: &[Event],
 ) -> Result<(), AllocError>
-    requires { from + length events.now < 2 ^ 64 }
+    requires numbers { from + length events.now < 2 ^ 64 }
+    requires names { names.now ≡ names_of marks.now events.now }
     ensures { OnOk result
         (text.new.items ≡ text.old.items ++ window_text told from marks.now events.now) }
 {
@@ -31,7 +35,7 @@ pub fn push_window(
     let heads = heads_of(last_thread(&kept));
     text.extend_from_slice(heads)?;
     text.push(b'\n')?;
-    push_rows(text, told, heads.len(), from, marks, events)?;
+    push_rows(text, told, heads.len(), names, from, marks, events)?;
     Ok(())
 }
 
@@ -40,7 +44,7 @@ fn heads_of(last: u8) -> &'static [u8]
     requires { last < 8 }
     ensures { result.now ≡ heads_text last }
 {
-    &ALL_HEADS[..19 + 12 * last as usize]
+    &ALL_HEADS[..19 + 15 * last as usize]
 }
 
 /// The greatest number of a thread that has one of these events, or 0.
@@ -60,6 +64,7 @@ fn push_rows(
     text: &mut Vec<u8>,
     told: Told,
     width: usize,
+    names: &[Name],
     from: u64,
     marks: &[bool],
     events: &[Event],
@@ -67,19 +72,28 @@ fn push_rows(
     requires { from + length events.now < 2 ^ 64 }
     ensures { OnOk result
         (text.new.items ≡ text.old.items
-        ++ rows_text told width (from + 1) marks.now events.now) }
+        ++ rows_text told width names.now from 0 marks.now events.now) }
 {
-    let mut number = from;
+    let mut place = 0;
     let mut rest_marks = marks;
     let mut rest = events;
     while let [mark, more_marks @ ..] = rest_marks {
         let [event, more @ ..] = rest else {
             return Ok(());
         };
-        number += 1;
         if *mark {
-            push_line(text, width, number, *event, told_of(told, number))?;
+            let number = from + (place as u64 + 1);
+            push_line(
+                text,
+                width,
+                names,
+                place,
+                number,
+                *event,
+                told_of(told, number),
+            )?;
         }
+        place += 1;
         rest_marks = more_marks;
         rest = more;
     }
@@ -90,31 +104,42 @@ fn push_rows(
 fn push_line(
     text: &mut Vec<u8>,
     width: usize,
+    names: &[Name],
+    place: usize,
     number: u64,
     event: Event,
     told: &str,
 ) -> Result<(), AllocError>
     ensures { OnOk result
         (text.new.items ≡ text.old.items
-        ++ line (told_row width (event_row number event) told.now)) }
+        ++ line (told_row width (event_row names.now place number event) told.now)) }
 {
     let before = text.len();
-    push_row(text, number, event)?;
+    push_row(text, names, place, number, event)?;
     let gap = width.saturating_sub(text.len() - before);
     push_beside(text, gap, told)?;
     text.push(b'\n')?;
     Ok(())
 }
 
-/// Adds an event with its number, in its thread's column.
-fn push_row(text: &mut Vec<u8>, number: u64, event: Event) -> Result<(), AllocError>
-    ensures { OnOk result (text.new.items ≡ text.old.items ++ event_row number event) }
+/// Adds an event with its number, in its thread's column, behind the name of its transaction if that begins at this
+/// place.
+fn push_row(
+    text: &mut Vec<u8>,
+    names: &[Name],
+    place: usize,
+    number: u64,
+    event: Event,
+) -> Result<(), AllocError>
+    ensures { OnOk result
+        (text.new.items ≡ text.old.items ++ event_row names.now place number event) }
 {
     let mut buffer = Buffer::new();
     let digits = buffer.format(number).as_bytes();
     push_blanks(text, 9usize.saturating_sub(digits.len()))?;
     text.extend_from_slice(digits)?;
-    push_blanks(text, 2 + 12 * event.thread.get() as usize)?;
+    push_blanks(text, 2 + 15 * event.thread.get() as usize)?;
+    push_label(text, names, place)?;
     push_kind(text, &event)?;
     Ok(())
 }

@@ -2,12 +2,12 @@ use Rattle.tmw_part.proofs.Shared.{ap, length, length-map, lies_in, number_or, s
 use Rattle.tmw_part.proofs.Marking.{position-map}
 use Rattle.tmw_part.proofs.marks.owner.Goals as goal
 
-pub returns-in-Some : goal.returns-in-Some
-returns-in-Some c =
+pub returns-in-Some-clause-is : goal.returns-in-Some-clause-is
+returns-in-Some-clause-is c =
     let same = position-map (lies_in c.args.thread.number c.args.from c.args.upto) txn_of c.args.whole.now in
-    sym (ap (number_or (length (txns_of c.args.whole.now))) (same ∙ sym c.in-Some.ensures))
+    sym (ap (number_or (length (txns_of c.args.whole.now))) (same ∙ sym c.in-Some.ensures.is))
 
-pub returns-in-None : goal.returns-in-None
-returns-in-None c =
+pub returns-in-None-clause-is : goal.returns-in-None-clause-is
+returns-in-None-clause-is c =
     let same = position-map (lies_in c.args.thread.number c.args.from c.args.upto) txn_of c.args.whole.now in
-    sym (ap (number_or (length (txns_of c.args.whole.now))) (same ∙ sym c.in-None.ensures) ∙ length-map c.args.whole.now txn_of)
+    sym (ap (number_or (length (txns_of c.args.whole.now))) (same ∙ sym c.in-None.ensures.is) ∙ length-map c.args.whole.now txn_of)

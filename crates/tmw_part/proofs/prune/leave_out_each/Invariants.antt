@@ -1,4 +1,4 @@
-use Rattle.tmw_part.proofs.Shared.{Contains, IsFalse, IsReason, IsTrue, Step, length, remove, txns_of, ℕ, ◌<◌, ◌≡◌, ◌≤◌}
+use Rattle.tmw_part.proofs.Shared.{IsFalse, IsReason, IsTrue, length, remove, txns_of, ℕ, ◌<◌, ◌≡◌, ◌≤◌}
 use Rattle.tmw_part.proofs.prune.leave_out_each.Given as goal
 
 abbrev pub invariant-loop-place : goal.invariant-loop-place
@@ -7,7 +7,6 @@ invariant-loop-place l =
       within : l.place ≤ length l.steps.items;
       reason : IsReason l.criterion l.states (txns_of l.transactions) l.fn.steps.items l.end
           → IsReason l.criterion l.states (txns_of l.transactions) l.steps.items l.end;
-      among : (step : Step) → Contains l.steps.items step → Contains l.fn.steps.items step;
       fewer : IsTrue l.out → length l.steps.items < length l.fn.steps.items;
       all : IsFalse l.out → length l.steps.items ≡ length l.fn.steps.items;
       needed : IsFalse l.out → (i : ℕ) → l.place ≤ i → i < length l.steps.items

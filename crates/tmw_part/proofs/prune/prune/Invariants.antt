@@ -1,11 +1,10 @@
-use Rattle.tmw_part.proofs.Shared.{Contains, IsFalse, IsNeededEach, IsReason, Step, if◌then◌else◌, length, txns_of, ◌+◌}
+use Rattle.tmw_part.proofs.Shared.{IsFalse, IsNeededEach, IsReason, if◌then◌else◌, length, txns_of, ◌+◌}
 use Rattle.tmw_part.proofs.prune.prune.Given as goal
 
 abbrev pub invariant-loop-more : goal.invariant-loop-more
 invariant-loop-more l =
     record {
       reason : IsReason l.criterion l.states (txns_of l.transactions) l.kept.items l.end;
-      among : (step : Step) → Contains l.kept.items step → Contains l.fn.steps.items step;
       needed : IsFalse l.more → IsNeededEach l.criterion l.states (txns_of l.transactions) l.kept.items l.end;
     }
 

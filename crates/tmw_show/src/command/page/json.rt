@@ -3,7 +3,7 @@ ghost use Rattle.tmw_show.specs.Explaining.{reason_of};
 ghost use Rattle.tmw_show.specs.Page.{about_json, criterion_json, digit, event_json, json_text, mark_json, needed_json, numbers_json, settled_at, state_json, why_json, window_json};
 
 use crate::command::event_text::push_event;
-use crate::command::needed::Needed;
+use crate::command::needed::{Needed, marks_of};
 use crate::command::numbers::{push_number, push_values};
 use crate::command::part::{Part, push_each, push_list};
 use crate::command::sentences::push_clauses;
@@ -13,6 +13,7 @@ use std::alloc::{AllocError, Global};
 use tmw_cuts::State;
 use tmw_defs::{Criterion, Verdict};
 use tmw_events::{Event, Registers};
+use tmw_part::{Name, names_of};
 use tmw_report::report_by;
 
 /// Adds what is shown by this criterion as one JSON object: the members of the report, the criterion, how many registers
@@ -40,7 +41,9 @@ pub fn push_json(
     };
     push_mark(text, told)?;
     push_needed(text, &shown.needed)?;
-    push_why(text, &shown.needed)?;
+    let marks = marks_of(alloc, &shown.needed, &showing.events)?;
+    let names = names_of(alloc, &marks, &showing.events)?;
+    push_why(text, &names, &shown.needed)?;
     text.extend_from_slice(b"}\n")?;
     Ok(())
 }
@@ -169,8 +172,9 @@ fn push_needed(text: &mut Vec<u8>, needed: &Needed) -> Result<(), AllocError>
 }
 
 /// Adds the reason, if one is told.
-fn push_why(text: &mut Vec<u8>, needed: &Needed) -> Result<(), AllocError>
-    ensures { OnOk result (text.new.items ≡ text.old.items ++ why_json (reason_of needed.now)) }
+fn push_why(text: &mut Vec<u8>, names: &[Name], needed: &Needed) -> Result<(), AllocError>
+    ensures { OnOk result
+        (text.new.items ≡ text.old.items ++ why_json names.now (reason_of needed.now)) }
 {
     if let Needed::Part {
         reason: Some(reason),
@@ -178,7 +182,7 @@ fn push_why(text: &mut Vec<u8>, needed: &Needed) -> Result<(), AllocError>
     } = needed
     {
         text.extend_from_slice(b",\"why\":\"")?;
-        push_clauses(text, reason)?;
+        push_clauses(text, names, reason)?;
         text.push(b'"')?;
     }
     Ok(())

@@ -170,7 +170,7 @@ const txs = [], ops = [], open = new Map();
 events.forEach((event, i) => {
   const n = first + i, isCall = 'RWNTX'.includes(event.k);
   if (!open.has(event.t)) {
-    open.set(event.t, { thread: event.t, name: `tx ${txs.length + 1}`, first: n });
+    open.set(event.t, { thread: event.t, name: `T${txs.length + 1}`, first: n });
     txs.push(open.get(event.t));
   }
   const tx = open.get(event.t);

@@ -1,13 +1,14 @@
 -- The last sentence follows the others.
 use Rattle.std.specs.List.{flat_map}
-use Rattle.tmw_show.specs.Sentences.{clause_text, end_words, numbers_of, step_words, word_text}
+use Rattle.tmw_show.specs.Sentences.{clause_text, end_words, step_words, word_text}
 use Rattle.tmw_show.proofs.Appends.{two}
 use Rattle.tmw_show.proofs.command.sentences.push_clauses.Goals as goal
 
 pub returns : goal.returns
 returns c =
+    let names = c.args.names.now in
     let reason = c.args.reason.now in
-    two c.args.text.now.items (flat_map (λ step. clause_text (numbers_of reason) (step_words step)) reason.steps.items)
-    (rw (c.deref.ensures.value, c.deref-2.ensures.value) at c.in_ok-push_each.ensures)
-    (flat_map (word_text (numbers_of reason)) (end_words reason.end))
-    (rw (c.deref-3.ensures.value, c.deref-4.ensures.value, c.in_ok-words.ensures) at c.in_ok-push_words.ensures)
+    two c.args.text.now.items (flat_map (λ step. clause_text names (step_words step)) reason.steps.items)
+    (rw c.deref.ensures.value at c.in_ok-push_each.ensures)
+    (flat_map (word_text names) (end_words reason.end))
+    (rw (c.deref-2.ensures.value, c.in_ok-words.ensures) at c.in_ok-push_words.ensures)
