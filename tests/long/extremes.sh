@@ -66,7 +66,7 @@ long_lines() {
     for command in judge steps; do
         local header='opacity-trace 1 1'
         [ "$command" = judge ] || header='ring-steps 1 4 2 100'
-        row "$command: a header of $bytes bytes" $little "$(long_fault '"bad header"' '1 is no header of a trace' "$zeros")" $command \
+        row "$command: a header of $bytes bytes" $little "$(long_fault '"bad header"' '1 is no header such as opacity-trace 1 8' "$zeros")" $command \
             < <(copies "$bytes" 0 && echo)
         row "$command: the same, cut" $little "$(long_fault '"cut","line":1' '1 has no line feed' "$zeros")" $command \
             < <(copies "$bytes" 0)
@@ -276,8 +276,8 @@ left_by_reader() {
 streams() {
     echo '{"registers":1,"scripts":[[["W 0 5","T"]]],"order":[0,0]}' >"$folder/workload"
     local headless='{"fault":"bad header"}'
-    streams_of "$top/examples/dirty_read.trace" "$headless"$'\nerror: line 1 is no header of a trace: ""' judge
-    streams_of "$top/examples/dirty_read.trace" "$headless"$'\nerror: line 1 is no header of a trace: ""' show
+    streams_of "$top/examples/dirty_read.trace" "$headless"$'\nerror: line 1 is no header such as opacity-trace 1 8: ""' judge
+    streams_of "$top/examples/dirty_read.trace" "$headless"$'\nerror: line 1 is no header such as opacity-trace 1 8: ""' show
     streams_of "$top/examples/stopped_writer.steps" "$headless" steps
     streams_of "$folder/workload" '{"fault":"json"}' drive --trace
     streams_of "$folder/workload" '{"fault":"json"}' bench --trace

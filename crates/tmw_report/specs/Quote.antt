@@ -41,7 +41,7 @@ number_of _ = None
 
 -- what is wrong with that line, in a trace of the version with this digit
 abbrev pub wrong_of : Fault → ℕ → List ℕ
-wrong_of BadHeader version = codes " is no header of a trace: "
+wrong_of BadHeader version = codes " is no header such as opacity-trace 1 8: "
 wrong_of (Cut number) version = codes " has no line feed: "
 wrong_of _ version = codes " is no event of version " ++ (version ∷ codes ": ")
 

@@ -85,7 +85,7 @@ fn wrong_of(fault: Fault, version: Version) -> &'static [u8]
     ensures { result.now ≡ wrong_of fault (version_digit version) }
 {
     match (fault, version) {
-        (Fault::BadHeader, _) => b" is no header of a trace: ",
+        (Fault::BadHeader, _) => b" is no header such as opacity-trace 1 8: ",
         (Fault::Cut(_), _) => b" has no line feed: ",
         (_, Version::One) => b" is no event of version 1: ",
         (_, Version::Two) => b" is no event of version 2: ",
