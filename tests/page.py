@@ -177,6 +177,11 @@ def differences(page, text, want):
     same('boxes', sorted(every(r'<g class="tx[^>]*data-first="(\d+)" data-last="(\d+)" data-thread="(\d)" data-status="([^"]*)"')),
          sorted((str(tx['first']), str(tx['last']), tx['thread'], tx['status']) for tx in boxes))
     drawn = every(r'<g class="op[^>]*data-first="(\d+)" data-last="(\d+)"><rect[^>]*></rect>(?:<line[^>]*></line>)?<text[^>]*>([^<]*)</text>')
+    names = [f'T{want["transactions"].index(tx) + 1}' for tx in boxes]
+    same('the names of transactions', every(r'<g class="tx[^>]*aria-label="(T\d+), '), names)
+    arrows = [re.search(r': (T\d+) before (T\d+)$', sentence) for sentence in (want['why'] or '').split('; ')]
+    same('arrows', [html.unescape(words) for words in every(r'<g class="arrow"[^>]*aria-label="([^"]*)"')],
+         [arrow.string for arrow in arrows if arrow and set(arrow.groups()) <= set(names)])
     same('operations', sorted((int(first), int(last), html.unescape(words)) for first, last, words in drawn),
          [(first, last, shortened(words)) for first, last, words, *_ in bars])
     same('the numbers of events', [int(n) for n in every(r'<text class="number[^>]*data-event="(\d+)"')], list(range(want['start'], want['end'] + 1)) if boxes else [])
@@ -194,6 +199,7 @@ def differences(page, text, want):
     same('the letters explained', set(re.findall(r'\b([RWN]) 0 ', explained)), letters)
     same('the legend', not mark or f'event {mark[0]}: {want["told"]}' in legend, True)
     about = re.search(r'<p id="about"[^>]*>([^<]*)', text).group(1)
+    same('what is said to be faint, and a button', ('The others are faint' in about, '<button' in legend), ('0' in (want['needed'] or ''),) * 2)
     same('the extent', f'{want["start"]} to {want["end"]}' in about or not boxes, True)
     same('what is left out', f'the last {MOST} are drawn' in about, want['start'] > want['cut'] + 1)
     same('states', [re.findall(r'<td>(\d+)</td>', row) for row in every(r'<tr>((?:<td>\d+</td>)+)</tr>')], want['states'])

@@ -17,7 +17,7 @@ drawings=(crates verdict cut moments)
 
 # Calls these words for each picture: its file, its size, light or dark, what the page runs, and the trace with options.
 each_picture() {
-    "$@" "$pictures/broken.png" 1000x400 light "for (const id of ['told', 'states']) document.getElementById(id).hidden = true" \
+    "$@" "$pictures/broken.png" 1000x440 light "for (const id of ['told', 'states']) document.getElementById(id).hidden = true" \
         "$examples/ghc_stm.trace --why"
     "$@" "$pictures/light.png" 1100x470 light '' "$examples/real_time_order.trace"
     "$@" "$pictures/dark.png" 1100x470 dark "document.querySelector('#chart .tx[data-first=\"2\"]').focus()" "$examples/real_time_order.trace"

@@ -114,6 +114,23 @@ def is_true(sentence, names, states, window):
     return bool(told("A would come before itself"))
 
 
+def origin_of(end, names, window):
+    """What has to be told before this last sentence of where the value comes from that it says was read, or None."""
+    found = re.fullmatch(r"(T\d+) read (\d+) from register (\d+), w.*", end)
+    if not found:
+        return None
+    reader, value, register = names[found[1]], int(found[2]), int(found[3])
+    number = {event: n for n, t in enumerate(transactions(window), 1) for event in t.events}
+    puts = [call for call in calls(window) if left_by(call) == (register, value) and call[0] not in reader.events]
+    if not puts:
+        return f"no event of this window puts {value} into register {register}"
+    call = max(puts, key=lambda call: call[0].number)
+    t = transactions(window)[number[call[0]] - 1]
+    fates = {"aborted": ", and aborted", "live": ", and had not asked to commit"}
+    fate = fates.get(t.status, "" if last_left(t, register) == value else ", then another value")
+    return f"T{number[call[0]]} put {value} into register {register} at event {call[0].number}{fate}"
+
+
 def random_part(rng, window, broken):
     """A part by these rules, made by taking out some pieces, up to three at once."""
     part, choices = window, pieces(window)
@@ -158,8 +175,11 @@ def compare(program, criterion, start, events):
     assert part == tuple(event for event in window if event in part), "events out of order, or not of the window"
     assert is_part(part, window), "no part"
     assert not has_order(criterion, states, part), "the part has an order"
-    for sentence in why:
-        assert is_true(sentence, named(part, window), states, window), f"false of the window: {sentence}"
+    names = named(part, window)
+    origin = origin_of(why[-1], names, window) if why else None
+    assert origin in (None, *why[-2:-1]), f"not told: {origin}"
+    for sentence in why[:-2] + [it for it in why[-2:] if it != origin]:
+        assert is_true(sentence, names, states, window), f"false of the window: {sentence}"
     traces = [trace_of(state, part) for state in states]
     assert written("show", "--why", "--trace", trace=trace_of(start, events)) == "".join(traces), "other traces"
     for judged in [json.loads(written("judge", trace=trace)) for trace in traces]:

@@ -4,7 +4,7 @@ pub use Rattle.std.proofs.lemmas.Bool.{and_from, and_parts, cases_Bool, cases_or
 pub use Rattle.std.proofs.lemmas.List.{append-nil, drop_all, get_or-set_other, get_or-set_same, length-map, length-set, take-append-drop, take-append-le, take_all, take_more}
 pub use Rattle.std.proofs.lemmas.List.Elements.{All-contains, All-from_recursion, All-more}
 pub use Rattle.std.specs.List.{AllByRecursion, Contains, list_all, list_any, position_or_len, range_with_len}
-pub use Rattle.std.specs.Prelude.{IsFalse, if◌then◌else◌, nat_lt, position, remove, slice_get, slice_index, slice_index_or, slice_set}
+pub use Rattle.std.specs.Prelude.{IfSome, IsFalse, if◌then◌else◌, nat_lt, position, remove, slice_get, slice_index, slice_index_or, slice_set}
 pub use Rattle.tmw_cuts.specs.Members.{members}
 pub use Rattle.tmw_cuts.specs.Written.{left_by, writes}
 pub use Rattle.tmw_defs.proofs.OneMore.{add_event_here, add_event_past, begun, joins, length-add_event, length-transactions_push}
@@ -22,6 +22,7 @@ pub use Rattle.tmw_defs.specs.declared.status.Status.TheVariants.{Aborted, Commi
 pub use Rattle.tmw_events.specs.declared.event.Event.{Event}
 pub use Rattle.tmw_part.specs.Finding.{Fails, IsNeeded, IsViolated, IsViolatedPart, TellsViolated}
 pub use Rattle.tmw_part.specs.Kept.{all_kept, are_whole, is_of, keeps_last, keeps_part, kept_of, lies_in, may_miss_all, number_or, owners, owners_among, places_from, without, without_from}
+pub use Rattle.tmw_part.specs.Origins.{next_of, or_before, origin_from, origin_of}
 pub use Rattle.tmw_part.specs.Pieces.{calls_from, whole_of}
 pub use Rattle.tmw_part.specs.Reasons.{Changes, ComesFrom, HoldsIn, IsNeededEach, IsReason, IsUnchanged, ReasonLaw, ReasonTells, StandsAt, StandsBefore, StandsBeforeWriter, begin_apart}
 pub use Rattle.tmw_part.specs.Shown.{answers_none, may_all_go, shown, txn_of, txns_of, unread_in}

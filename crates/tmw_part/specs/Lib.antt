@@ -2,6 +2,7 @@ pub mod Finding
 pub mod Found
 pub mod Kept
 pub mod Names
+pub mod Origins
 pub mod Pieces
 pub mod Reasons
 pub mod Shown

@@ -16,6 +16,8 @@ use Rattle.tmw_part.specs.Kept.{all_kept, kept_of}
 use Rattle.tmw_part.specs.Names.{names_of}
 use Rattle.tmw_part.specs.declared.names.Name.{Name}
 use Rattle.tmw_window.specs.declared.showing.Showing.{Showing}
+use Rattle.tmw_show.specs.Sentences.{told_words}
+use Rattle.tmw_show.specs.declared.command.word.Word.{Word}
 use Rattle.tmw_show.specs.declared.command.needed.Needed.{Needed}
 use Rattle.tmw_show.specs.declared.command.shown.Shown.{Shown}
 use Rattle.tmw_show.specs.declared.command.needed.Needed.TheVariants.{Unasked, NotViolated, Part}
@@ -43,9 +45,18 @@ abbrev pub marks_of : Needed → List Event → List Bool
 marks_of (Part marks reason) events = marks.items
 marks_of _ events = all_kept events
 
+-- The reason that is told, if one is.
+abbrev pub reason_of : Needed → Option Reason
+reason_of (Part marks reason) = reason
+reason_of _ = None
+
 -- The names of the transactions that are shown.
 abbrev pub shown_names : Needed → List Event → List Name
 shown_names needed events = names_of (marks_of needed events) events
+
+-- What is told of the read that no order explains, where so many events stand before the window.
+abbrev pub shown_told : ℕ → Needed → List Event → List Word
+shown_told from needed events = told_words from (shown_names needed events) events (reason_of needed)
 
 -- how many events of how many are shown
 abbrev pub counts_words : ℕ → ℕ → List ℕ
@@ -61,8 +72,3 @@ abbrev pub needed_text : Needed → List Event → List ℕ
 needed_text Unasked events = []
 needed_text NotViolated events = line (codes "    part   all events: the run isn't violated")
 needed_text (Part marks reason) events = line (codes "    part   " ++ part_words (length (kept_of marks.items events)) (length events))
-
--- The reason that is told, if one is.
-abbrev pub reason_of : Needed → Option Reason
-reason_of (Part marks reason) = reason
-reason_of _ = None

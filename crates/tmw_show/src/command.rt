@@ -9,6 +9,7 @@ mod names;
 mod needed;
 mod numbers;
 mod options;
+mod origins;
 mod page;
 mod part;
 mod reading;

@@ -5,12 +5,12 @@ use crate::command::numbers::push_number;
 use std::alloc::AllocError;
 use tmw_part::Name;
 
-/// Adds a name.
-fn push_name(text: &mut Vec<u8>, name: &Name) -> Result<(), AllocError>
-    ensures { OnOk result (text.new.items ≡ text.old.items ++ name_text name.now) }
+/// Adds the name of the transaction of this number.
+pub fn push_name(text: &mut Vec<u8>, number: u64) -> Result<(), AllocError>
+    ensures { OnOk result (text.new.items ≡ text.old.items ++ name_text number) }
 {
     text.push(b'T')?;
-    push_number(text, name.number)?;
+    push_number(text, number)?;
     Ok(())
 }
 
@@ -19,7 +19,7 @@ pub fn push_name_at(text: &mut Vec<u8>, names: &[Name], place: usize) -> Result<
     ensures { OnOk result (text.new.items ≡ text.old.items ++ name_at names.now place) }
 {
     match names.get(place) {
-        Some(name) => push_name(text, name),
+        Some(name) => push_name(text, name.number),
         None => Ok(()),
     }
 }
@@ -43,7 +43,7 @@ pub fn push_label(text: &mut Vec<u8>, names: &[Name], place: usize) -> Result<()
 {
     match find_name(names, place) {
         Some(name) => {
-            push_name(text, &name)?;
+            push_name(text, name.number)?;
             text.push(b' ')?;
         }
         None => text.extend_from_slice(b"   ")?,

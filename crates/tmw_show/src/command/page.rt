@@ -1,4 +1,4 @@
-ghost use Rattle.std.specs.Prelude.{◌≡◌, IfOk};
+ghost use Rattle.std.specs.Prelude.{◌≡◌, ◌+◌, ◌≤◌, IfOk, length};
 ghost use Rattle.tmw_show.specs.Page.{page_text};
 
 mod json;
@@ -13,6 +13,8 @@ use tmw_defs::Criterion;
 /// Makes the page of what is shown by this criterion: a constant head, what is shown as one JSON object, and a constant
 /// tail, which draws it. It fails only after a failed allocation.
 pub fn page_text(alloc: Global, criterion: Criterion, shown: &Shown) -> Result<Vec<u8>, AllocError>
+    requires { shown.now.showing.from + length
+        shown.now.showing.events.items ≤ shown.now.showing.fed }
     ensures { IfOk result (λ text. text.items ≡ page_text criterion shown.now) }
 {
     let mut text = Vec::new(alloc);

@@ -1,9 +1,9 @@
 //! The sentences that tell why a part is violated.
 ghost use Rattle.std.specs.List.{flat_map};
-ghost use Rattle.std.specs.Prelude.{◌≡◌, ◌++◌, IfOk, OnOk};
+ghost use Rattle.std.specs.Prelude.{◌≡◌, ◌++◌, IfOk, OnOk, Some};
 ghost use Rattle.tmw_show.specs.Sentences.{changed_first_words, clause_text, clauses_text, cycle_words, end_words, no_source_words, phrase_text, read_first_words, read_words, real_time_words, reason_text, sentence_line, so_words, source_words, step_words, unlike_words, word_text};
 
-use crate::command::names::push_name_at;
+use crate::command::names::{push_name, push_name_at};
 use crate::command::numbers::push_number;
 use crate::command::part::{Part, push_each};
 use crate::command::word::{Phrase, Word};
@@ -11,30 +11,35 @@ use std::alloc::{AllocError, Global};
 use tmw_events::Ix;
 use tmw_part::{Contradiction, Name, Reason, Source, Step};
 
-/// Adds a line for each step of the reason, and one for what they come to, if a reason is found. Transactions have
-/// these names.
+/// Adds a line for each step of the reason, a line of what is told, if that has a word, and one for what the steps come
+/// to. Transactions have these names.
 pub fn push_reason(
     text: &mut Vec<u8>,
     names: &[Name],
-    reason: &Option<Reason>,
+    told: &[Word],
+    reason: &Reason,
 ) -> Result<(), AllocError>
     ensures { OnOk result
-        (text.new.items ≡ text.old.items ++ reason_text names.now reason.now) }
+        (text.new.items ≡ text.old.items ++ reason_text names.now told.now (Some reason.now)) }
 {
-    let Some(reason) = reason else {
-        return Ok(());
-    };
     push_each(text, &StepLine { names }, &reason.steps)?;
+    push_sentence(text, names, told)?;
     let words = end_words(*text.allocator(), &reason.end)?;
     push_sentence(text, names, &words)
 }
 
 /// Adds the same sentences in one line, each but the last with a semicolon.
-pub fn push_clauses(text: &mut Vec<u8>, names: &[Name], reason: &Reason) -> Result<(), AllocError>
+pub fn push_clauses(
+    text: &mut Vec<u8>,
+    names: &[Name],
+    told: &[Word],
+    reason: &Reason,
+) -> Result<(), AllocError>
     ensures { OnOk result
-        (text.new.items ≡ text.old.items ++ clauses_text names.now reason.now) }
+        (text.new.items ≡ text.old.items ++ clauses_text names.now told.now reason.now) }
 {
     push_each(text, &StepClause { names }, &reason.steps)?;
+    push_clause(text, names, told)?;
     let words = end_words(*text.allocator(), &reason.end)?;
     push_words(text, names, &words)?;
     Ok(())
@@ -117,6 +122,7 @@ impl Part<Word> for Spoken<'_> {
     fn push(&self, text: &mut Vec<u8>, word: &Word) -> Result<(), AllocError> {
         match *word {
             Word::Transaction(place) => push_name_at(text, self.names, place)?,
+            Word::Name(number) => push_name(text, number)?,
             Word::Number(number) => push_number(text, number)?,
             Word::Saying(phrase) => text.extend_from_slice(phrase_text(phrase).as_bytes())?,
         }
@@ -145,6 +151,13 @@ fn phrase_text(phrase: Phrase) -> &'static str
         Phrase::NobodyLeft => ", which neither the start nor another commit left",
         Phrase::HadToFind => ", where it had to find ",
         Phrase::Cycle => " would come before itself",
+        Phrase::Put => " put ",
+        Phrase::IntoRegister => " into register ",
+        Phrase::AtEvent => " at event ",
+        Phrase::GivenUp => ", and aborted",
+        Phrase::Unasked => ", and had not asked to commit",
+        Phrase::Overwritten => ", then another value",
+        Phrase::NoEvent => "no event of this window puts ",
     }
 }
 

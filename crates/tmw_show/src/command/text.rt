@@ -1,12 +1,13 @@
-ghost use Rattle.std.specs.Prelude.{◌≡◌, ◌+◌, ◌≤◌, ◌++◌, IfOk, OnOk, length};
+ghost use Rattle.std.specs.Prelude.{◌≡◌, ◌+◌, ◌≤◌, ◌<◌, ◌^◌, ◌++◌, IfOk, OnOk, length};
 ghost use Rattle.tmw_cuts.specs.Members.{members};
 ghost use Rattle.tmw_show.specs.Running.{drawn_text, shown_events, shown_text};
 ghost use Rattle.tmw_show.specs.Explaining.{reason_of};
-ghost use Rattle.tmw_show.specs.Sentences.{reason_text};
+ghost use Rattle.tmw_show.specs.Sentences.{reason_text, told_words};
 ghost use Rattle.tmw_show.specs.TracesText.{traces_text};
 
 use crate::command::form::Form;
 use crate::command::needed::{Needed, marks_of, push_needed};
+use crate::command::origins::told_by;
 use crate::command::page::page_text;
 use crate::command::part::push_each;
 use crate::command::sentences::push_reason;
@@ -17,6 +18,7 @@ use crate::command::traces::push_traces;
 use crate::command::window::push_window;
 use std::alloc::{AllocError, Global};
 use tmw_defs::Criterion;
+use tmw_events::Event;
 use tmw_part::{Name, kept_of, names_of};
 use tmw_report::report_by;
 
@@ -68,18 +70,38 @@ fn drawn_text(alloc: Global, criterion: Criterion, shown: &Shown) -> Result<Vec<
         &marks,
         &showing.events,
     )?;
-    push_reason_of(&mut text, &names, &shown.needed)?;
+    push_reason_of(
+        &mut text,
+        showing.from,
+        &names,
+        &showing.events,
+        &shown.needed,
+    )?;
     Ok(text)
 }
 
-/// Adds the reason that is told, if one is.
-fn push_reason_of(text: &mut Vec<u8>, names: &[Name], needed: &Needed) -> Result<(), AllocError>
-    ensures { OnOk result
-        (text.new.items ≡ text.old.items ++ reason_text names.now (reason_of needed.now)) }
+/// Adds the reason that is told, if one is, of a window before which so many events stand.
+fn push_reason_of(
+    text: &mut Vec<u8>,
+    from: u64,
+    names: &[Name],
+    events: &[Event],
+    needed: &Needed,
+) -> Result<(), AllocError>
+    requires { from + length events.now < 2 ^ 64 }
+    ensures { let reason = reason_of needed.now in
+        let told = told_words from names.now events.now reason in
+        OnOk result (text.new.items ≡ text.old.items ++ reason_text names.now told reason) }
 {
     match needed {
-        Needed::Part { reason, .. } => push_reason(text, names, reason),
-        Needed::Unasked | Needed::NotViolated => Ok(()),
+        Needed::Part {
+            reason: Some(reason),
+            ..
+        } => {
+            let told = told_by(*text.allocator(), from, names, events, &reason.end)?;
+            push_reason(text, names, &told, reason)
+        }
+        _ => Ok(()),
     }
 }
 

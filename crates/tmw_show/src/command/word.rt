@@ -1,8 +1,10 @@
 /// A word of a sentence that tells why a part is violated.
 #[derive(Clone, Copy, PartialEq, Eq, Debug)]
 pub enum Word {
-    /// The transaction at this place.
+    /// The transaction at this place of what is shown.
     Transaction(usize),
+    /// The transaction of this number.
+    Name(u64),
     /// A value, or the number of a register.
     Number(u64),
     Saying(Phrase),
@@ -27,4 +29,11 @@ pub enum Phrase {
     NobodyLeft,
     HadToFind,
     Cycle,
+    Put,
+    IntoRegister,
+    AtEvent,
+    GivenUp,
+    Unasked,
+    Overwritten,
+    NoEvent,
 }

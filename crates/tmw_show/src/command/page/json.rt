@@ -1,10 +1,12 @@
-ghost use Rattle.std.specs.Prelude.{◌≡◌, [], ◌∷◌, ◌++◌, OnOk};
+ghost use Rattle.std.specs.Prelude.{◌≡◌, ◌+◌, ◌<◌, ◌≤◌, ◌^◌, [], ◌∷◌, ◌++◌, OnOk, length};
 ghost use Rattle.tmw_show.specs.Explaining.{reason_of};
+ghost use Rattle.tmw_show.specs.Sentences.{told_words};
 ghost use Rattle.tmw_show.specs.Page.{about_json, criterion_json, digit, event_json, json_text, mark_json, needed_json, numbers_json, settled_at, state_json, why_json, window_json};
 
 use crate::command::event_text::push_event;
 use crate::command::needed::{Needed, marks_of};
 use crate::command::numbers::{push_number, push_values};
+use crate::command::origins::told_by;
 use crate::command::part::{Part, push_each, push_list};
 use crate::command::sentences::push_clauses;
 use crate::command::shown::Shown;
@@ -24,9 +26,13 @@ pub fn push_json(
     criterion: Criterion,
     shown: &Shown,
 ) -> Result<(), AllocError>
+    requires { shown.now.showing.from + length
+        shown.now.showing.events.items ≤ shown.now.showing.fed }
     ensures { OnOk result (text.new.items ≡ text.old.items ++ json_text criterion shown.now) }
 {
     let showing = &shown.showing;
+    // A number that is read is below 2^64, and with it those of the window's events.
+    let _fed = showing.fed;
     push_about(alloc, text, criterion, shown)?;
     push_window(
         text,
@@ -43,7 +49,7 @@ pub fn push_json(
     push_needed(text, &shown.needed)?;
     let marks = marks_of(alloc, &shown.needed, &showing.events)?;
     let names = names_of(alloc, &marks, &showing.events)?;
-    push_why(text, &names, &shown.needed)?;
+    push_why(text, showing.from, &names, &showing.events, &shown.needed)?;
     text.extend_from_slice(b"}\n")?;
     Ok(())
 }
@@ -171,18 +177,27 @@ fn push_needed(text: &mut Vec<u8>, needed: &Needed) -> Result<(), AllocError>
     Ok(())
 }
 
-/// Adds the reason, if one is told.
-fn push_why(text: &mut Vec<u8>, names: &[Name], needed: &Needed) -> Result<(), AllocError>
-    ensures { OnOk result
-        (text.new.items ≡ text.old.items ++ why_json names.now (reason_of needed.now)) }
+/// Adds the reason, if one is told, of a window before which so many events stand.
+fn push_why(
+    text: &mut Vec<u8>,
+    from: u64,
+    names: &[Name],
+    events: &[Event],
+    needed: &Needed,
+) -> Result<(), AllocError>
+    requires { from + length events.now < 2 ^ 64 }
+    ensures { let reason = reason_of needed.now in
+        let told = told_words from names.now events.now reason in
+        OnOk result (text.new.items ≡ text.old.items ++ why_json names.now told reason) }
 {
     if let Needed::Part {
         reason: Some(reason),
         ..
     } = needed
     {
+        let told = told_by(*text.allocator(), from, names, events, &reason.end)?;
         text.extend_from_slice(b",\"why\":\"")?;
-        push_clauses(text, names, reason)?;
+        push_clauses(text, names, &told, reason)?;
         text.push(b'"')?;
     }
     Ok(())

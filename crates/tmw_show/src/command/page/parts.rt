@@ -76,6 +76,11 @@ i.marked { background: var(--wrong-fill); border-color: var(--wrong); }
 .op.marked rect { fill: var(--wrong-fill); stroke: var(--wrong); stroke-width: 1.5; }
 .op.marked text { fill: var(--wrong); font-weight: 700; }
 .cap { stroke: var(--wrong); stroke-width: 3; }
+.arrow { outline: none; }
+.arrow .line { fill: none; stroke: var(--wrong); stroke-width: 1.75; marker-end: url(#tip); }
+.arrow .near { fill: none; stroke: transparent; stroke-width: 14; }
+.arrow:hover .line, .arrow:focus-visible .line { stroke-width: 3; }
+#tip path { fill: var(--wrong); }
 .op.picked rect, .op.source rect { fill: var(--pick-fill); stroke: var(--pick); stroke-width: 2; stroke-dasharray: none; }
 .op.picked text, .op.source text { fill: var(--pick); font-weight: 700; }
 .related .tx { opacity: .28; }
@@ -135,7 +140,7 @@ pub const TAIL: &[u8] = br##"</script>
 (() => {
 // At most so many events are drawn, so many writes listed, and of so many a part is found. Of a number with more digits than WIDE the
 // drawing has the first and the last ENDS. Sizes are in pixels.
-const MOST = 400, LISTED = 24, SEARCHED = 1000, WIDE = 10, ENDS = 4, TOP = 24, LANE = 45, CHAR = 6.65;
+const MOST = 400, LISTED = 24, SEARCHED = 1000, WIDE = 10, ENDS = 4, TOP = 24, BOX = 41, CHAR = 6.65;
 
 // What the program has written: values stay texts, since 64 bits do not fit a number. An event is its line of the trace.
 const run = JSON.parse(document.getElementById('run').textContent);
@@ -148,6 +153,8 @@ const events = run.events.map(line => {
   return event;
 });
 const first = earlier + 1, last = earlier + events.length;
+// The sentences of the reason. Between the lanes is room for its arrows.
+const sentences = run.why === undefined ? [] : run.why.split('; '), LANE = BOX + (sentences.length > 1 ? 26 : 4);
 // Where it is asked why the window is violated: which events are violated by themselves. The others take no room, unless the page is
 // loaded again to show all.
 const needed = events.length > SEARCHED ? undefined : run.needed, showsAll = location.hash === '#all';
@@ -158,7 +165,7 @@ const plural = (n, word) => `${group(n)} ${word}${n === 1 ? '' : 's'}`;
 const list = words => words.length < 2 ? words.join('') : `${words.slice(0, -1).join(', ')} and ${words.at(-1)}`;
 
 function make(tag, attributes, parent, text) {
-  const node = ['svg', 'g', 'rect', 'line', 'text', 'use', 'title'].includes(tag) ? document.createElementNS('http://www.w3.org/2000/svg', tag) : document.createElement(tag);
+  const node = ['svg', 'g', 'rect', 'line', 'path', 'text', 'use', 'title', 'defs', 'marker'].includes(tag) ? document.createElementNS('http://www.w3.org/2000/svg', tag) : document.createElement(tag);
   for (const [name, value] of Object.entries(attributes)) node.setAttribute(name, value);
   if (text !== undefined) node.textContent = text;
   if (parent) parent.append(node);
@@ -231,7 +238,7 @@ byId('verdict').classList.toggle('wrong', ['violated', 'malformed'].includes(rep
 const extent = events.length === 0 ? 'It has no events.'
   : from > first ? `No transaction was open before event ${first}. Of the ${plural(events.length, 'event')} from there to event ${last} the last ${MOST} are drawn, ${from} to ${last}.`
   : `Drawn: events ${first} to ${last}. No transaction was open before event ${first}.`;
-const why = needed === undefined ? '' : ` ${[...needed].filter(mark => mark === '1').length} of these events are violated by themselves. The others are faint.`;
+const why = needed === undefined ? '' : ` ${[...needed].filter(mark => mark === '1').length} of these events are violated by themselves.${needed.includes('0') ? ' The others are faint.' : ''}`;
 byId('about').textContent = `By ${strict ? 'strict serializability' : 'opacity'}, of a run of ${plural(report.events, 'event')} over ${plural(registers, 'register')}. ${extent}${why}`;
 
 // Columns: one for each event, as wide as the texts that end there need. A transaction that is still open is drawn, if only as a heading.
@@ -281,7 +288,8 @@ for (const tx of shown) {
     'aria-label': `${tx.name}, thread ${tx.thread}, ${tx.status}, events ${tx.first} to ${tx.last}`,
     'data-first': tx.first, 'data-last': tx.last, 'data-thread': tx.thread, 'data-status': tx.status }, chart);
   if (!isEnded(tx)) make('line', { class: 'tail', x1: right + 4, x2: width - 2, y1: y + 28, y2: y + 28 }, tx.node);
-  make('rect', { x, y: y + 2, width: right - x, height: LANE - 4, rx: 5 }, tx.node);
+  make('rect', { x, y: y + 2, width: right - x, height: BOX, rx: 5 }, tx.node);
+  Object.assign(tx, { x: Math.max(x, 0), right });
   tx.label = label(tx.node, heading(tx, tx.status), 6.05, x + 6, y + 13, right - 6);
   for (const kind of ['mouseenter', 'focusin']) tx.node.addEventListener(kind, () => relate(tx));
   for (const kind of ['mouseleave', 'focusout']) tx.node.addEventListener(kind, () => relate(null));
@@ -296,6 +304,22 @@ for (const op of bars) {
   label(op.node, op.drawn, CHAR, x + 4, y + 14.5, right - 4);
   make('title', {}, op.node, `${op.text}, ${op.where}`);
   op.node.addEventListener('click', click => { click.stopPropagation(); pick(op.read === undefined ? null : op); if (!picked) relate(op.tx); });
+}
+// What a sentence of the reason comes to: an arrow from one transaction to another, where both are above one another if they can be.
+make('path', { d: 'M0,0 L7,3.5 L0,7 z' }, make('marker', { id: 'tip', viewBox: '0 0 7 7', refX: 7, refY: 3.5, markerWidth: 7, markerHeight: 7, orient: 'auto' }, make('defs', {}, svg)));
+for (const sentence of sentences) {
+  const [one, other] = (sentence.match(/: (T\d+) before (T\d+)$/) || []).slice(1).map(name => shown.find(tx => tx.name === name));
+  if (!one || !other) continue;
+  const lo = Math.max(one.x, other.x), hi = Math.min(one.right, other.right), down = threads.indexOf(other.thread) - threads.indexOf(one.thread);
+  const aside = Math.min(16, (hi - lo) / 4) * (txs.indexOf(one) < txs.indexOf(other) ? -1 : 1);
+  const [x, to] = lo < hi ? [(lo + hi) / 2 + aside, (lo + hi) / 2 + aside] : one.right < other.x ? [one.right - 8, other.x + 8] : [one.x + 8, other.right - 8];
+  const y = yOf(one.thread) + 2 + (down < 0 ? 0 : BOX), below = yOf(other.thread) + 2 + (down > 0 ? 0 : BOX);
+  const path = down ? `M${x},${y} L${to},${below}` : `M${x},${y} C${x},${y + 26} ${to},${y + 26} ${to},${below}`;
+  const node = make('g', { class: 'arrow', tabindex: 0, role: 'img', 'aria-label': sentence }, chart);
+  for (const kind of ['near', 'line']) make('path', { class: kind, d: path }, node);
+  make('title', {}, node, sentence);
+  for (const kind of ['mouseenter', 'focusin']) node.addEventListener(kind, () => picked || tell(sentence, []));
+  for (const kind of ['mouseleave', 'focusout']) node.addEventListener(kind, () => picked || rest());
 }
 // A text stays in sight as long as its box does.
 const settle = edge => floats.forEach(([text, x, most]) => text.setAttribute('x', Math.max(x, Math.min(edge + 6, most))));
@@ -379,9 +403,9 @@ for (const [name, word] of [['committed', 'committed'], ['aborted', 'aborted'], 
 }
 if (run.why !== undefined) {
   byId('why').hidden = false;
-  for (const sentence of run.why.split('; ')) make('li', {}, byId('why').querySelector('ul'), sentence);
+  for (const sentence of sentences) make('li', {}, byId('why').querySelector('ul'), sentence);
 }
-if (needed !== undefined) {
+if (needed !== undefined && needed.includes('0')) {
   const button = make('button', { type: 'button' }, byId('legend'), showsAll ? 'Show the part' : 'Show all events');
   chart.classList.toggle('why', !showsAll);
   button.addEventListener('click', () => { location.hash = showsAll ? '' : 'all'; location.reload(); });

@@ -1,0 +1,67 @@
+-- Who in a window wrote a value that a transaction read of a register, and what became of that write.
+use Rattle.std.specs.Prelude.{◌==◌, ◌&&◌, ◌+◌, ◌%◌, ◌^◌, ℕ, suc, Bool, true, false, not, List, [], ◌∷◌, map, Option, Some, None, if◌then◌else◌}
+use Rattle.tmw_events.specs.declared.event.Event.{Event}
+use Rattle.tmw_events.specs.declared.event.Kind.{Kind}
+use Rattle.tmw_events.specs.declared.event.Kind.TheVariants.{W, N, V}
+use Rattle.tmw_defs.specs.declared.status.Status.{Status}
+use Rattle.tmw_defs.specs.declared.status.Status.TheVariants.{Live, Pending, Committed, Aborted}
+use Rattle.tmw_defs.specs.History.{Txn, status_of, operations, transactions}
+use Rattle.tmw_cuts.specs.Written.{left_by}
+use Rattle.tmw_part.specs.declared.origin.Fate.{Fate}
+use Rattle.tmw_part.specs.declared.origin.Fate.TheVariants.{GivenUp, Unasked, Overwritten, Stays}
+use Rattle.tmw_part.specs.declared.origin.Origin.{Origin}
+use Rattle.tmw_part.specs.Kept.{owner}
+use Rattle.tmw_part.specs.Steps.{is_some_of, txn_at}
+
+-- The call, with what follows it in its thread, puts the value into the register: a write of it, answered or not, or an add that ends there.
+abbrev pub puts : ℕ → ℕ → Kind → Option Kind → Bool
+puts r v (W q w) next = (q.number == r) && (w == v)
+puts r v (N q d) (Some (V w)) = (q.number == r) && ((w + d) % 2 ^ 64 == v)
+puts r v kind next = false
+
+-- The thread's first event among these.
+abbrev pub next_of : ℕ → List Event → Option Kind
+next_of thread [] = None
+next_of thread (e ∷ events) = if e.thread.number == thread then Some e.kind else next_of thread events
+
+-- The number, from 1, of the transaction of the window in which the event of this thread at this place lies.
+abbrev pub number_at : List Txn → ℕ → ℕ → ℕ
+number_at window thread place = suc (owner window thread place place)
+
+-- The event at this place, before these, puts the value into the register, and belongs to another transaction than the reader.
+abbrev pub puts_at : List Txn → ℕ → ℕ → ℕ → ℕ → Event → List Event → Bool
+puts_at window r v reader place e events =
+    puts r v e.kind (next_of e.thread.number events) && not (number_at window e.thread.number place == reader)
+
+-- the later of two, if the first is there
+abbrev pub or_before : Option Origin → Option Origin → Option Origin
+or_before None before = before
+or_before (Some later) before = Some later
+
+-- What became of what a transaction of this status put there, which at last left the value there or not.
+abbrev pub fate_by : Status → Bool → Fate
+fate_by Aborted last = GivenUp
+fate_by Live last = Unasked
+fate_by _ true = Stays
+fate_by _ false = Overwritten
+
+abbrev pub fate_of : ℕ → ℕ → Txn → Fate
+fate_of r v t = fate_by (status_of t.text) (is_some_of v (left_by r None (operations t.text)))
+
+abbrev pub origin_at : List Txn → ℕ → ℕ → ℕ → Event → Origin
+origin_at window r v place e = record {
+  place = place;
+  number = number_at window e.thread.number place;
+  fate = fate_of r v (txn_at window (owner window e.thread.number place place));
+}
+
+-- The last of these events that does so; the first of them has this place.
+abbrev pub origin_from : List Txn → ℕ → ℕ → ℕ → ℕ → List Event → Option Origin
+origin_from window r v reader place [] = None
+origin_from window r v reader place (e ∷ events) =
+    or_before (origin_from window r v reader (place + 1) events)
+    (if puts_at window r v reader place e events then Some (origin_at window r v place e) else None)
+
+-- Of the window's events the last that puts the value into the register and is not the reader's, which has this number.
+abbrev pub origin_of : List Event → ℕ → ℕ → ℕ → Option Origin
+origin_of window r v reader = origin_from (transactions window) r v reader 0 window

@@ -1,0 +1,143 @@
+ghost use Rattle.std.specs.Prelude.{◌≡◌, ◌≤◌, ◌<◌, IfOk, IfSome, length};
+ghost use Rattle.tmw_part.specs.Origins.{fate_by, fate_of, next_of, number_at, origin_at, origin_of, puts, puts_at};
+ghost use Rattle.tmw_part.specs.Shown.{txn_of, txns_of};
+
+use crate::deeds::{is_some_of, left_by};
+use crate::follows::text_at;
+use crate::marks::owner;
+use crate::transaction::{Transaction, status_of, transactions};
+use std::alloc::{AllocError, Global};
+use tmw_defs::Status;
+use tmw_events::{Event, Ix, Kind};
+
+/// What became of a value that a transaction put into a register.
+#[derive(Clone, Copy, PartialEq, Eq, Debug)]
+pub enum Fate {
+    /// The transaction aborted.
+    GivenUp,
+    /// It had not asked to commit.
+    Unasked,
+    /// It left another value there.
+    Overwritten,
+    /// It left the value there, and committed or asked to.
+    Stays,
+}
+
+/// Where a value comes from.
+#[derive(Clone, Copy)]
+pub struct Origin {
+    /// The place in the window of the call that put it there.
+    pub place: usize,
+    /// The transaction's number in the window, from 1.
+    pub number: u64,
+    pub fate: Fate,
+}
+
+/// Whether the call, with what follows it in its thread, puts the value into the register.
+fn puts(register: Ix, value: u64, kind: Kind, next: Option<Kind>) -> bool
+    ensures { result ≡ puts register.number value kind next }
+{
+    match (kind, next) {
+        (Kind::W(other, written), _) => other == register && written == value,
+        (Kind::N(other, added), Some(Kind::V(found))) => {
+            other == register && found.wrapping_add(added) == value
+        }
+        _ => false,
+    }
+}
+
+/// The thread's first event among these.
+fn next_of(thread: Ix, events: &[Event]) -> Option<Kind>
+    ensures { result ≡ next_of thread.number events.now }
+{
+    let mut rest = events;
+    while let [event, more @ ..] = rest {
+        if event.thread == thread {
+            return Some(event.kind);
+        }
+        rest = more;
+    }
+    None
+}
+
+/// The number of the transaction in which the event of this thread at this place lies.
+fn number_at(window: &[Transaction], thread: Ix, place: usize) -> u64
+    ensures { result ≡ number_at (txns_of window.now) thread.number place }
+{
+    owner(window, thread, place, place) as u64 + 1
+}
+
+/// Whether the event at this place, before these, puts the value into the register and is not the reader's.
+fn puts_at(
+    window: &[Transaction],
+    register: Ix,
+    value: u64,
+    reader: u64,
+    place: usize,
+    event: &Event,
+    events: &[Event],
+) -> bool
+    ensures { result ≡ puts_at (txns_of window.now) register.number value reader place
+        event.now events.now }
+{
+    puts(register, value, event.kind, next_of(event.thread, events))
+        && number_at(window, event.thread, place) != reader
+}
+
+/// What became of what a transaction of this status put there, which at last left the value there or not.
+fn fate_by(status: Status, last: bool) -> Fate
+    ensures { result ≡ fate_by status last }
+{
+    match status {
+        Status::Aborted => Fate::GivenUp,
+        Status::Live => Fate::Unasked,
+        Status::Pending | Status::Committed => {
+            if last { Fate::Stays } else { Fate::Overwritten }
+        }
+    }
+}
+
+/// The origin of a value that the event at this place put into the register.
+fn origin_at(
+    window: &[Transaction],
+    register: Ix,
+    value: u64,
+    place: usize,
+    event: &Event,
+) -> Origin
+    ensures { result ≡ origin_at (txns_of window.now) register.number value place event.now }
+{
+    let text = text_at(window, owner(window, event.thread, place, place));
+    let last = is_some_of(value, left_by(register, text));
+    Origin {
+        place,
+        number: number_at(window, event.thread, place),
+        fate: fate_by(status_of(text), last),
+    }
+}
+
+/// Finds the last event of a window that puts the value into the register, unless it is that of the reader, the
+/// transaction of this number.
+pub fn find_origin(
+    alloc: Global,
+    events: &[Event],
+    register: Ix,
+    value: u64,
+    reader: u64,
+) -> Result<Option<Origin>, AllocError>
+    ensures is { IfOk result (λ found. found ≡ origin_of events.now register.number value reader) }
+    ensures within { IfOk result (λ found. IfSome found (λ origin. origin.place < length events.now)) }
+{
+    let window = transactions(alloc, events)?;
+    let mut found = None;
+    let mut place = 0;
+    let mut rest = events;
+    while let [event, more @ ..] = rest {
+        if puts_at(&window, register, value, reader, place, event, more) {
+            found = Some(origin_at(&window, register, value, place, event));
+        }
+        place += 1;
+        rest = more;
+    }
+    Ok(found)
+}

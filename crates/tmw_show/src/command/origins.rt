@@ -1,0 +1,114 @@
+//! The sentence that tells where a value comes from that no serial order explains.
+ghost use Rattle.std.specs.Prelude.{◌≡◌, ◌+◌, ◌<◌, ◌^◌, ◌++◌, IfOk, IfSome, OnOk, length, slice_get};
+ghost use Rattle.tmw_show.specs.Sentences.{fate_words, number_of, origin_words, put_words, read_from, told_by};
+
+use crate::command::word::{Phrase, Word};
+use std::alloc::{AllocError, Global};
+use tmw_events::{Event, Ix};
+use tmw_part::{Contradiction, Fate, Name, Origin, find_origin};
+
+/// What became of what a transaction put there.
+fn fate_words(alloc: Global, fate: Fate) -> Result<Vec<Word>, AllocError>
+    ensures { IfOk result (λ words. words.items ≡ fate_words fate) }
+{
+    let mut words = Vec::new(alloc);
+    match fate {
+        Fate::GivenUp => words.push(Word::Saying(Phrase::GivenUp))?,
+        Fate::Unasked => words.push(Word::Saying(Phrase::Unasked))?,
+        Fate::Overwritten => words.push(Word::Saying(Phrase::Overwritten))?,
+        Fate::Stays => {}
+    }
+    Ok(words)
+}
+
+/// Where a value comes from in a window before which so many events stand.
+fn origin_words(
+    alloc: Global,
+    from: u64,
+    register: Ix,
+    value: u64,
+    origin: Option<Origin>,
+) -> Result<Vec<Word>, AllocError>
+    requires { IfSome origin (λ found. from + (found.place + 1) < 2 ^ 64) }
+    ensures { IfOk result (λ words. words.items ≡ origin_words from register.number value origin) }
+{
+    let mut words = Vec::new(alloc);
+    let Some(origin) = origin else {
+        words.push(Word::Saying(Phrase::NoEvent))?;
+        push_put(&mut words, register, value)?;
+        return Ok(words);
+    };
+    words.push(Word::Name(origin.number))?;
+    words.push(Word::Saying(Phrase::Put))?;
+    push_put(&mut words, register, value)?;
+    words.push(Word::Saying(Phrase::AtEvent))?;
+    words.push(Word::Number(from + (origin.place as u64 + 1)))?;
+    words.extend_from_slice(&fate_words(alloc, origin.fate)?)?;
+    Ok(words)
+}
+
+/// Adds the value and into which register it was put.
+fn push_put(words: &mut Vec<Word>, register: Ix, value: u64) -> Result<(), AllocError>
+    ensures { OnOk result (words.new.items ≡ words.old.items ++ put_words value register.number) }
+{
+    words.push(Word::Number(value))?;
+    words.push(Word::Saying(Phrase::IntoRegister))?;
+    words.push(Word::Number(register.get() as u64))?;
+    Ok(())
+}
+
+/// The number of the transaction at this place of what is shown, or 0 if there is none.
+fn number_of(names: &[Name], place: usize) -> u64
+    ensures { result ≡ number_of (slice_get names.now place) }
+{
+    match names.get(place) {
+        Some(name) => name.number,
+        None => 0,
+    }
+}
+
+/// Where the value comes from that the transaction at this place of what is shown read.
+fn read_from(
+    alloc: Global,
+    from: u64,
+    names: &[Name],
+    events: &[Event],
+    reader: usize,
+    register: Ix,
+    value: u64,
+) -> Result<Vec<Word>, AllocError>
+    requires { from + length events.now < 2 ^ 64 }
+    ensures { IfOk result (λ words. words.items
+        ≡ read_from from names.now events.now reader register.number value) }
+{
+    let origin = find_origin(alloc, events, register, value, number_of(names, reader))?;
+    origin_words(alloc, from, register, value, origin)
+}
+
+/// Returns the words that tell where the value comes from of the read that no order explains, if what the steps come to
+/// has one. The window's first event has the number that follows `from`.
+pub fn told_by(
+    alloc: Global,
+    from: u64,
+    names: &[Name],
+    events: &[Event],
+    end: &Contradiction,
+) -> Result<Vec<Word>, AllocError>
+    requires { from + length events.now < 2 ^ 64 }
+    ensures { IfOk result (λ words. words.items ≡ told_by from names.now events.now end.now) }
+{
+    match *end {
+        Contradiction::Cycle(_place) => Ok(Vec::new(alloc)),
+        Contradiction::NoSource {
+            reader,
+            register,
+            value,
+        } => read_from(alloc, from, names, events, reader, register, value),
+        Contradiction::Unlike {
+            reader,
+            register,
+            expected: _expected,
+            read,
+        } => read_from(alloc, from, names, events, reader, register, read),
+    }
+}
