@@ -95,7 +95,7 @@ struct steps {
     uint64_t draws;
     uint64_t odds; /* by walk: one step in so many hands over; 0: by priorities */
     uint64_t priority[MOST_THREADS], lowest;
-    uint64_t changes, change[MOST_CHANGES]; /* at which steps of the round the runner gets the lowest priority, the last one first */
+    uint64_t changes, change[MOST_CHANGES]; /* after which steps of the round the runner gets the lowest priority */
     uint64_t step, spin;                    /* the round's steps, and the pauses since the runner's last call or turn */
     uint64_t length[2];                     /* about how many steps a round has, times 16: an even one, a mixed one */
     bool is_mixed;

@@ -115,10 +115,8 @@ static void step(tmwatch_attempt *a, unsigned pauses)
     if (pauses > 0)
         s->listed[s->inner++ % LISTED] = (struct listed){s->recorded, a->caller, a->thread};
     bool hands_over = s->spin > MOST_SPIN || (s->odds > 0 && draw(&s->draws, s->odds) == 0);
-    while (s->changes > 0 && s->change[s->changes - 1] < s->step) {
-        s->changes--;
-        hands_over = true;
-    }
+    for (unsigned i = 0; i < s->changes; i++)
+        hands_over = hands_over || s->change[i] + 1 == s->step;
     if (hands_over) {
         s->priority[a->thread] = --s->lowest;
         s->spin = 0;
@@ -133,13 +131,10 @@ static void step(tmwatch_attempt *a, unsigned pauses)
 /* Draws at which steps of the round the runner gets the lowest priority. */
 static void draw_changes(struct steps *s)
 {
-    uint64_t changes = draw(&s->draws, MOST_CHANGES), length = s->length[s->is_mixed] / 16;
-    for (s->changes = 0; s->changes < changes; s->changes++) {
-        uint64_t at = draw(&s->draws, length + length / 4 + 1), place = s->changes;
-        for (; place > 0 && s->change[place - 1] < at; place--)
-            s->change[place] = s->change[place - 1];
-        s->change[place] = at;
-    }
+    uint64_t length = s->length[s->is_mixed] / 16;
+    s->changes = draw(&s->draws, MOST_CHANGES);
+    for (unsigned i = 0; i < s->changes; i++)
+        s->change[i] = draw(&s->draws, length + length / 4 + 1);
 }
 
 /* Draws how the round goes. */
