@@ -59,7 +59,8 @@ static void keep(tmwatch_attempt *a, uint32_t status, uint64_t place, uint32_t l
     a->bench->kept[place % KEPT] = (struct kept){value, (uint8_t)a->thread, (uint8_t)reg, (char)letter, looks};
     if (by_steps(a->bench))
         a->bench->steps.recorded = place + 1;
-    a->recorded = place + 1;
+    if (a->looks && a->made <= FIRST_ATTEMPTS)
+        a->bench->rejected_at = place + 1;
     a->keeps++;
 }
 
@@ -252,12 +253,16 @@ static void make_share(tmwatch_attempt *a)
     }
 }
 
-/* Waits for the room that was planned for, so that no record waits inside a transaction. */
+/* So many events are recorded at most until room is asked for again: those of this round, of the one before, which others may still record,
+   and of a look; or by permits those of eight attempts. */
+enum { ATTEMPT_EVENTS = 4 * MOST_USES + 2, LOOK_EVENTS = 2 * MOST_REGISTERS + 2, ROOM = MOST_ATTEMPTS * (2 * ATTEMPT_EVENTS + LOOK_EVENTS) };
+
+/* Waits for room, so that no record waits inside a transaction. */
 static void wait_for_room(tmwatch_attempt *a)
 {
     struct bench *b = a->bench;
     uint32_t status = TMWATCH_FULL;
-    while (!b->stops && (status = tmwatch_room(a->recorder, b->room)) == TMWATCH_FULL)
+    while (!b->stops && (status = tmwatch_room(a->recorder, ROOM)) == TMWATCH_FULL)
         rest(b);
     /* The watch's 2^40 places come to their end: so do the rounds. */
     if (status == TMWATCH_SPENT)

@@ -28,6 +28,7 @@ enum {
     KEPT = 1 << 17,
     MOST_LOOKED = KEPT / 2, /* events of one look */
     LOOK = 64,
+    FIRST_ATTEMPTS = 8, /* of a look: what is written of one that is given up */
     STARTS = 1 << 13,
     LISTED = 1 << 14,
     STEPS_LEGS = 20,
@@ -65,7 +66,6 @@ struct tmwatch_attempt {
     atomic_uint_least64_t begun; /* by permits: how many transactions were begun */
     uint64_t written;     /* how many values were drawn to be written */
     atomic_uint_least64_t keeps; /* how many events it has kept: whoever reads this may read them */
-    uint64_t recorded;           /* how many events there were with its last one, by all threads */
     uint64_t look_from, look_began; /* how many it had kept when its look began, and when that was */
     uint64_t stores;      /* how many writes and adds were recorded */
     uint64_t before;      /* how many commits were asked for when the attempt began */
@@ -99,7 +99,6 @@ struct steps {
     uint64_t step, spin;                    /* the round's steps, and the pauses since the runner's last call or turn */
     uint64_t length[2];                     /* about how many steps a round has, times 16: an even one, a mixed one */
     bool is_mixed;
-    atomic_bool is_over;
     atomic_uint_least64_t steps, switches, rescues;
     sem_t go[MOST_THREADS];
     atomic_int tid[MOST_THREADS];
@@ -139,7 +138,7 @@ struct bench {
     struct session *session; /* of the judge alone: threads that are stuck outlive it */
     tmwatch_memory memory;
     tmwatch_plan plan;
-    uint64_t attempts, room;
+    uint64_t attempts;  /* how many a transaction has at most */
     uint64_t most_time; /* how many microseconds the leg may take; 0: any time */
     tmwatch watch;
     tmwatch_recorder recorders[MOST_THREADS];

@@ -79,12 +79,6 @@ static bool draw_mix(const struct bench *b, uint64_t *draws)
     return !by_permits(b) && b->plan.threads > 1 && draw(draws, 100) < b->plan.mixes;
 }
 
-/* How many registers the long transaction of a mixed round uses. */
-static uint64_t long_uses(const tmwatch_plan *plan)
-{
-    return 2 * plan->calls < MOST_USES ? 2 * plan->calls : MOST_USES;
-}
-
 /* Draws the thread's share of a round: whether that is mixed. Then all have eight attempts, of which the long transaction has one. */
 static bool draw_share(tmwatch_attempt *a)
 {
@@ -98,6 +92,9 @@ static bool draw_share(tmwatch_attempt *a)
     a->left = a->thread == first;
     for (unsigned i = 1; i < MOST_ATTEMPTS; i++)
         a->left += a->thread == (first + 1 + draw(&draws, others)) % threads;
-    a->uses = a->thread == first ? long_uses(plan) : 1 + draw(&a->draws, 2);
+    if (a->thread == first)
+        a->uses = 2 * plan->calls < MOST_USES ? 2 * plan->calls : MOST_USES;
+    else
+        a->uses = 1 + draw(&a->draws, 2);
     return true;
 }

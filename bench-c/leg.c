@@ -91,21 +91,6 @@ static uint32_t run_watched(struct bench *b, tmwatch_benched *out)
     return status;
 }
 
-/* Sets how many attempts a transaction has at most, and for how many events room is asked for. */
-static void set_bounds(struct bench *b)
-{
-    const tmwatch_plan *plan = &b->plan;
-    uint64_t uses = plan->mixes > 0 && !by_permits(b) ? long_uses(plan) : plan->calls;
-    uint64_t events = 4 * uses + 2, look_events = 2 * plan->registers + 2;
-    uint64_t all = by_permits(b) ? UINT64_MAX : MOST_ATTEMPTS / plan->threads;
-    b->attempts = plan->attempts > 0 ? plan->attempts : all;
-    /* By permits, those of eight attempts. Else those of this round, of the one before, which others may still record, and of a look. */
-    if (by_permits(b))
-        b->room = MOST_ATTEMPTS * (events > look_events ? events : look_events);
-    else
-        b->room = 2 * MOST_ATTEMPTS * events + b->attempts * look_events;
-}
-
 /* Runs a leg by this plan, and tells what came out. */
 static uint32_t run_leg(struct bench *b, struct session *session, const tmwatch_plan *plan, tmwatch_benched *out)
 {
@@ -114,7 +99,7 @@ static uint32_t run_leg(struct bench *b, struct session *session, const tmwatch_
     b->memory = *session->memory;
     b->plan = *plan;
     b->looked = session->looked;
-    set_bounds(b);
+    b->attempts = plan->attempts > 0 ? plan->attempts : by_permits(b) ? UINT64_MAX : MOST_ATTEMPTS / plan->threads;
     if (plan->orders == TMWATCH_CXX && by_steps(b) && !(b->orders = tmwatch_orders_new(plan->seed, &b->steps.recorded)))
         return TMWATCH_MEMORY;
     if (!start_threads(b) || !set_steps(b))

@@ -54,7 +54,7 @@ static void watch_steps(struct bench *b, uint64_t now)
     struct steps *s = &b->steps;
     uint64_t steps = s->steps;
     int runner = s->runner;
-    if (s->is_over || now - b->watchdog.looked < LOOK_MICROSECONDS)
+    if (b->is_over || now - b->watchdog.looked < LOOK_MICROSECONDS)
         return;
     b->watchdog.looked = now;
     if (!is_blocked(b, runner, steps))
