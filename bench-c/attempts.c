@@ -263,7 +263,7 @@ static void wait_for_room(tmwatch_attempt *a)
     struct bench *b = a->bench;
     uint32_t status = TMWATCH_FULL;
     while (!b->stops && (status = tmwatch_room(a->recorder, ROOM)) == TMWATCH_FULL)
-        rest(b);
+        nap(REST);
     /* The watch's 2^40 places come to their end: so do the rounds. */
     if (status == TMWATCH_SPENT)
         b->stops = true;

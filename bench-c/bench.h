@@ -138,7 +138,6 @@ struct bench {
     struct session *session; /* of the judge alone: threads that are stuck outlive it */
     tmwatch_memory memory;
     tmwatch_plan plan;
-    uint64_t attempts;  /* how many a transaction has at most */
     uint64_t most_time; /* how many microseconds the leg may take; 0: any time */
     tmwatch watch;
     tmwatch_recorder recorders[MOST_THREADS];

@@ -69,7 +69,7 @@ static void judge(struct bench *b)
     while (b->ended < b->plan.threads && !b->is_stuck) {
         uint64_t judged = judge_some(b);
         if (judged == 0)
-            rest(b);
+            nap(REST);
         uint64_t now = microseconds_of(CLOCK_MONOTONIC);
         if (by_steps(b))
             watch_steps(b, now);

@@ -31,18 +31,6 @@ static uint32_t close_watch(struct bench *b, tmwatch_benched *out)
     return status;
 }
 
-/* Adds up what the threads have counted. */
-static void count_threads(struct bench *b, tmwatch_benched *out)
-{
-    for (unsigned i = 0; i < b->plan.threads; i++) {
-        const tmwatch_attempt *a = &b->parts[i];
-        out->stores += a->stores;
-        out->foreign = a->foreign > out->foreign ? a->foreign : out->foreign;
-        out->is_undelayed = out->is_undelayed || a->how.is_undelayed;
-        b->session->written[i] = a->written;
-    }
-}
-
 /* The C library's, in a program that wraps it. */
 extern int __real_pthread_mutex_lock(pthread_mutex_t *mutex) __attribute__((weak));
 
@@ -83,7 +71,13 @@ static uint32_t run_watched(struct bench *b, tmwatch_benched *out)
     b->session->is_stuck = b->is_stuck;
     b->session->has_steps = b->session->has_steps || b->steps.inner > 0;
     b->session->looked = b->looked;
-    count_threads(b, out);
+    for (unsigned i = 0; i < b->plan.threads; i++) {
+        const tmwatch_attempt *a = &b->parts[i];
+        out->stores += a->stores;
+        out->foreign = a->foreign > out->foreign ? a->foreign : out->foreign;
+        out->is_undelayed = out->is_undelayed || a->how.is_undelayed;
+        b->session->written[i] = a->written;
+    }
     if (b->orders)
         tell_orders(b, out);
     if (status == TMWATCH_DONE && (b->is_stuck || out->rejected > 0))
@@ -99,7 +93,6 @@ static uint32_t run_leg(struct bench *b, struct session *session, const tmwatch_
     b->memory = *session->memory;
     b->plan = *plan;
     b->looked = session->looked;
-    b->attempts = plan->attempts > 0 ? plan->attempts : by_permits(b) ? UINT64_MAX : MOST_ATTEMPTS / plan->threads;
     if (plan->orders == TMWATCH_CXX && by_steps(b) && !(b->orders = tmwatch_orders_new(plan->seed, &b->steps.recorded)))
         return TMWATCH_MEMORY;
     if (!start_threads(b) || !set_steps(b))

@@ -16,15 +16,6 @@ static bool by_steps(const struct bench *b)
     return b->plan.schedule == TMWATCH_STEPS;
 }
 
-/* Lets others run. */
-static void rest(const struct bench *b)
-{
-    if (by_steps(b))
-        nap(50);
-    else
-        sched_yield();
-}
-
 /* What a plan may leave to be drawn: where it stands, what it is where nothing is drawn, and its range. */
 static const struct drawn {
     size_t to;
