@@ -129,8 +129,7 @@ struct session {
     uint64_t written[MOST_THREADS], looked;
     uint64_t start[MOST_REGISTERS]; /* what the registers hold */
     uint64_t began, shown;          /* when the session began, and when its progress was last shown: microseconds */
-    bool is_late, is_stuck;         /* the time is up, or an interrupt has come; threads have not returned */
-    bool has_steps;                 /* the memory has steps of its own */
+    bool is_stuck, has_steps;       /* no event has come for too long; the memory has steps of its own */
     tmwatch_benched all;            /* of all legs before this one */
 };
 
@@ -158,7 +157,6 @@ struct bench {
     atomic_bool stops, is_late;  /* no round is to follow, since something is wrong, or since the time is up */
     atomic_bool has_no_time;     /* no leg is to follow, since the time of all is up */
     atomic_bool is_over;         /* no round follows */
-    bool is_stuck;               /* no event has come for too long */
     uint64_t idle, moved;        /* for how many microseconds; and how far the rounds were at the judge's last look */
     atomic_uint_least64_t asked, committed; /* how many commits are recorded, or about to be; and how many are recorded */
     atomic_uint refused, stored; /* since the last look, which registers were written by attempts that were rolled back, or committed */

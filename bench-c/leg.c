@@ -4,7 +4,7 @@
 static uint64_t count_rounds(const struct bench *b, const tmwatch_told *told)
 {
     uint64_t rounds = UINT64_MAX;
-    if (by_steps(b) && (told->at > 0 || b->is_stuck))
+    if (by_steps(b) && (told->at > 0 || b->session->is_stuck))
         return told->at > 0 ? round_of(b, told->at) : b->round;
     if (!by_permits(b))
         return b->round > 0 ? b->round - 1 : 0;
@@ -21,7 +21,7 @@ static uint32_t close_watch(struct bench *b, tmwatch_benched *out)
     uint32_t status = b->fault;
     if (status == TMWATCH_DONE)
         status = tmwatch_summary(&b->watch, &out->counts);
-    if (b->is_stuck)
+    if (b->session->is_stuck)
         return status == TMWATCH_DONE ? tmwatch_report(&b->watch, &out->told) : status;
     if (status == TMWATCH_DONE)
         status = tmwatch_close(&b->watch, b->recorders, b->plan.threads, &out->told);
@@ -41,14 +41,14 @@ enum { MOST_ACCESS = 10000 };
 static void tell_orders(struct bench *b, tmwatch_benched *out)
 {
     FILE *file = fmemopen(out->shown, sizeof out->shown, "w");
-    bool is_wrong = out->told.verdict == TMWATCH_VIOLATED || b->is_stuck;
+    bool is_wrong = out->told.verdict == TMWATCH_VIOLATED || b->session->is_stuck;
     if (!file)
         return;
     b->is_told = true;
-    if (b->is_stuck)
+    if (b->session->is_stuck)
         nap(MOST_ACCESS);
     if (is_wrong)
-        tmwatch_orders_tell(b->orders, file, b->steps.starts[out->rounds % STARTS], b->is_stuck ? UINT64_MAX : out->told.at);
+        tmwatch_orders_tell(b->orders, file, b->steps.starts[out->rounds % STARTS], b->session->is_stuck ? UINT64_MAX : out->told.at);
     tmwatch_orders_tell_unseen(b->orders, file, is_wrong);
     if (is_wrong && !__real_pthread_mutex_lock)
         fputs("what locks of pthread order, if the memory has any, is not seen: the program is linked without --wrap=.. (tmwatch_steps.pc)\n",
@@ -68,7 +68,6 @@ static uint32_t run_watched(struct bench *b, tmwatch_benched *out)
     out->rescues = b->steps.rescues;
     out->rejected = out->told.verdict == TMWATCH_OPAQUE_SO_FAR ? b->rejected : 0;
     out->event = by_steps(b) && out->told.at > 0 ? out->told.at - b->steps.starts[out->rounds % STARTS] : 0;
-    b->session->is_stuck = b->is_stuck;
     b->session->has_steps = b->session->has_steps || b->steps.inner > 0;
     b->session->looked = b->looked;
     for (unsigned i = 0; i < b->plan.threads; i++) {
@@ -80,7 +79,7 @@ static uint32_t run_watched(struct bench *b, tmwatch_benched *out)
     }
     if (b->orders)
         tell_orders(b, out);
-    if (status == TMWATCH_DONE && (b->is_stuck || out->rejected > 0))
+    if (status == TMWATCH_DONE && (b->session->is_stuck || out->rejected > 0))
         tell_lost(b);
     return status;
 }
@@ -102,7 +101,7 @@ static uint32_t run_leg(struct bench *b, struct session *session, const tmwatch_
     uint32_t status = tmwatch_open(&b->watch, b->recorders, plan->threads, &settings);
     if (status == TMWATCH_DONE)
         status = run_watched(b, out);
-    if (b->orders && !b->is_stuck)
+    if (b->orders && !b->session->is_stuck)
         tmwatch_orders_discard(b->orders);
     return status;
 }

@@ -122,13 +122,13 @@ static bool is_left_out(const tmwatch_plan *plan, size_t to)
     return to == TO(patience);
 }
 
-void tmwatch_bench_words(FILE *file, const tmwatch_plan *given)
+void tmwatch_bench_words(FILE *file, const tmwatch_plan *plan)
 {
-    tmwatch_plan plan = *given, usual = TMWATCH_PLAN;
+    const tmwatch_plan usual = TMWATCH_PLAN;
     const char *before = "";
     for (const struct option *option = options; option->to != SIZE_MAX; option++) {
-        uint64_t number = *number_of(&plan, option->to);
-        if (is_left_out(&plan, option->to) || (number == *number_of(&usual, option->to) && option->to != TO(seed)))
+        uint64_t number = *number_of(plan, option->to);
+        if (is_left_out(plan, option->to) || (number == *number_of(&usual, option->to) && option->to != TO(seed)))
             continue;
         fprintf(file, "%s%s", before, option->name);
         if (choices_of(option->to))

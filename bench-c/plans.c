@@ -1,9 +1,9 @@
 /* A plan: what it leaves to be drawn, by which schedule it goes, and whether it can be run. */
 
 /* The number that stands there in a plan, or in what came out. */
-static uint64_t *number_of(void *it, size_t at)
+static uint64_t *number_of(const void *it, size_t at)
 {
-    return (uint64_t *)(void *)((char *)it + at);
+    return (uint64_t *)((uintptr_t)it + at);
 }
 
 static bool by_permits(const struct bench *b)
@@ -55,7 +55,7 @@ static bool has_orders(const tmwatch_plan *plan)
 }
 
 /* Whether a number of the plan is out of its range. */
-static bool is_out_of_range(tmwatch_plan *plan)
+static bool is_out_of_range(const tmwatch_plan *plan)
 {
     uint64_t most_attempts = plan->schedule == TMWATCH_PERMITS ? UINT64_MAX : MOST_ATTEMPTS / plan->threads;
     uint64_t most_round = plan->schedule == TMWATCH_STEPS ? UINT64_MAX : plan->schedule == TMWATCH_ALL ? STEPS_LEGS * LEG_ROUNDS : 0;
@@ -69,7 +69,7 @@ static bool is_out_of_range(tmwatch_plan *plan)
 /* Looks at what no watch looks at. */
 static uint32_t check(const tmwatch_memory *memory, const tmwatch_plan *given)
 {
-    tmwatch_plan plan = filled_plan(given, NULL);
+    const tmwatch_plan plan = filled_plan(given, NULL);
     if (missing_function(memory))
         return TMWATCH_MISSING;
     if (plan.threads < 1 || plan.threads > MOST_THREADS)
