@@ -47,14 +47,20 @@ unsigned tmwatch_thread(void)
     return this_thread ? this_thread->thread : 0;
 }
 
-/* Keeps an event that was recorded at this place, after what is counted of it. */
-static void keep(tmwatch_attempt *a, uint64_t place, uint32_t letter, uint64_t reg, uint64_t value)
+/* Keeps an event that was recorded at this place, if the watch has answered so, after what is counted of it. */
+static void keep(tmwatch_attempt *a, uint32_t status, uint64_t place, uint32_t letter, uint64_t reg, uint64_t value)
 {
     bool looks = a->looks && letter == 'C' && a->calls[0].letter == 'R';
+    if (status != TMWATCH_DONE) {
+        stop(a->bench, status);
+        return;
+    }
+    a->stores += letter == 'W' || letter == 'N';
     a->bench->kept[place % KEPT] = (struct kept){value, (uint8_t)a->thread, (uint8_t)reg, (char)letter, looks};
     if (by_steps(a->bench))
         a->bench->steps.recorded = place + 1;
-    a->recorded = place + 1;
+    if (a->looks && a->made <= FIRST_ATTEMPTS)
+        a->bench->rejected_at = place + 1;
     a->keeps++;
 }
 
@@ -76,15 +82,11 @@ static void set_place(tmwatch_attempt *a, enum place place, unsigned reg)
 /* Records the attempt's next call. There is room for it: the thread has asked for all of the round, or the attempt, before that began. */
 static void note_call(tmwatch_attempt *a)
 {
-    uint64_t place;
+    uint64_t place = 0;
+    const tmwatch_call *call = &a->calls[a->turn.place];
     before_event(a->bench);
     uint32_t status = tmwatch_next(a->recorder, a->calls, a->count, &a->turn, &place);
-    if (status == TMWATCH_DONE) {
-        const tmwatch_call *call = &a->calls[a->turn.place];
-        a->stores += call->letter == 'W' || call->letter == 'N';
-        keep(a, place, call->letter, call->register_number, call->value);
-    } else
-        stop(a->bench, status);
+    keep(a, status, place, call->letter, call->register_number, call->value);
     if (a->turn.place == 0) {
         a->before = a->bench->asked;
         if (a->bench->orders)
@@ -96,13 +98,10 @@ static void note_call(tmwatch_attempt *a)
 /* Records the answer to the call that waits for it. There is room as for the call. */
 static void note_answer(tmwatch_attempt *a, char letter, uint64_t value)
 {
-    uint64_t place;
+    uint64_t place = 0;
     before_event(a->bench);
     uint32_t status = tmwatch_answered(a->recorder, a->calls, a->count, &a->turn, (uint32_t)letter, value, &place);
-    if (status == TMWATCH_DONE)
-        keep(a, place, (uint32_t)letter, 0, value);
-    else
-        stop(a->bench, status);
+    keep(a, status, place, (uint32_t)letter, 0, value);
 }
 
 /* Records that the attempt has ended. None follows one that has committed, or was asked to abort. */
@@ -129,11 +128,6 @@ static void end_attempt(tmwatch_attempt *a, bool has_committed)
 static bool may_look(tmwatch_attempt *a);
 static bool take_permit(tmwatch_attempt *a);
 
-static bool is_look_due(const struct bench *b)
-{
-    return b->attempted >= b->next_look;
-}
-
 /* Whether a further attempt may begin. By permits it is put off if a look is due, which then comes between two attempts. */
 static bool may_begin(tmwatch_attempt *a)
 {
@@ -141,7 +135,7 @@ static bool may_begin(tmwatch_attempt *a)
         return false;
     if (a->looks || !by_permits(a->bench))
         return !a->looks || may_look(a);
-    a->is_put_off = a->made > 0 && is_look_due(a->bench);
+    a->is_put_off = a->made > 0 && a->bench->attempted >= a->bench->next_look;
     return !a->is_put_off && take_permit(a);
 }
 
@@ -259,13 +253,17 @@ static void make_share(tmwatch_attempt *a)
     }
 }
 
-/* Waits for the room that was planned for, so that no record waits inside a transaction. */
+/* So many events are recorded at most until room is asked for again: those of this round, of the one before, which others may still record,
+   and of a look; or by permits those of eight attempts. */
+enum { ATTEMPT_EVENTS = 4 * MOST_USES + 2, LOOK_EVENTS = 2 * MOST_REGISTERS + 2, ROOM = MOST_ATTEMPTS * (2 * ATTEMPT_EVENTS + LOOK_EVENTS) };
+
+/* Waits for room, so that no record waits inside a transaction. */
 static void wait_for_room(tmwatch_attempt *a)
 {
     struct bench *b = a->bench;
     uint32_t status = TMWATCH_FULL;
-    while (!b->stops && (status = tmwatch_room(a->recorder, b->room)) == TMWATCH_FULL)
-        rest(b);
+    while (!b->stops && (status = tmwatch_room(a->recorder, ROOM)) == TMWATCH_FULL)
+        nap(REST);
     /* The watch's 2^40 places come to their end: so do the rounds. */
     if (status == TMWATCH_SPENT)
         b->stops = true;

@@ -28,6 +28,7 @@ enum {
     KEPT = 1 << 17,
     MOST_LOOKED = KEPT / 2, /* events of one look */
     LOOK = 64,
+    FIRST_ATTEMPTS = 8, /* of a look: what is written of one that is given up */
     STARTS = 1 << 13,
     LISTED = 1 << 14,
     STEPS_LEGS = 20,
@@ -65,7 +66,6 @@ struct tmwatch_attempt {
     atomic_uint_least64_t begun; /* by permits: how many transactions were begun */
     uint64_t written;     /* how many values were drawn to be written */
     atomic_uint_least64_t keeps; /* how many events it has kept: whoever reads this may read them */
-    uint64_t recorded;           /* how many events there were with its last one, by all threads */
     uint64_t look_from, look_began; /* how many it had kept when its look began, and when that was */
     uint64_t stores;      /* how many writes and adds were recorded */
     uint64_t before;      /* how many commits were asked for when the attempt began */
@@ -95,11 +95,10 @@ struct steps {
     uint64_t draws;
     uint64_t odds; /* by walk: one step in so many hands over; 0: by priorities */
     uint64_t priority[MOST_THREADS], lowest;
-    uint64_t changes, change[MOST_CHANGES]; /* at which steps of the round the runner gets the lowest priority, the last one first */
+    uint64_t changes, change[MOST_CHANGES]; /* after which steps of the round the runner gets the lowest priority */
     uint64_t step, spin;                    /* the round's steps, and the pauses since the runner's last call or turn */
     uint64_t length[2];                     /* about how many steps a round has, times 16: an even one, a mixed one */
     bool is_mixed;
-    atomic_bool is_over;
     atomic_uint_least64_t steps, switches, rescues;
     sem_t go[MOST_THREADS];
     atomic_int tid[MOST_THREADS];
@@ -130,8 +129,7 @@ struct session {
     uint64_t written[MOST_THREADS], looked;
     uint64_t start[MOST_REGISTERS]; /* what the registers hold */
     uint64_t began, shown;          /* when the session began, and when its progress was last shown: microseconds */
-    bool is_late, is_stuck;         /* the time is up, or an interrupt has come; threads have not returned */
-    bool has_steps;                 /* the memory has steps of its own */
+    bool is_stuck, has_steps;       /* no event has come for too long; the memory has steps of its own */
     tmwatch_benched all;            /* of all legs before this one */
 };
 
@@ -139,7 +137,6 @@ struct bench {
     struct session *session; /* of the judge alone: threads that are stuck outlive it */
     tmwatch_memory memory;
     tmwatch_plan plan;
-    uint64_t attempts, room;
     uint64_t most_time; /* how many microseconds the leg may take; 0: any time */
     tmwatch watch;
     tmwatch_recorder recorders[MOST_THREADS];
@@ -160,7 +157,6 @@ struct bench {
     atomic_bool stops, is_late;  /* no round is to follow, since something is wrong, or since the time is up */
     atomic_bool has_no_time;     /* no leg is to follow, since the time of all is up */
     atomic_bool is_over;         /* no round follows */
-    bool is_stuck;               /* no event has come for too long */
     uint64_t idle, moved;        /* for how many microseconds; and how far the rounds were at the judge's last look */
     atomic_uint_least64_t asked, committed; /* how many commits are recorded, or about to be; and how many are recorded */
     atomic_uint refused, stored; /* since the last look, which registers were written by attempts that were rolled back, or committed */

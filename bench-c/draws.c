@@ -30,18 +30,13 @@ static uint64_t fresh_value(tmwatch_attempt *a)
     return value;
 }
 
-/* A value that a look writes: of the other half of those numbers. */
-static uint64_t look_value(struct bench *b)
-{
-    return ((UINT64_C(1) << 63) + ++b->looked) * apart_values;
-}
-
-/* Draws what an attempt writes and adds: other values than the one before. With addends below 2^64 - 1, hardly a sum comes twice. */
+/* Draws what an attempt writes and adds: other values than the one before. A look writes of the other half of those numbers. With addends
+   below 2^64 - 1, hardly a sum comes twice. */
 static void draw_values(tmwatch_attempt *a)
 {
     for (tmwatch_call *call = a->calls; call < a->calls + a->count; call++)
         if (call->letter == 'W')
-            call->value = a->looks ? look_value(a->bench) : fresh_value(a);
+            call->value = a->looks ? ((UINT64_C(1) << 63) + ++a->bench->looked) * apart_values : fresh_value(a);
         else if (call->letter == 'N')
             call->value = draw(&a->addends, UINT64_MAX);
 }
@@ -79,25 +74,22 @@ static bool draw_mix(const struct bench *b, uint64_t *draws)
     return !by_permits(b) && b->plan.threads > 1 && draw(draws, 100) < b->plan.mixes;
 }
 
-/* How many registers the long transaction of a mixed round uses. */
-static uint64_t long_uses(const tmwatch_plan *plan)
-{
-    return 2 * plan->calls < MOST_USES ? 2 * plan->calls : MOST_USES;
-}
-
 /* Draws the thread's share of a round: whether that is mixed. Then all have eight attempts, of which the long transaction has one. */
 static bool draw_share(tmwatch_attempt *a)
 {
     const tmwatch_plan *plan = &a->bench->plan;
     uint64_t draws, threads = plan->threads;
     a->uses = plan->calls;
-    a->left = a->bench->attempts;
+    a->left = plan->attempts > 0 ? plan->attempts : by_permits(a->bench) ? UINT64_MAX : MOST_ATTEMPTS / threads;
     if (!draw_mix(a->bench, &draws))
         return false;
     uint64_t first = draw(&draws, threads), others = 1 + draw(&draws, threads - 1);
     a->left = a->thread == first;
     for (unsigned i = 1; i < MOST_ATTEMPTS; i++)
         a->left += a->thread == (first + 1 + draw(&draws, others)) % threads;
-    a->uses = a->thread == first ? long_uses(plan) : 1 + draw(&a->draws, 2);
+    if (a->thread == first)
+        a->uses = 2 * plan->calls < MOST_USES ? 2 * plan->calls : MOST_USES;
+    else
+        a->uses = 1 + draw(&a->draws, 2);
     return true;
 }

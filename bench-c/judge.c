@@ -55,10 +55,9 @@ static void show_progress(struct bench *b, uint64_t now)
 /* Looks whether the leg's time is up, or that of all. */
 static void look_for_end(struct bench *b, uint64_t leg_began, uint64_t now)
 {
-    struct session *session = b->session;
-    if (is_interrupted || (b->plan.seconds > 0 && (now - session->began) / SECOND >= b->plan.seconds))
-        b->has_no_time = session->is_late = true;
-    if (session->is_late || (b->most_time > 0 && now - leg_began >= b->most_time))
+    if (is_interrupted || (b->plan.seconds > 0 && (now - b->session->began) / SECOND >= b->plan.seconds))
+        b->has_no_time = true;
+    if (b->has_no_time || (b->most_time > 0 && now - leg_began >= b->most_time))
         b->is_late = true;
 }
 
@@ -66,20 +65,20 @@ static void look_for_end(struct bench *b, uint64_t leg_began, uint64_t now)
 static void judge(struct bench *b)
 {
     uint64_t began = microseconds_of(CLOCK_MONOTONIC), looked = began;
-    while (b->ended < b->plan.threads && !b->is_stuck) {
+    while (b->ended < b->plan.threads && !b->session->is_stuck) {
         uint64_t judged = judge_some(b);
         if (judged == 0)
-            rest(b);
+            nap(REST);
         uint64_t now = microseconds_of(CLOCK_MONOTONIC);
         if (by_steps(b))
             watch_steps(b, now);
-        b->is_stuck = is_idle(b, now - looked, judged);
+        b->session->is_stuck = is_idle(b, now - looked, judged);
         looked = now;
         show_progress(b, now);
         look_for_end(b, began, now);
     }
     /* What is stuck may come back: then it ends. */
-    if (b->is_stuck)
+    if (b->session->is_stuck)
         b->stops = true;
     while (judge_some(b) > 0)
         ;
@@ -111,7 +110,7 @@ static void tell_lost(struct bench *b)
 {
     if (b->plan.progress)
         fputs("\r\033[K", b->plan.progress);
-    if (b->is_stuck) {
+    if (b->session->is_stuck) {
         tell_places(b);
         return;
     }

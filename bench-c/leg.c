@@ -4,7 +4,7 @@
 static uint64_t count_rounds(const struct bench *b, const tmwatch_told *told)
 {
     uint64_t rounds = UINT64_MAX;
-    if (by_steps(b) && (told->at > 0 || b->is_stuck))
+    if (by_steps(b) && (told->at > 0 || b->session->is_stuck))
         return told->at > 0 ? round_of(b, told->at) : b->round;
     if (!by_permits(b))
         return b->round > 0 ? b->round - 1 : 0;
@@ -21,7 +21,7 @@ static uint32_t close_watch(struct bench *b, tmwatch_benched *out)
     uint32_t status = b->fault;
     if (status == TMWATCH_DONE)
         status = tmwatch_summary(&b->watch, &out->counts);
-    if (b->is_stuck)
+    if (b->session->is_stuck)
         return status == TMWATCH_DONE ? tmwatch_report(&b->watch, &out->told) : status;
     if (status == TMWATCH_DONE)
         status = tmwatch_close(&b->watch, b->recorders, b->plan.threads, &out->told);
@@ -29,18 +29,6 @@ static uint32_t close_watch(struct bench *b, tmwatch_benched *out)
         tmwatch_discard_recorder(&b->recorders[i]);
     tmwatch_discard(&b->watch);
     return status;
-}
-
-/* Adds up what the threads have counted. */
-static void count_threads(struct bench *b, tmwatch_benched *out)
-{
-    for (unsigned i = 0; i < b->plan.threads; i++) {
-        const tmwatch_attempt *a = &b->parts[i];
-        out->stores += a->stores;
-        out->foreign = a->foreign > out->foreign ? a->foreign : out->foreign;
-        out->is_undelayed = out->is_undelayed || a->how.is_undelayed;
-        b->session->written[i] = a->written;
-    }
 }
 
 /* The C library's, in a program that wraps it. */
@@ -53,14 +41,14 @@ enum { MOST_ACCESS = 10000 };
 static void tell_orders(struct bench *b, tmwatch_benched *out)
 {
     FILE *file = fmemopen(out->shown, sizeof out->shown, "w");
-    bool is_wrong = out->told.verdict == TMWATCH_VIOLATED || b->is_stuck;
+    bool is_wrong = out->told.verdict == TMWATCH_VIOLATED || b->session->is_stuck;
     if (!file)
         return;
     b->is_told = true;
-    if (b->is_stuck)
+    if (b->session->is_stuck)
         nap(MOST_ACCESS);
     if (is_wrong)
-        tmwatch_orders_tell(b->orders, file, b->steps.starts[out->rounds % STARTS], b->is_stuck ? UINT64_MAX : out->told.at);
+        tmwatch_orders_tell(b->orders, file, b->steps.starts[out->rounds % STARTS], b->session->is_stuck ? UINT64_MAX : out->told.at);
     tmwatch_orders_tell_unseen(b->orders, file, is_wrong);
     if (is_wrong && !__real_pthread_mutex_lock)
         fputs("what locks of pthread order, if the memory has any, is not seen: the program is linked without --wrap=.. (tmwatch_steps.pc)\n",
@@ -80,30 +68,20 @@ static uint32_t run_watched(struct bench *b, tmwatch_benched *out)
     out->rescues = b->steps.rescues;
     out->rejected = out->told.verdict == TMWATCH_OPAQUE_SO_FAR ? b->rejected : 0;
     out->event = by_steps(b) && out->told.at > 0 ? out->told.at - b->steps.starts[out->rounds % STARTS] : 0;
-    b->session->is_stuck = b->is_stuck;
     b->session->has_steps = b->session->has_steps || b->steps.inner > 0;
     b->session->looked = b->looked;
-    count_threads(b, out);
+    for (unsigned i = 0; i < b->plan.threads; i++) {
+        const tmwatch_attempt *a = &b->parts[i];
+        out->stores += a->stores;
+        out->foreign = a->foreign > out->foreign ? a->foreign : out->foreign;
+        out->is_undelayed = out->is_undelayed || a->how.is_undelayed;
+        b->session->written[i] = a->written;
+    }
     if (b->orders)
         tell_orders(b, out);
-    if (status == TMWATCH_DONE && (b->is_stuck || out->rejected > 0))
+    if (status == TMWATCH_DONE && (b->session->is_stuck || out->rejected > 0))
         tell_lost(b);
     return status;
-}
-
-/* Sets how many attempts a transaction has at most, and for how many events room is asked for. */
-static void set_bounds(struct bench *b)
-{
-    const tmwatch_plan *plan = &b->plan;
-    uint64_t uses = plan->mixes > 0 && !by_permits(b) ? long_uses(plan) : plan->calls;
-    uint64_t events = 4 * uses + 2, look_events = 2 * plan->registers + 2;
-    uint64_t all = by_permits(b) ? UINT64_MAX : MOST_ATTEMPTS / plan->threads;
-    b->attempts = plan->attempts > 0 ? plan->attempts : all;
-    /* By permits, those of eight attempts. Else those of this round, of the one before, which others may still record, and of a look. */
-    if (by_permits(b))
-        b->room = MOST_ATTEMPTS * (events > look_events ? events : look_events);
-    else
-        b->room = 2 * MOST_ATTEMPTS * events + b->attempts * look_events;
 }
 
 /* Runs a leg by this plan, and tells what came out. */
@@ -114,7 +92,6 @@ static uint32_t run_leg(struct bench *b, struct session *session, const tmwatch_
     b->memory = *session->memory;
     b->plan = *plan;
     b->looked = session->looked;
-    set_bounds(b);
     if (plan->orders == TMWATCH_CXX && by_steps(b) && !(b->orders = tmwatch_orders_new(plan->seed, &b->steps.recorded)))
         return TMWATCH_MEMORY;
     if (!start_threads(b) || !set_steps(b))
@@ -124,7 +101,7 @@ static uint32_t run_leg(struct bench *b, struct session *session, const tmwatch_
     uint32_t status = tmwatch_open(&b->watch, b->recorders, plan->threads, &settings);
     if (status == TMWATCH_DONE)
         status = run_watched(b, out);
-    if (b->orders && !b->is_stuck)
+    if (b->orders && !b->session->is_stuck)
         tmwatch_orders_discard(b->orders);
     return status;
 }

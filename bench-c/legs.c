@@ -155,7 +155,7 @@ static uint32_t run_legs(struct session *session)
         add_leg(all, &out);
         set_again(session, &it, leg++, &out);
         goes_on = status == TMWATCH_DONE && plan->schedule == TMWATCH_ALL && out.told.verdict == TMWATCH_OPAQUE_SO_FAR &&
-                  !session->is_late && !session->is_stuck && out.rejected == 0 && all->rounds < plan->rounds &&
+                  !b->has_no_time && !session->is_stuck && out.rejected == 0 && all->rounds < plan->rounds &&
                   keep_start(b, out.told.events);
         if (!goes_on && status == TMWATCH_DONE) {
             write_end(session, b, &out, before);

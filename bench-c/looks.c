@@ -4,14 +4,12 @@
    and again, the memory has lost progress, as by a lock that is left held. */
 
 /* A look is given up after FEW attempts that took LONG, or after so many events that the look before it is still kept. */
-enum { FIRST_ATTEMPTS = 8, FEW = 200, LONG = 3 * SECOND };
+enum { FEW = 200, LONG = 3 * SECOND };
 
 /* Whether the look is given up that was rolled back just now. Once the time of all is up, that says nothing of the memory. */
 static bool gives_up(tmwatch_attempt *a)
 {
     struct bench *b = a->bench;
-    if (a->made <= FIRST_ATTEMPTS)
-        b->rejected_at = a->recorded;
     if (b->stops || b->has_no_time)
         return true;
     bool is_long = a->made >= FEW && microseconds_of(CLOCK_MONOTONIC) - a->look_began >= LONG;

@@ -43,24 +43,16 @@ static const struct option options[] = {
     {"--quiet", "", SIZE_MAX, "no progress on a terminal"},
     {NULL, NULL, SIZE_MAX, NULL}};
 
-/* The word's number, if it is one of at most 20 digits that fits. */
-static bool read_number(const char *word, uint64_t *number)
-{
-    size_t digits = strspn(word, "0123456789");
-    if (digits == 0 || word[digits] != '\0')
-        return false;
-    errno = 0;
-    unsigned long long it = strtoull(word, NULL, 10);
-    *number = it;
-    return errno == 0;
-}
-
-/* The word's number, or that of the choice which it names. */
+/* The word's number, if it is one that fits, or that of the choice which it names. */
 static bool read_value(const struct option *option, const char *word, uint64_t *number)
 {
     const char *const *choices = choices_of(option->to);
-    if (!choices)
-        return read_number(word, number);
+    size_t digits = strspn(word, "0123456789");
+    if (!choices) {
+        errno = 0;
+        *number = strtoull(word, NULL, 10);
+        return digits > 0 && word[digits] == '\0' && errno == 0;
+    }
     for (*number = 0; choices[*number]; ++*number)
         if (strcmp(word, choices[*number]) == 0)
             return true;
@@ -130,13 +122,13 @@ static bool is_left_out(const tmwatch_plan *plan, size_t to)
     return to == TO(patience);
 }
 
-void tmwatch_bench_words(FILE *file, const tmwatch_plan *given)
+void tmwatch_bench_words(FILE *file, const tmwatch_plan *plan)
 {
-    tmwatch_plan plan = *given, usual = TMWATCH_PLAN;
+    const tmwatch_plan usual = TMWATCH_PLAN;
     const char *before = "";
     for (const struct option *option = options; option->to != SIZE_MAX; option++) {
-        uint64_t number = *number_of(&plan, option->to);
-        if (is_left_out(&plan, option->to) || (number == *number_of(&usual, option->to) && option->to != TO(seed)))
+        uint64_t number = *number_of(plan, option->to);
+        if (is_left_out(plan, option->to) || (number == *number_of(&usual, option->to) && option->to != TO(seed)))
             continue;
         fprintf(file, "%s%s", before, option->name);
         if (choices_of(option->to))

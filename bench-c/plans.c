@@ -1,11 +1,9 @@
 /* A plan: what it leaves to be drawn, by which schedule it goes, and whether it can be run. */
 
-static const uint64_t most_pause = 1 << 20;
-
 /* The number that stands there in a plan, or in what came out. */
-static uint64_t *number_of(void *it, size_t at)
+static uint64_t *number_of(const void *it, size_t at)
 {
-    return (uint64_t *)(void *)((char *)it + at);
+    return (uint64_t *)((uintptr_t)it + at);
 }
 
 static bool by_permits(const struct bench *b)
@@ -18,22 +16,14 @@ static bool by_steps(const struct bench *b)
     return b->plan.schedule == TMWATCH_STEPS;
 }
 
-/* Lets others run. */
-static void rest(const struct bench *b)
-{
-    if (by_steps(b))
-        nap(50);
-    else
-        sched_yield();
-}
-
-/* What a plan may leave to be drawn: where it stands, and what it is where nothing is drawn. */
+/* What a plan may leave to be drawn: where it stands, what it is where nothing is drawn, and its range. */
 static const struct drawn {
     size_t to;
-    uint64_t usual;
-} drawn[] = {{TO(threads), 4}, {TO(registers), 3}, {TO(calls), 3},   {TO(writes), 50},
-             {TO(adds), 20},   {TO(aborts), 12},   {TO(pause), 100}, {TO(mixes), 50},
-             {TO(blinds), 10}, {TO(orders), TMWATCH_SEQUENTIAL}};
+    uint64_t usual, least, most;
+} drawn[] = {{TO(threads), 4, 1, MOST_THREADS}, {TO(registers), 3, 1, MOST_REGISTERS}, {TO(calls), 3, 1, MOST_USES},
+             {TO(writes), 50, 0, 100},          {TO(adds), 20, 0, 100},                {TO(aborts), 12, 0, 100},
+             {TO(pause), 100, 0, 1 << 20},      {TO(mixes), 50, 0, 100},               {TO(blinds), 10, 0, 100},
+             {TO(orders), TMWATCH_SEQUENTIAL, 0, TMWATCH_CXX}};
 enum { DRAWN = sizeof drawn / sizeof drawn[0] };
 
 /* The plan with what it leaves to be drawn: these numbers, or the usual ones. */
@@ -64,18 +54,16 @@ static bool has_orders(const tmwatch_plan *plan)
     return plan->orders == TMWATCH_SEQUENTIAL || (plan->orders == TMWATCH_X86 && tmwatch_step_drain);
 }
 
-/* Whether a number of the plan is out of its range, besides those of threads and registers. */
+/* Whether a number of the plan is out of its range. */
 static bool is_out_of_range(const tmwatch_plan *plan)
 {
     uint64_t most_attempts = plan->schedule == TMWATCH_PERMITS ? UINT64_MAX : MOST_ATTEMPTS / plan->threads;
     uint64_t most_round = plan->schedule == TMWATCH_STEPS ? UINT64_MAX : plan->schedule == TMWATCH_ALL ? STEPS_LEGS * LEG_ROUNDS : 0;
-    if (plan->calls < 1 || plan->calls > MOST_USES || plan->schedule > TMWATCH_ALL || plan->attempts > most_attempts)
-        return true;
-    if (plan->rounds == 0 || plan->round > most_round || !has_orders(plan))
-        return true;
-    if (plan->writes > 100 || plan->adds > 100 || plan->aborts > 100 || plan->mixes > 100 || plan->blinds > 100)
-        return true;
-    return plan->pause > most_pause || (plan->event > 0 && plan->round == 0);
+    for (unsigned i = 0; i < DRAWN; i++)
+        if (*number_of(plan, drawn[i].to) < drawn[i].least || *number_of(plan, drawn[i].to) > drawn[i].most)
+            return true;
+    return plan->schedule > TMWATCH_ALL || plan->attempts > most_attempts || plan->rounds == 0 || plan->round > most_round ||
+           (plan->event > 0 && plan->round == 0) || !has_orders(plan);
 }
 
 /* Looks at what no watch looks at. */

@@ -59,7 +59,7 @@ static int choose(struct steps *s, unsigned threads)
 static void wait_turn(tmwatch_attempt *a)
 {
     struct steps *s = &a->bench->steps;
-    while (s->runner != (int)a->thread && !s->is_over)
+    while (s->runner != (int)a->thread && !a->bench->is_over)
         await(&s->go[a->thread]);
     s->awake = (int)a->thread;
 }
@@ -79,7 +79,7 @@ static void lock_as_runner(tmwatch_attempt *a)
 {
     struct steps *s = &a->bench->steps;
     lock_steps(s);
-    while (s->runner != (int)a->thread && !s->is_over) {
+    while (s->runner != (int)a->thread && !a->bench->is_over) {
         s->stuck &= ~(1u << a->thread);
         if (s->runner == NOBODY)
             s->runner = (int)a->thread;
@@ -115,10 +115,8 @@ static void step(tmwatch_attempt *a, unsigned pauses)
     if (pauses > 0)
         s->listed[s->inner++ % LISTED] = (struct listed){s->recorded, a->caller, a->thread};
     bool hands_over = s->spin > MOST_SPIN || (s->odds > 0 && draw(&s->draws, s->odds) == 0);
-    while (s->changes > 0 && s->change[s->changes - 1] < s->step) {
-        s->changes--;
-        hands_over = true;
-    }
+    for (unsigned i = 0; i < s->changes; i++)
+        hands_over = hands_over || s->change[i] + 1 == s->step;
     if (hands_over) {
         s->priority[a->thread] = --s->lowest;
         s->spin = 0;
@@ -133,13 +131,10 @@ static void step(tmwatch_attempt *a, unsigned pauses)
 /* Draws at which steps of the round the runner gets the lowest priority. */
 static void draw_changes(struct steps *s)
 {
-    uint64_t changes = draw(&s->draws, MOST_CHANGES), length = s->length[s->is_mixed] / 16;
-    for (s->changes = 0; s->changes < changes; s->changes++) {
-        uint64_t at = draw(&s->draws, length + length / 4 + 1), place = s->changes;
-        for (; place > 0 && s->change[place - 1] < at; place--)
-            s->change[place] = s->change[place - 1];
-        s->change[place] = at;
-    }
+    uint64_t length = s->length[s->is_mixed] / 16;
+    s->changes = draw(&s->draws, MOST_CHANGES);
+    for (unsigned i = 0; i < s->changes; i++)
+        s->change[i] = draw(&s->draws, length + length / 4 + 1);
 }
 
 /* Draws how the round goes. */
@@ -165,7 +160,7 @@ __attribute__((noinline)) void tmwatch_break(void)
     __asm__ volatile("");
 }
 
-/* Does what is between two rounds, alone: the last thread of a round. */
+/* Does what is between two rounds, alone, and then begins the next one, or lets all threads end: the last thread of a round. */
 static void turn_round(tmwatch_attempt *a)
 {
     struct bench *b = a->bench;
@@ -179,6 +174,13 @@ static void turn_round(tmwatch_attempt *a)
     end_round(a, round);
     s->starts[b->round % STARTS] = s->recorded;
     s->begun = b->round;
+    if (b->orders)
+        tmwatch_orders_round(b->orders);
+    lock_steps(s);
+    draw_round(b);
+    let_go(s, choose(s, ~0u));
+    for (unsigned i = 0; i < b->plan.threads && b->is_over; i++)
+        post(&s->go[i]);
 }
 
 /* Stops a debugger before the event of the plan. The first look is of round 1. */
@@ -188,20 +190,6 @@ static void break_at_event(const struct bench *b)
     uint64_t round = s->begun > 0 ? s->begun : 1;
     if (b->plan.event > 0 && round == b->plan.round && s->recorded + 1 - s->starts[s->begun % STARTS] == b->plan.event)
         tmwatch_break();
-}
-
-/* Begins the next round, or lets all threads end. */
-static void begin_round(struct bench *b)
-{
-    struct steps *s = &b->steps;
-    if (b->orders)
-        tmwatch_orders_round(b->orders);
-    lock_steps(s);
-    draw_round(b);
-    s->is_over = b->is_over;
-    let_go(s, choose(s, ~0u));
-    for (unsigned i = 0; i < b->plan.threads && s->is_over; i++)
-        post(&s->go[i]);
 }
 
 /* Ends the thread's part of a round, and waits for its turn in the next one, if there is any. */
@@ -214,7 +202,6 @@ static bool meet_by_steps(tmwatch_attempt *a)
     if (s->ready == 0) {
         unlock_steps(s);
         turn_round(a);
-        begin_round(b);
     } else {
         s->switches++;
         let_go(s, choose(s, ~0u));

@@ -1,5 +1,8 @@
 /* Time: naps, and what a clock has counted. */
 
+/* How long who waits for the judge, or it for events, lets others run: microseconds. */
+enum { REST = 50 };
+
 static void nap(long microseconds)
 {
     struct timespec time = {0, microseconds * 1000};

@@ -5,15 +5,6 @@
    some rescues the run can't be repeated anyway, and a tenth of both is enough. */
 enum { LOOK_MICROSECONDS = 1000, MOST_SLEEPS = 50, MOST_USED = 50000, FEW_RESCUES = 10, LATER_PART = 10 };
 
-/* For the watchdog, which looks at this thread. */
-static void show_watchdog(tmwatch_attempt *a)
-{
-    struct steps *s = &a->bench->steps;
-    s->tid[a->thread] = (int)syscall(SYS_gettid);
-    if (pthread_getcpuclockid(pthread_self(), &s->clock[a->thread]) != 0)
-        stop(a->bench, TMWATCH_MEMORY);
-}
-
 /* Whether a thread sleeps, as far as the system tells. */
 static bool is_asleep(int tid)
 {
@@ -54,7 +45,7 @@ static void watch_steps(struct bench *b, uint64_t now)
     struct steps *s = &b->steps;
     uint64_t steps = s->steps;
     int runner = s->runner;
-    if (s->is_over || now - b->watchdog.looked < LOOK_MICROSECONDS)
+    if (b->is_over || now - b->watchdog.looked < LOOK_MICROSECONDS)
         return;
     b->watchdog.looked = now;
     if (!is_blocked(b, runner, steps))

@@ -54,7 +54,7 @@ void tmwatch_step_free(const void *lock, bool is_for_one);
 bool tmwatch_lock_tried(void);
 bool tmwatch_lock_awaited(const void *lock);
 void tmwatch_lock_taken(const void *lock);
-void tmwatch_lock_returning(const void *lock);
+void tmwatch_lock_returning(const volatile void *lock);
 void tmwatch_lock_returned(const void *lock);
 void tmwatch_step_gives_back(const void *block, size_t size);
 #endif

@@ -46,7 +46,7 @@ static int has_locked(int status, const volatile void *lock, bool is_shared)
 }
 
 /* A lock is about to be given back. */
-static void unlocks(const volatile void *lock)
+void tmwatch_lock_returning(const volatile void *lock)
 {
     tmwatch_simulation *orders = tmwatch_step_orders();
     if (orders)
@@ -75,7 +75,7 @@ static void unlocks(const volatile void *lock)
     WRAPPED(int, name, lock_type *lock)                   \
     {                                                     \
         bool is_run = is_stepped();                       \
-        unlocks(lock);                                    \
+        tmwatch_lock_returning(lock);                     \
         int status = __real_##name(lock);                 \
         if (is_run) {                                     \
             tmwatch_step_free((const void *)lock, false); \
@@ -99,7 +99,7 @@ LOCK(sem_wait, sem_trywait, sem_t, false)
 UNLOCK(sem_post, sem_t)
 
 /* The same for a lock of another language. It was tried: whether the thread goes by steps. Others run until it may be free: whether to try
-   again. It was taken; it is about to be given back; it was given back. */
+   again. It was taken; it was given back. */
 bool tmwatch_lock_tried(void)
 {
     return is_stepped();
@@ -115,11 +115,6 @@ void tmwatch_lock_taken(const void *lock)
     has_locked(0, lock, false);
 }
 
-void tmwatch_lock_returning(const void *lock)
-{
-    unlocks(lock);
-}
-
 void tmwatch_lock_returned(const void *lock)
 {
     if (!tmwatch_step_is_run())
@@ -131,7 +126,7 @@ void tmwatch_lock_returned(const void *lock)
 /* Waits for a condition: whether it was signalled. Nobody else runs between the unlocking and the wait. */
 static bool is_signalled(pthread_cond_t *condition, pthread_mutex_t *mutex)
 {
-    unlocks(mutex);
+    tmwatch_lock_returning(mutex);
     __real_pthread_mutex_unlock(mutex);
     tmwatch_step_free(mutex, false);
     bool is_freed = tmwatch_step_wait(condition) == TMWATCH_STEP_FREED;

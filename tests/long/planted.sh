@@ -17,12 +17,13 @@ cc=${CC:-cc} cargo=${CARGO:-cargo}
 use_library
 flags=(-std=c11 -O2 -Wall -Wextra -Wno-unused -pthread -DTMWATCH_PAUSES "-I$folder/include")
 
-# Copies what is changed, and changes it by this expression of sed.
+# Copies what is changed, and changes it by this expression of sed. It has to compile still.
 plant() {
     rm -rf "$folder/bench-c" "$folder/include"
     cp -r "$top/bench-c" "$top/include" "$folder"
     sed -i "$1" "$folder"/bench-c/*.c "$folder/include/tmwatch_permits.h"
-    ! diff -r "$folder/bench-c" "$top/bench-c" >/dev/null || ! diff -r "$folder/include" "$top/include" >/dev/null
+    ! diff -r "$folder/bench-c" "$top/bench-c" >/dev/null || ! diff -r "$folder/include" "$top/include" >/dev/null || return
+    "$cc" "${flags[@]}" -c -o "$folder/bench.o" "$folder/bench-c/tmwatch_bench.c"
 }
 
 # Compiles a program over the bench that is changed, with further flags.
@@ -95,7 +96,7 @@ for test in draws start plans seconds short whole eight permits same; do
     plant '' || true
     ends "no mistake: $test" 0 "$test"
 done
-mistake 'the seed is not used' 's/plan.seed \* MOST_THREADS + a->thread/a->thread/' draws
+mistake 'the seed is not used' 's/b->plan.seed \* MOST_THREADS + a->thread/a->thread/' draws
 mistake 'all threads draw the same' 's/plan.seed \* MOST_THREADS + a->thread/plan.seed * MOST_THREADS/' draws
 mistake 'pauses draw from the transactions' 's/draw(&a->pauses/draw(\&a->draws/' draws
 mistake 'two threads write the same values' 's/(++a->written \* MOST_THREADS + a->thread)/(++a->written * MOST_THREADS)/' draws
