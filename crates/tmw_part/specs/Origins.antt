@@ -1,8 +1,8 @@
 -- Who in a window wrote a value that a transaction read of a register, and what became of that write.
-use Rattle.std.specs.Prelude.{◌==◌, ◌&&◌, ◌+◌, ◌%◌, ◌^◌, ℕ, suc, Bool, true, false, not, List, [], ◌∷◌, map, Option, Some, None, if◌then◌else◌}
+use Rattle.std.specs.Prelude.{◌==◌, ◌&&◌, ◌+◌, ◌%◌, ◌^◌, ℕ, suc, Bool, true, false, not, List, [], ◌∷◌, map, take, Option, Some, None, if◌then◌else◌}
 use Rattle.tmw_events.specs.declared.event.Event.{Event}
 use Rattle.tmw_events.specs.declared.event.Kind.{Kind}
-use Rattle.tmw_events.specs.declared.event.Kind.TheVariants.{W, N, V}
+use Rattle.tmw_events.specs.declared.event.Kind.TheVariants.{R, W, N, V}
 use Rattle.tmw_defs.specs.declared.status.Status.{Status}
 use Rattle.tmw_defs.specs.declared.status.Status.TheVariants.{Live, Pending, Committed, Aborted}
 use Rattle.tmw_defs.specs.History.{Txn, status_of, operations, transactions}
@@ -28,10 +28,29 @@ next_of thread (e ∷ events) = if e.thread.number == thread then Some e.kind el
 abbrev pub number_at : List Txn → ℕ → ℕ → ℕ
 number_at window thread place = suc (owner window thread place place)
 
--- The event at this place, before these, puts the value into the register, and belongs to another transaction than the reader.
-abbrev pub puts_at : List Txn → ℕ → ℕ → ℕ → ℕ → Event → List Event → Bool
-puts_at window r v reader place e events =
-    puts r v e.kind (next_of e.thread.number events) && not (number_at window e.thread.number place == reader)
+-- The call, with what follows it in its thread, reads the value from the register.
+abbrev pub reads : ℕ → ℕ → Kind → Option Kind → Bool
+reads r v (R q) (Some (V w)) = (q.number == r) && (w == v)
+reads r v (N q d) (Some (V w)) = (q.number == r) && (w == v)
+reads r v kind next = false
+
+-- How many of these events come before the thread's first one among them.
+abbrev pub until_next : ℕ → List Event → ℕ
+until_next thread [] = 0
+until_next thread (e ∷ events) = if e.thread.number == thread then 0 else suc (until_next thread events)
+
+-- The event at this place, before these, is a call of the reader that reads the value from the register.
+abbrev pub reads_at : List Txn → ℕ → ℕ → ℕ → ℕ → Event → List Event → Bool
+reads_at window r v reader place e events =
+    reads r v e.kind (next_of e.thread.number events) && (number_at window e.thread.number place == reader)
+
+-- The place of the answer by which the reader first reads the value from the register; the first of these events has this place.
+abbrev pub answered_from : List Txn → ℕ → ℕ → ℕ → ℕ → List Event → ℕ
+answered_from window r v reader place [] = place
+answered_from window r v reader place (e ∷ events) =
+    if reads_at window r v reader place e events
+    then place + (1 + until_next e.thread.number events)
+    else answered_from window r v reader (place + 1) events
 
 -- the later of two, if the first is there
 abbrev pub or_before : Option Origin → Option Origin → Option Origin
@@ -45,14 +64,16 @@ fate_by Live last = Unasked
 fate_by _ true = Stays
 fate_by _ false = Overwritten
 
-abbrev pub fate_of : ℕ → ℕ → Txn → Fate
-fate_of r v t = fate_by (status_of t.text) (is_some_of v (left_by r None (operations t.text)))
+-- What the reader itself put there it has overwritten, if it reads it as another's.
+abbrev pub fate_of : ℕ → ℕ → Bool → Txn → Fate
+fate_of r v true t = Overwritten
+fate_of r v false t = fate_by (status_of t.text) (is_some_of v (left_by r None (operations t.text)))
 
-abbrev pub origin_at : List Txn → ℕ → ℕ → ℕ → Event → Origin
-origin_at window r v place e = record {
+abbrev pub origin_at : List Txn → ℕ → ℕ → ℕ → ℕ → Event → Origin
+origin_at window r v reader place e = record {
   place = place;
   number = number_at window e.thread.number place;
-  fate = fate_of r v (txn_at window (owner window e.thread.number place place));
+  fate = fate_of r v (number_at window e.thread.number place == reader) (txn_at window (owner window e.thread.number place place));
 }
 
 -- The last of these events that does so; the first of them has this place.
@@ -60,8 +81,9 @@ abbrev pub origin_from : List Txn → ℕ → ℕ → ℕ → ℕ → List Event
 origin_from window r v reader place [] = None
 origin_from window r v reader place (e ∷ events) =
     or_before (origin_from window r v reader (place + 1) events)
-    (if puts_at window r v reader place e events then Some (origin_at window r v place e) else None)
+    (if puts r v e.kind (next_of e.thread.number events) then Some (origin_at window r v reader place e) else None)
 
--- Of the window's events the last that puts the value into the register and is not the reader's, which has this number.
+-- Of the window's events the last that puts the value into the register before the reader, which has this number, is answered it.
 abbrev pub origin_of : List Event → ℕ → ℕ → ℕ → Option Origin
-origin_of window r v reader = origin_from (transactions window) r v reader 0 window
+origin_of window r v reader =
+    origin_from (transactions window) r v reader 0 (take (answered_from (transactions window) r v reader 0 window) window)

@@ -1,5 +1,5 @@
 ghost use Rattle.std.specs.Prelude.{◌≡◌, ◌≤◌, ◌<◌, IfOk, IfSome, length};
-ghost use Rattle.tmw_part.specs.Origins.{fate_by, fate_of, next_of, number_at, origin_at, origin_of, puts, puts_at};
+ghost use Rattle.tmw_part.specs.Origins.{answered_from, fate_by, fate_of, next_of, number_at, origin_at, origin_of, puts, reads, reads_at, until_next};
 ghost use Rattle.tmw_part.specs.Shown.{txn_of, txns_of};
 
 use crate::deeds::{is_some_of, left_by};
@@ -67,8 +67,36 @@ fn number_at(window: &[Transaction], thread: Ix, place: usize) -> u64
     owner(window, thread, place, place) as u64 + 1
 }
 
-/// Whether the event at this place, before these, puts the value into the register and is not the reader's.
-fn puts_at(
+/// Whether the call, with what follows it in its thread, reads the value from the register.
+fn reads(register: Ix, value: u64, kind: Kind, next: Option<Kind>) -> bool
+    ensures { result ≡ reads register.number value kind next }
+{
+    match (kind, next) {
+        (Kind::R(other), Some(Kind::V(found))) => other == register && found == value,
+        (Kind::N(other, _), Some(Kind::V(found))) => other == register && found == value,
+        _ => false,
+    }
+}
+
+/// How many of these events come before the thread's first one among them.
+fn until_next(thread: Ix, events: &[Event]) -> usize
+    ensures is { result ≡ until_next thread.number events.now }
+    ensures within { result ≤ length events.now }
+{
+    let mut before = 0;
+    let mut rest = events;
+    while let [event, more @ ..] = rest {
+        if event.thread == thread {
+            return before;
+        }
+        before += 1;
+        rest = more;
+    }
+    before
+}
+
+/// Whether the event at this place, before these, is a call of the reader that reads the value from the register.
+fn reads_at(
     window: &[Transaction],
     register: Ix,
     value: u64,
@@ -77,11 +105,35 @@ fn puts_at(
     event: &Event,
     events: &[Event],
 ) -> bool
-    ensures { result ≡ puts_at (txns_of window.now) register.number value reader place
+    ensures { result ≡ reads_at (txns_of window.now) register.number value reader place
         event.now events.now }
 {
-    puts(register, value, event.kind, next_of(event.thread, events))
-        && number_at(window, event.thread, place) != reader
+    reads(register, value, event.kind, next_of(event.thread, events))
+        && number_at(window, event.thread, place) == reader
+}
+
+/// The place of the answer by which the reader first reads the value from the register, or the length.
+fn answered_at(
+    window: &[Transaction],
+    register: Ix,
+    value: u64,
+    reader: u64,
+    events: &[Event],
+) -> usize
+    ensures is { result ≡ answered_from (txns_of window.now) register.number value reader 0
+        events.now }
+    ensures within { result ≤ length events.now }
+{
+    let mut place = 0;
+    let mut rest = events;
+    while let [event, more @ ..] = rest {
+        if reads_at(window, register, value, reader, place, event, more) {
+            return place + (1 + until_next(event.thread, more));
+        }
+        place += 1;
+        rest = more;
+    }
+    place
 }
 
 /// What became of what a transaction of this status put there, which at last left the value there or not.
@@ -102,22 +154,31 @@ fn origin_at(
     window: &[Transaction],
     register: Ix,
     value: u64,
+    reader: u64,
     place: usize,
     event: &Event,
 ) -> Origin
-    ensures { result ≡ origin_at (txns_of window.now) register.number value place event.now }
+    ensures { result ≡ origin_at (txns_of window.now) register.number value reader place event.now }
 {
+    let number = number_at(window, event.thread, place);
+    if number == reader {
+        return Origin {
+            place,
+            number,
+            fate: Fate::Overwritten,
+        };
+    }
     let text = text_at(window, owner(window, event.thread, place, place));
     let last = is_some_of(value, left_by(register, text));
     Origin {
         place,
-        number: number_at(window, event.thread, place),
+        number,
         fate: fate_by(status_of(text), last),
     }
 }
 
-/// Finds the last event of a window that puts the value into the register, unless it is that of the reader, the
-/// transaction of this number.
+/// Finds the last event of a window that puts the value into the register before the reader, the transaction of this
+/// number, is answered it.
 pub fn find_origin(
     alloc: Global,
     events: &[Event],
@@ -131,10 +192,10 @@ pub fn find_origin(
     let window = transactions(alloc, events)?;
     let mut found = None;
     let mut place = 0;
-    let mut rest = events;
+    let mut rest = &events[..answered_at(&window, register, value, reader, events)];
     while let [event, more @ ..] = rest {
-        if puts_at(&window, register, value, reader, place, event, more) {
-            found = Some(origin_at(&window, register, value, place, event));
+        if puts(register, value, event.kind, next_of(event.thread, more)) {
+            found = Some(origin_at(&window, register, value, reader, place, event));
         }
         place += 1;
         rest = more;
