@@ -121,13 +121,19 @@ def origin_of(end, names, window):
         return None
     reader, value, register = names[found[1]], int(found[2]), int(found[3])
     number = {event: n for n, t in enumerate(transactions(window), 1) for event in t.events}
-    puts = [call for call in calls(window) if left_by(call) == (register, value) and call[0] not in reader.events]
+    own = [call for call in calls(window) if call[0] in reader.events]
+    read = min(call[1].number for call in own if (operation(call) or ())[:2] == (register, value))
+    # (an add puts its value there by its answer, which has to come before too)
+    puts = [call for call in calls(window) if left_by(call) == (register, value) and call[0].number < read]
+    puts = [call for call in puts if call[0].kind[0] == "W" or call[1].number < read]
     if not puts:
-        return f"no event of this window puts {value} into register {register}"
+        return f"no earlier event of this window puts {value} into register {register}"
     call = max(puts, key=lambda call: call[0].number)
     t = transactions(window)[number[call[0]] - 1]
     fates = {"aborted": ", and aborted", "live": ", and had not asked to commit"}
     fate = fates.get(t.status, "" if last_left(t, register) == value else ", then another value")
+    if call[0] in reader.events:
+        fate = ", then another value"
     return f"T{number[call[0]]} put {value} into register {register} at event {call[0].number}{fate}"
 
 

@@ -1,6 +1,6 @@
 -- Steps of a reason why transactions have no serial order: when a step follows from those before it, and when they contradict each other.
 -- A transaction is told by its place in the list of all. A value comes from the transaction that left it, or from the start.
-use Rattle.std.specs.Prelude.{◌≡◌, ◌==◌, ◌&&◌, ◌||◌, ◌+◌, ◌%◌, ◌^◌, ℕ, Bool, true, false, not, nat_lt, List, [], ◌∷◌, length, take, slice_get, slice_index, slice_index_or, Option, Some, None, IsTrue, if◌then◌else◌}
+use Rattle.std.specs.Prelude.{◌≡◌, ◌==◌, ◌&&◌, ◌||◌, ℕ, Bool, true, false, not, nat_lt, List, [], ◌∷◌, length, take, slice_get, slice_index, slice_index_or, Option, Some, None, IsTrue, if◌then◌else◌}
 use Rattle.std.specs.List.{list_all, list_any, range_with_len}
 use Rattle.tmw_defs.specs.declared.criterion.Criterion.{Criterion}
 use Rattle.tmw_defs.specs.declared.criterion.Criterion.TheVariants.{Opacity, Strict}

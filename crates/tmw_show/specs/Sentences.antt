@@ -44,7 +44,7 @@ phrase_text AtEvent = codes " at event "
 phrase_text Aborts = codes ", and aborted"
 phrase_text NotAsked = codes ", and had not asked to commit"
 phrase_text Overwrites = codes ", then another value"
-phrase_text NoEvent = codes "no event of this window puts "
+phrase_text NoEvent = codes "no earlier event of this window puts "
 
 -- a word of a sentence, where the transactions have these names
 abbrev pub word_text : List Name → Word → List ℕ

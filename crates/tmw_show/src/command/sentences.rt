@@ -157,7 +157,7 @@ fn phrase_text(phrase: Phrase) -> &'static str
         Phrase::GivenUp => ", and aborted",
         Phrase::Unasked => ", and had not asked to commit",
         Phrase::Overwritten => ", then another value",
-        Phrase::NoEvent => "no event of this window puts ",
+        Phrase::NoEvent => "no earlier event of this window puts ",
     }
 }
 
