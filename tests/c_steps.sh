@@ -136,10 +136,9 @@ ends 'a violation after a rescue' 1 until_rescued
 has_told 'a violation after a rescue is not certain' '"certain":false}$'
 # What a later leg finds is told by that leg's plan: without a mark, only threads that run at once find it.
 ends 'a memory without a mark compiles' 0 "$cc" "${strict[@]}" -DFAULT=MEETS -o "$folder/unmarked" "$top/tests/c/bench_stuck.c" "${bench[@]}"
-# (ThreadSanitizer makes the twenty legs by steps before that take longer than a minute, unless they are short. This memory races where it
-# rolls back.)
+# (ThreadSanitizer makes the twenty legs by steps before that take longer than a minute, unless they are short.)
 short=
-[ "${FLAGS:-}" != -fsanitize=thread ] || short=' --aborts 0 --threads 2 --registers 1 --calls 1 --mixes 0'
+[ "${FLAGS:-}" != -fsanitize=thread ] || short=' --threads 2 --registers 1 --calls 1 --mixes 0'
 repeats unmarked 1 false "--writes 0 --adds 0 --seconds 60$short"
 ends 'a memory without a mark: by which schedule' 0 grep -q '"again":"--schedule [rp]' "$folder/told"
 

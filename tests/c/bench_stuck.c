@@ -22,7 +22,7 @@ struct tx {
 };
 
 static const enum fault fault = FAULT;
-static uint64_t words[REGISTERS];
+static atomic_uint_least64_t words[REGISTERS]; /* where threads take no lock, they race on none */
 static pthread_mutex_t mutex = PTHREAD_MUTEX_INITIALIZER;
 static atomic_bool is_locked;
 static unsigned begun[REGISTERS];
@@ -78,7 +78,7 @@ static bool meets_another(void)
 /* After a wrong value thread 1 doesn't return. */
 static bool lies(void)
 {
-    static bool has_lied;
+    static atomic_bool has_lied;
     bool is_due = fault == BOTH && tmwatch_thread() == 1 && begun[1] > 20;
     while (is_due && has_lied)
         TMWATCH_PAUSE();
