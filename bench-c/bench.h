@@ -107,7 +107,7 @@ struct steps {
     uint64_t starts[STARTS]; /* how many events precede a round */
     uint64_t begun;          /* the round that has begun last */
     struct listed listed[LISTED];
-    uint64_t inner;          /* how many steps were the memory's own */
+    atomic_uint_least64_t inner; /* how many steps were the memory's own */
 };
 
 /* Where a thread is: in none of the memory's functions, or in one. */

@@ -94,8 +94,6 @@ static void tell_places(struct bench *b)
         fprintf(stderr, "no event for %llu seconds\n", (unsigned long long)(b->idle / SECOND));
     for (unsigned i = 0; i < b->plan.threads; i++) {
         unsigned inside = b->parts[i].inside, place = inside % 256;
-        /* What the trace is written from is kept. */
-        (void)b->parts[i].keeps;
         if (place == OUTSIDE)
             fprintf(stderr, "thread %u waits for the others\n", i);
         else if (place == IN_READ || place == IN_WRITE || place == IN_ADD)

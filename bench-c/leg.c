@@ -72,6 +72,8 @@ static uint32_t run_watched(struct bench *b, tmwatch_benched *out)
     b->session->looked = b->looked;
     for (unsigned i = 0; i < b->plan.threads; i++) {
         const tmwatch_attempt *a = &b->parts[i];
+        /* What a thread that is stuck has counted and kept stands before this. */
+        (void)a->keeps;
         out->stores += a->stores;
         out->foreign = a->foreign > out->foreign ? a->foreign : out->foreign;
         out->is_undelayed = out->is_undelayed || a->how.is_undelayed;
