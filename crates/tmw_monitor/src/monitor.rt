@@ -34,17 +34,6 @@ pub struct Monitor {
     broken: Option<Broken>,
 }
 
-/// Returns a copy of the event for a call that few events need, so that the event itself is mostly no value in memory.
-#[inline(always)]
-fn copy_of(event: Event) -> Event
-    ensures { result ≡ event }
-{
-    Event {
-        thread: event.thread,
-        kind: event.kind,
-    }
-}
-
 impl Monitor {
     ghost use Rattle.tmw_monitor.specs.Breaking.{TellsBroken};
     ghost use Rattle.tmw_monitor.specs.Fitting.{FeedsOne, Fits, StaysFit, rules_for, rules_of};
@@ -125,35 +114,19 @@ impl Monitor {
         ensures keeps_err { OnErr result (HoldsStill self.old self.new) }
     {
         // Only what is judged by a criterion has its verdict.
-        if !is_any_so_far(self.verdict) {
-            self.track(copy_of(event));
-            return Ok(self.verdict);
-        }
-        if take_at_once(&mut self.kept, self.bounds, self.criterion, event) {
+        if is_any_so_far(self.verdict)
+            && take_at_once(&mut self.kept, self.bounds, self.criterion, event)
+        {
             self.count += 1;
             return Ok(self.verdict);
         }
-        self.take(copy_of(event))?;
+        // A copy that only this way needs, so that the event is mostly no value in memory.
+        let copied = Event {
+            thread: event.thread,
+            kind: event.kind,
+        };
+        self.take(copied)?;
         Ok(self.verdict)
-    }
-
-    /// Takes the next event after a final verdict. Each prefix is judged, so the verdict stays. The event is only tracked.
-    #[inline(never)]
-    fn track(&mut self, event: Event)
-        requires room { fed_of self.old < 2 ^ 40 }
-        requires ended { IsOpen self.old → ⊥ }
-        ensures ok { FeedsOne event self.old self.new }
-        ensures verdict { verdict_of self.new ≡ verdict_of self.old }
-        ensures criterion { criterion_of self.new ≡ criterion_of self.old }
-        ensures keeps { HoldsWith event self.old self.new }
-    {
-        follow(
-            &mut self.kept.tracker,
-            &mut self.broken,
-            self.count + 1,
-            event,
-        );
-        self.count += 1;
     }
 
     /// Takes the next event, whatever it needs. The verdict is then in the monitor.
@@ -168,11 +141,13 @@ impl Monitor {
         ensures keeps { OnOk result (HoldsWith event self.old self.new) }
         ensures keeps_err { OnErr result (HoldsStill self.old self.new) }
     {
+        let at = self.count + 1;
+        // Each prefix is judged, so a verdict that something is wrong is final. Later events are only tracked.
         if !is_so_far(self.criterion, self.verdict) {
-            self.track(event);
+            follow(&mut self.kept.tracker, &mut self.broken, at, event);
+            self.count = at;
             return Ok(());
         }
-        let at = self.count + 1;
         let tracker = self.kept.tracker;
         let wrong = next_wrong(
             self.alloc,

@@ -1,4 +1,4 @@
-ghost use Rattle.std.specs.Prelude.{◌≡◌, ◌↔◌, IsFalse, IsTrue};
+ghost use Rattle.std.specs.Prelude.{◌≡◌, ◌↔◌, IsTrue};
 ghost use Rattle.tmw_defs.specs.Criteria.{so_far};
 ghost use Rattle.tmw_defs.specs.declared.criterion.Criterion.{Criterion};
 
@@ -8,8 +8,7 @@ use tmw_defs::{Criterion, Verdict};
 /// each event asks it.
 #[inline(always)]
 pub fn is_any_so_far(verdict: Verdict) -> bool
-    ensures is { IsTrue result → (criterion : Criterion) × (verdict ≡ so_far criterion) }
-    ensures ended { IsFalse result → (criterion : Criterion) → verdict ≡ so_far criterion → ⊥ }
+    ensures { IsTrue result → (criterion : Criterion) × (verdict ≡ so_far criterion) }
 {
     matches!(verdict, Verdict::OpaqueSoFar | Verdict::StrictSoFar)
 }

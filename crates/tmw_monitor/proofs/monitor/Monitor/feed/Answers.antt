@@ -7,6 +7,7 @@ use Rattle.tmw_defs.specs.declared.criterion.Criterion.{Criterion}
 use Rattle.tmw_monitor.proofs.Feeding.{fits-next, fits-kept}
 use Rattle.tmw_monitor.proofs.OnlyOpen.{keeps_only_open}
 use Rattle.tmw_monitor.proofs.SoFar.{so_far-tells}
+use Rattle.tmw_monitor.proofs.monitor.Monitor.feed.Goals.{else-is_any_so_far-via-then-is_any_so_far+else-take_at_once, else-is_any_so_far-via-else-is_any_so_far}
 use Rattle.tmw_monitor.proofs.monitor.Monitor.feed.Goals as goal
 
 fine-of : (rules : Rules) (history : List Event) (monitor : Monitor) → ((criterion : Criterion) × (monitor.verdict ≡ so_far criterion))
@@ -22,7 +23,7 @@ fits-still rules history monitor kept is stays fits =
 
 pub returns-then-take_at_once-clause-ok : goal.returns-then-take_at_once-clause-ok
 returns-then-take_at_once-clause-ok c judged_by history fits =
-    let fine = fine-of judged_by history c.args.self.now (c.is_any_so_far.ensures.is c.if-not-is_any_so_far.false) fits in
+    let fine = fine-of judged_by history c.args.self.now (c.is_any_so_far.ensures c.if-is_any_so_far.true) fits in
     fits-next judged_by history c.args.event c.args.self.now c.take_at_once.new.kept fits fine
     (c.take_at_once.ensures.taken c.if-take_at_once.true judged_by history fits.criterion fits.window fits.states (fits.keeps fine))
 
@@ -30,24 +31,32 @@ pub returns-then-take_at_once-clause-keeps : goal.returns-then-take_at_once-clau
 returns-then-take_at_once-clause-keeps c judged_by history fits =
     keeps_only_open judged_by (history ++ c.args.event ∷ []) _ (returns-then-take_at_once-clause-ok c judged_by history fits)
 
--- the monitor that was asked for what can't be taken at once stands for the same histories
+-- the monitor that is asked for what can't be taken at once stands for the same histories
 fits-then : (c : goal.After-result-2-1) (rules : Rules) (history : List Event) → Fits rules history c.args.self.now
-    → Fits rules history (record c.args.self.now { kept = c.take_at_once.new.kept })
-fits-then c rules history fits =
-    fits-still rules history c.args.self.now c.take_at_once.new.kept (c.is_any_so_far.ensures.is c.if-not-is_any_so_far.false)
-    (c.take_at_once.ensures.left c.if-take_at_once.false) fits
+    → Fits rules history c.else-is_any_so_far.self
+fits-then c rules history fits = elim c.else-is_any_so_far.branch [
+  | else-is_any_so_far-via-then-is_any_so_far+else-take_at_once w ↦
+      rw w.self-is (fits-still rules history c.args.self.now w.take_at_once.new.kept (c.is_any_so_far.ensures w.if-is_any_so_far.true)
+      (w.take_at_once.ensures.left w.if-take_at_once.false) fits)
+  | else-is_any_so_far-via-else-is_any_so_far w ↦ rw w.self-is fits
+]
 
 pub returns-clause-ok : goal.returns-clause-ok
-returns-clause-ok c judged_by history fits =
-    rw c.copy_of-2.ensures at (c.in_ok-take.ensures.ok judged_by history (fits-then c judged_by history fits))
+returns-clause-ok c judged_by history fits = c.in_ok-take.ensures.ok judged_by history (fits-then c judged_by history fits)
 
 pub returns-clause-keeps : goal.returns-clause-keeps
-returns-clause-keeps c judged_by history fits =
-    rw c.copy_of-2.ensures at (c.in_ok-take.ensures.keeps judged_by history (fits-then c judged_by history fits))
+returns-clause-keeps c judged_by history fits = c.in_ok-take.ensures.keeps judged_by history (fits-then c judged_by history fits)
+
+fits-after : (c : goal.After-from_residual) (rules : Rules) (history : List Event) → Fits rules history c.args.self.now
+    → Fits rules history c.else-is_any_so_far.self
+fits-after c rules history fits = elim c.else-is_any_so_far.branch [
+  | else-is_any_so_far-via-then-is_any_so_far+else-take_at_once w ↦
+      rw w.self-is (fits-still rules history c.args.self.now w.take_at_once.new.kept (c.is_any_so_far.ensures w.if-is_any_so_far.true)
+      (w.take_at_once.ensures.left w.if-take_at_once.false) fits)
+  | else-is_any_so_far-via-else-is_any_so_far w ↦ rw w.self-is fits
+]
 
 pub returns-in_err-take-clause-keeps_err : goal.returns-in_err-take-clause-keeps_err
 returns-in_err-take-clause-keeps_err c =
     let p = err_from_is_err_and c.from_residual.result c.from_residual.ensures.1 in
-    rw p.1 (λ judged_by history fits. c.in_err-take.ensures.keeps_err judged_by history
-    (fits-still judged_by history c.args.self.now c.take_at_once.new.kept (c.is_any_so_far.ensures.is c.if-not-is_any_so_far.false)
-    (c.take_at_once.ensures.left c.if-take_at_once.false) fits))
+    rw p.1 (λ judged_by history fits. c.in_err-take.ensures.keeps_err judged_by history (fits-after c judged_by history fits))

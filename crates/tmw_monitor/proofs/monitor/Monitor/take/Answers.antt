@@ -1,6 +1,6 @@
 -- The next verdict is that of the history with the event, and where memory was refused the history fits as before.
 use Rattle.tmw_monitor.proofs.Shared.{TellsTracked, [], arith, err_from_is_err_and, length, rules, so_far, ◌++◌, ◌∷◌, ◌≡◌}
-use Rattle.tmw_monitor.proofs.Feeding.{fits-next, fits-wrong, fits-kept}
+use Rattle.tmw_monitor.proofs.Feeding.{fits-final, fits-next, fits-wrong, fits-kept}
 use Rattle.tmw_monitor.proofs.OnlyOpen.{keeps_only_open}
 use Rattle.tmw_monitor.proofs.monitor.Monitor.take.Goals as goal
 
@@ -28,7 +28,7 @@ returns-in-Some-clause-ok c judged_by history fits =
     fits-wrong judged_by history c.args.event c.args.self.now c.in-Some.verdict c.next_wrong.new.kept _ _ fits
     (rw c.in-Some.is at (c.in_ok-wrong.ensures.ok judged_by history fits.criterion fits.window fits.states (omega (arith, n)) (fits.keeps fine)))
     (record { states = nothing.states; stands = nothing.stands })
-    (c.follow.ensures judged_by.registers history (omega (arith, n)) told)
+    (c.follow-in-Some.ensures judged_by.registers history (omega (arith, n)) told)
 
 pub returns-in_default-clause-ok : goal.returns-in_default-clause-ok
 returns-in_default-clause-ok c judged_by history fits =
@@ -40,3 +40,10 @@ returns-in_default-clause-ok c judged_by history fits =
 pub returns-in_default-clause-keeps : goal.returns-in_default-clause-keeps
 returns-in_default-clause-keeps c judged_by history fits =
     keeps_only_open judged_by (history ++ c.args.event ∷ []) _ (returns-in_default-clause-ok c judged_by history fits)
+
+pub returns-then-not-is_so_far-clause-ok : goal.returns-then-not-is_so_far-clause-ok
+returns-then-not-is_so_far-clause-ok c judged_by history fits =
+    let final : c.args.self.now.verdict ≡ so_far c.args.self.now.criterion → ⊥ = search rules in
+    let n : c.args.self.now.count ≡ length history = fits.counted in
+    fits-final judged_by history c.args.event c.args.self.now _ _ fits final (let nothing = fits.forgets final in record { states = nothing.states; stands = nothing.stands })
+    (c.follow.ensures judged_by.registers history (omega (arith, n)) (fits.breaks final))
