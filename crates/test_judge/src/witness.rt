@@ -38,8 +38,19 @@ const fn staying() -> [Event; 8] {
     ]
 }
 
-/// The first of two that are held aborts: no order is known then.
-const fn lost() -> [Event; 7] {
+/// The second reads what the first has asked to commit and has not committed: no order is known then.
+const fn lost() -> [Event; 5] {
+    [
+        one(Kind::W(FIRST, 1)),
+        one(Kind::K),
+        one(Kind::T),
+        other(Kind::R(FIRST)),
+        other(Kind::V(1)),
+    ]
+}
+
+/// Of two that have asked to commit the first aborts. Neither was held.
+const fn asked() -> [Event; 7] {
     [
         one(Kind::W(FIRST, 1)),
         one(Kind::K),
@@ -79,7 +90,8 @@ fn an_order_stays_known_or_is_found_again(rt: HostRuntime) -> Result<(), Fail> {
     for (events, known) in [
         (moved().as_slice(), 8),
         (staying().as_slice(), 8),
-        (lost().as_slice(), 6),
+        (asked().as_slice(), 7),
+        (lost().as_slice(), 4),
     ] {
         let answer = known_after(rt.alloc(), events)?;
         assert_eq!(rt; answer, (known, true), "of {events:?}");
