@@ -11,8 +11,8 @@
 #   register that it changes, and its first answer unlike its own calls is as it was.
 # - What is left without one more transaction, or without one more call and its answer, is no such part, or has an order.
 # - Each sentence of the reason is true of the window: who ended before another began, what a transaction read, what it left in a
-#   register at its end, and what it had to find by its own calls. The last event of another transaction that puts the value there is told
-#   of a read that no order explains, with what became of it; or that none does.
+#   register at its end, and what it had to find by its own calls. Of a read that no order explains the last event before its
+#   answer that puts the value there is told, with what became of it; or that none does.
 # - The drawing and the traces of `--trace` have the part's events. `judge` finds each trace violated: if there is one, at its end.
 #
 # Each other history has an order, and so has each random part of it, made without the program. Each of three broken rules has to make a
