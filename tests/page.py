@@ -231,10 +231,14 @@ def compare(program, browser, words):
     if not page.startswith('<!DOCTYPE html>'):
         print(f'{words}: no page: {page[:200]!r}')
         return False
-    found = differences(page, opened(browser, page.replace('</body>', PROBE), '--dump-dom'), wanted(trace, shown(program, trace, *options)))
-    if found:
-        print(f'{words}: ' + '; '.join(found)[:800])
-    return not found
+    want, found = wanted(trace, shown(program, trace, *options)), []
+    # A browser on busy processors may open a page without the focus, and no focus event comes: the page is opened anew.
+    for _ in range(3):
+        found = differences(page, opened(browser, page.replace('</body>', PROBE), '--dump-dom'), want)
+        if not found:
+            return True
+    print(f'{words}: ' + '; '.join(found)[:800])
+    return False
 
 
 def pictured(program, size, mode, script, words):
