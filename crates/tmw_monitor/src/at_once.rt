@@ -75,7 +75,7 @@ fn go_on_at_once(
     true
 }
 
-/// Takes at once an event of the transaction at this place if it is quiet. It is asked where no order is known.
+/// Takes at once an event of the transaction at this place if it is quiet. It is asked if the order, as it stands, does not explain the event.
 #[inline(always)]
 fn ask_at_once(
     kept: &mut Open,

@@ -131,7 +131,7 @@ impl Witness {
     }
 
     /// If the transaction at this place has asked to commit and this is the answer that it has, takes it as committed at the end of
-    /// the order, if its reads hold there. So the order is that in which transactions have committed.
+    /// the order, if its reads hold there. So an order that is never searched for is that of the commits.
     #[inline(always)]
     pub fn hold_pending(&mut self, window: &Window, place: usize, kind: Kind)
         requires { place < count_of window.now }
