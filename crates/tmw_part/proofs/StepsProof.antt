@@ -117,8 +117,8 @@ module _ (criterion : Criterion) (states : List State) (ts : List Txn) (start : 
       let one : i ≡ m = stands_once a i m at first in
       let two : j ≡ k = stands_once b j k there here in
       omega (arith, low)
-  says_before a b (ReadFirst s w) holds is = both a b s.reader w is holds
-  says_before a b (ChangedFirst w s) holds is =
+  says_before a b (ReadFirst s w left) holds is = both a b s.reader w is holds
+  says_before a b (ChangedFirst w left s) holds is =
       let (one, two) = and_parts (w == a) _ is in
       rw (← eqb-true w a one) (rw (some_of b s.writer two) at holds)
   says_before a b (Through one between other) holds is = both a b one other is holds
@@ -135,8 +135,8 @@ module _ (criterion : Criterion) (states : List State) (ts : List Txn) (start : 
       let (m, first, low, changes, last) = rw (some_of a s.writer is) at comes in
       let same : changes.placed ≡ first.placed = placed_same (sym changes.there ∙ first.there) in
       record { place = m; stands = first; held = rw (← same) changes.held }
-  supplied_stands a (ReadFirst s w) holds is = absurd (cc)
-  supplied_stands a (ChangedFirst w s) holds is = absurd (cc)
+  supplied_stands a (ReadFirst s w left) holds is = absurd (cc)
+  supplied_stands a (ChangedFirst w left s) holds is = absurd (cc)
   supplied_stands a (Through one between other) holds is = absurd (cc)
 
   held_stands : (a : ℕ) → IsTrue (is_held ts steps a) → StandsHeld ts order a
@@ -292,8 +292,8 @@ module _ (criterion : Criterion) (states : List State) (ts : List Txn) (start : 
       let there : ComesFrom ts order s.register.number j s.writer =
       rw (eqb-true s.register.number t.register.number register, same_writer s.writer t.writer writer) comes in
       (j, here, there)
-  given s (ReadFirst t w) holds is = absurd (cc)
-  given s (ChangedFirst w t) holds is = absurd (cc)
+  given s (ReadFirst t w left) holds is = absurd (cc)
+  given s (ChangedFirst w left t) holds is = absurd (cc)
   given s (Through one between other) holds is = absurd (cc)
 
   source_holds : (s : Source) → IsTrue (list_any (gives s) steps) → HoldsIn ts order (From s)
@@ -360,8 +360,8 @@ module _ (criterion : Criterion) (states : List State) (ts : List Txn) (start : 
             (found.place, found.stands, subst (ComesFrom ts order s.register.number found.place) (same_writer found.writer s.writer same) found.comes)
         | inr none ↦ absurd (is_source s found none)
       ]
-  step_holds (ReadFirst s w) is = λ i j at there.
-      let (known, begins) = and_parts (is_known_rival ts steps s w) _ is in
+  step_holds (ReadFirst s w left) is = λ i j at there.
+      let (known, begins) = and_parts (is_known_rival ts steps s w left) _ is in
       let (has, both) = and_parts (list_any (gives s) steps) _ known in
       let rival = (and_parts (is_rival ts steps s w) _ both).0 in
       let (k, stands, comes) = source_holds s has in
@@ -370,8 +370,8 @@ module _ (criterion : Criterion) (states : List State) (ts : List Txn) (start : 
       let one : i ≡ k = stands_once s.reader i k at stands in
       let two : j ≡ r.place = stands_once w j r.place there r.stands in
       omega (arith, low)
-  step_holds (ChangedFirst w s) is =
-      let (known, more) = and_parts (is_known_rival ts steps s w) _ is in
+  step_holds (ChangedFirst w left s) is =
+      let (known, more) = and_parts (is_known_rival ts steps s w left) _ is in
       let before = (and_parts (has_writer s) _ more).1 in
       let (has, both) = and_parts (list_any (gives s) steps) _ known in
       let rival = (and_parts (is_rival ts steps s w) _ both).0 in

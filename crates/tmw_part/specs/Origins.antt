@@ -1,8 +1,8 @@
 -- Who in a window wrote a value that a transaction read of a register, and what became of that write.
-use Rattle.std.specs.Prelude.{◌==◌, ◌&&◌, ◌+◌, ◌%◌, ◌^◌, ℕ, suc, Bool, true, false, List, [], ◌∷◌, take, Option, Some, None, if◌then◌else◌}
+use Rattle.std.specs.Prelude.{◌==◌, ◌&&◌, ◌+◌, ℕ, Bool, true, false, List, [], ◌∷◌, take, Option, Some, None, if◌then◌else◌}
 use Rattle.tmw_events.specs.declared.event.Event.{Event}
 use Rattle.tmw_events.specs.declared.event.Kind.{Kind}
-use Rattle.tmw_events.specs.declared.event.Kind.TheVariants.{R, W, N, V}
+use Rattle.tmw_events.specs.declared.event.Kind.TheVariants.{R, N, V}
 use Rattle.tmw_defs.specs.declared.status.Status.{Status}
 use Rattle.tmw_defs.specs.declared.status.Status.TheVariants.{Live, Aborted}
 use Rattle.tmw_defs.specs.History.{Txn, status_of, operations, transactions}
@@ -11,22 +11,8 @@ use Rattle.tmw_part.specs.declared.origin.Fate.{Fate}
 use Rattle.tmw_part.specs.declared.origin.Fate.TheVariants.{GivenUp, Unasked, Overwritten, Stays}
 use Rattle.tmw_part.specs.declared.origin.Origin.{Origin}
 use Rattle.tmw_part.specs.Kept.{owner}
+use Rattle.tmw_part.specs.Pieces.{call_of, next_of, puts}
 use Rattle.tmw_part.specs.Steps.{is_some_of, txn_at}
-
--- The call, with what follows it in its thread, puts the value into the register: a write of it, answered or not, or an add that ends there.
-abbrev pub puts : ℕ → ℕ → Kind → Option Kind → Bool
-puts r v (W q w) next = (q.number == r) && (w == v)
-puts r v (N q d) (Some (V w)) = (q.number == r) && ((w + d) % 2 ^ 64 == v)
-puts r v kind next = false
-
--- The thread's first event among these.
-abbrev pub next_of : ℕ → List Event → Option Kind
-next_of thread [] = None
-next_of thread (e ∷ events) = if e.thread.number == thread then Some e.kind else next_of thread events
-
--- The number, from 1, of the transaction of the window in which the event of this thread at this place lies.
-abbrev pub number_at : List Txn → ℕ → ℕ → ℕ
-number_at window thread place = suc (owner window thread place place)
 
 -- The call, with what follows it in its thread, reads the value from the register.
 abbrev pub reads : ℕ → ℕ → Kind → Option Kind → Bool
@@ -34,22 +20,17 @@ reads r v (R q) (Some (V w)) = (q.number == r) && (w == v)
 reads r v (N q d) (Some (V w)) = (q.number == r) && (w == v)
 reads r v kind next = false
 
--- How many of these events come before the thread's first one among them.
-abbrev pub until_next : ℕ → List Event → ℕ
-until_next thread [] = 0
-until_next thread (e ∷ events) = if e.thread.number == thread then 0 else suc (until_next thread events)
-
 -- The event at this place, before these, is a call of the reader that reads the value from the register.
 abbrev pub reads_at : List Txn → ℕ → ℕ → ℕ → ℕ → Event → List Event → Bool
 reads_at window r v reader place e events =
-    reads r v e.kind (next_of e.thread.number events) && (number_at window e.thread.number place == reader)
+    reads r v e.kind (next_of e.thread.number events) && (owner window e.thread.number place place == reader)
 
 -- The place of the answer by which the reader first reads the value from the register; the first of these events has this place.
 abbrev pub answered_from : List Txn → ℕ → ℕ → ℕ → ℕ → List Event → ℕ
 answered_from window r v reader place [] = place
 answered_from window r v reader place (e ∷ events) =
     if reads_at window r v reader place e events
-    then place + (1 + until_next e.thread.number events)
+    then (call_of place e events).upto
     else answered_from window r v reader (place + 1) events
 
 -- the later of two, if the first is there
@@ -72,8 +53,8 @@ fate_of r v false t = fate_by (status_of t.text) (is_some_of v (left_by r None (
 abbrev pub origin_at : List Txn → ℕ → ℕ → ℕ → ℕ → Event → Origin
 origin_at window r v reader place e = record {
   place = place;
-  number = number_at window e.thread.number place;
-  fate = fate_of r v (number_at window e.thread.number place == reader) (txn_at window (owner window e.thread.number place place));
+  writer = owner window e.thread.number place place;
+  fate = fate_of r v (owner window e.thread.number place place == reader) (txn_at window (owner window e.thread.number place place));
 }
 
 -- The last of these events that does so; the first of them has this place.
@@ -83,7 +64,7 @@ origin_from window r v reader place (e ∷ events) =
     or_before (origin_from window r v reader (place + 1) events)
     (if puts r v e.kind (next_of e.thread.number events) then Some (origin_at window r v reader place e) else None)
 
--- Of the window's events the last that puts the value into the register before the reader, which has this number, is answered it.
+-- Of the window's events the last that puts the value into the register before the reader, the transaction at this place, is answered it.
 abbrev pub origin_of : List Event → ℕ → ℕ → ℕ → Option Origin
 origin_of window r v reader =
     origin_from (transactions window) r v reader 0 (take (answered_from (transactions window) r v reader 0 window) window)

@@ -3,7 +3,8 @@ ghost use Rattle.tmw_part.specs.Shown.{txns_of};
 ghost use Rattle.tmw_part.specs.Steps.{contradicts};
 
 use crate::deeds::{find_unlike, needed_of};
-use crate::follows::{contradicts, text_at};
+use crate::drawn::Drawn;
+use crate::follows::contradicts;
 use crate::step::{Contradiction, Step};
 use crate::transaction::Transaction;
 use std::alloc::{AllocError, Global};
@@ -12,15 +13,11 @@ use tmw_defs::Criterion;
 use tmw_events::Ix;
 
 /// Adds what may be wrong with what a transaction read, for each register.
-fn push_reads(
-    ends: &mut Vec<Contradiction>,
-    transactions: &[Transaction],
-    reader: usize,
-) -> Result<(), AllocError> {
-    let text = text_at(transactions, reader);
+fn push_reads(ends: &mut Vec<Contradiction>, one: &Drawn) -> Result<(), AllocError> {
+    let reader = one.place;
     for number in 0..8u8 {
         let register = Ix { number };
-        if let Some((expected, read)) = find_unlike(register, text) {
+        if let Some((expected, read)) = find_unlike(register, one.text) {
             ends.push(Contradiction::Unlike {
                 reader,
                 register,
@@ -28,7 +25,7 @@ fn push_reads(
                 read,
             })?;
         }
-        if let Some(value) = needed_of(register, text) {
+        if let Some(value) = needed_of(register, one.text) {
             ends.push(Contradiction::NoSource {
                 reader,
                 register,
@@ -40,25 +37,19 @@ fn push_reads(
 }
 
 /// Adds what may be wrong with what the transactions read.
-fn push_all_reads(
-    ends: &mut Vec<Contradiction>,
-    transactions: &[Transaction],
-) -> Result<(), AllocError> {
-    for reader in 0..transactions.len() {
-        push_reads(ends, transactions, reader)?;
+fn push_all_reads(ends: &mut Vec<Contradiction>, drawn: &[Drawn]) -> Result<(), AllocError> {
+    for one in drawn {
+        push_reads(ends, one)?;
     }
     Ok(())
 }
 
 /// Returns the contradictions to which steps of these transactions may come. Those that one sentence tells are first.
-pub(crate) fn ends(
-    alloc: Global,
-    transactions: &[Transaction],
-) -> Result<Vec<Contradiction>, AllocError> {
+pub(crate) fn ends(alloc: Global, drawn: &[Drawn]) -> Result<Vec<Contradiction>, AllocError> {
     let mut ends = Vec::new(alloc);
-    push_all_reads(&mut ends, transactions)?;
-    for place in 0..transactions.len() {
-        ends.push(Contradiction::Cycle(place))?;
+    push_all_reads(&mut ends, drawn)?;
+    for one in drawn {
+        ends.push(Contradiction::Cycle(one.place))?;
     }
     Ok(ends)
 }

@@ -223,18 +223,20 @@ fn precedes_at(transactions: &[Transaction], one: usize, other: usize) -> bool
     }
 }
 
-/// Whether the transaction is a rival of a source that is known, and leaves another value.
+/// Whether the transaction is a rival of a source that is known, and leaves this value, which is another.
 fn is_known_rival(
     transactions: &[Transaction],
     steps: &[Step],
     source: &Source,
     place: usize,
+    left: u64,
 ) -> bool
-    ensures { result ≡ is_known_rival (txns_of transactions.now) steps.now source.now place }
+    ensures { result ≡ is_known_rival (txns_of transactions.now) steps.now source.now place left }
 {
     is_given(steps, source)
         && is_rival(transactions, steps, source, place)
-        && !leaves(transactions, source, place)
+        && is_some_of(left, left_by(source.register, text_at(transactions, place)))
+        && left != source.value
 }
 
 /// Whether the value comes from a transaction, not from the start.
@@ -269,12 +271,21 @@ pub(crate) fn follows(
                 && may_come_from(states, transactions, &source, source.writer)
                 && is_only(states, transactions, steps, &source)
         }
-        Step::ReadFirst { source, rival } => {
-            is_known_rival(transactions, steps, &source, rival)
+        Step::ReadFirst {
+            source,
+            rival,
+            left,
+        } => {
+            is_known_rival(transactions, steps, &source, rival, left)
                 && begins_before(steps, source.writer, rival)
         }
-        Step::ChangedFirst { rival, source } => {
-            is_known_rival(transactions, steps, &source, rival) && is_late(steps, &source, rival)
+        Step::ChangedFirst {
+            rival,
+            left,
+            source,
+        } => {
+            is_known_rival(transactions, steps, &source, rival, left)
+                && is_late(steps, &source, rival)
         }
         Step::Through {
             one,

@@ -42,8 +42,8 @@ fn orders(one: usize, other: usize, step: &Step) -> bool
     match *step {
         Step::RealTime { one: a, other: b } => a == one && b == other,
         Step::From(source) => is_at(one, source.writer) && source.reader == other,
-        Step::ReadFirst { source, rival } => source.reader == one && rival == other,
-        Step::ChangedFirst { rival, source } => rival == one && is_at(other, source.writer),
+        Step::ReadFirst { source, rival, .. } => source.reader == one && rival == other,
+        Step::ChangedFirst { rival, source, .. } => rival == one && is_at(other, source.writer),
         Step::Through {
             one: a,
             between: _between,

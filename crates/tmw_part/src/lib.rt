@@ -1,9 +1,10 @@
-//! Of a violated window, a part that is violated by itself, and from which no transaction and no call can be taken out on its own.
+//! Of a violated window, a part that is violated by itself, from which nothing more can be taken out, and a reason why the window is.
 #![tactic(auto)]
 
 mod candidates;
 mod close;
 mod deeds;
+mod drawn;
 mod ends;
 mod find;
 mod follows;
@@ -16,6 +17,7 @@ mod origin;
 mod part;
 mod piece;
 mod prune;
+mod readers;
 mod reason;
 mod step;
 mod transaction;

@@ -25,10 +25,11 @@ use Rattle.tmw_show.specs.declared.command.form.Form.TheVariants.{Drawing, Trace
 use Rattle.tmw_show.specs.declared.command.options.ShowOptions.{ShowOptions}
 use Rattle.tmw_show.specs.declared.command.shown.Shown.{Shown}
 use Rattle.tmw_show.specs.Drawing.{states_text, window_text}
-use Rattle.tmw_show.specs.Explaining.{IsNeededOf, marks_of, needed_text, reason_of, shown_names, shown_told}
+use Rattle.tmw_show.specs.Explaining.{IsNeededOf, marks_of, needed_text, reason_of}
 use Rattle.tmw_show.specs.Page.{page_text, told_of}
-use Rattle.tmw_show.specs.Sentences.{reason_text}
+use Rattle.tmw_show.specs.Sentences.{reason_text, told_words}
 use Rattle.tmw_show.specs.TracesText.{traces_text}
+use Rattle.tmw_show.specs.Values.{long_values}
 
 -- The bytes are the text of a trace, and this is what is shown of its history.
 pub record IsShownOf (options : ShowOptions) (bytes : List ℕ) (shown : Shown) : Type 0 where
@@ -59,8 +60,8 @@ drawn_text criterion shown =
     ++ (states_text shown.registers (members shown.showing.states)
     ++ (needed_text shown.needed shown.showing.events.items
     ++ (window_text (told_of criterion shown) shown.showing.from (marks_of shown.needed shown.showing.events.items) shown.showing.events.items
-    ++ reason_text (shown_names shown.needed shown.showing.events.items)
-    (shown_told shown.showing.from shown.needed shown.showing.events.items) (reason_of shown.needed))))
+    ++ reason_text (long_values (shown_events shown)) (told_words shown.showing.from shown.showing.events.items (reason_of shown.needed))
+    (reason_of shown.needed))))
 
 abbrev pub shown_text : Criterion → Form → Shown → List ℕ
 shown_text criterion Drawing shown = drawn_text criterion shown
