@@ -1,5 +1,5 @@
 -- Short names for long values: v1, v2 .. in the order in which they appear among the events that are shown.
-use Rattle.std.specs.Prelude.{ℕ, ◌+◌, ◌==◌, ◌&&◌, Bool, not, nat_le, List, [], ◌∷◌, ◌++◌, codes, position, Option, Some, None, if◌then◌else◌}
+use Rattle.std.specs.Prelude.{ℕ, ◌+◌, ◌==◌, ◌||◌, Bool, nat_lt, List, [], ◌∷◌, ◌++◌, codes, position, Option, Some, None, if◌then◌else◌}
 use Rattle.std.specs.List.{list_any}
 use Rattle.std.specs.Fmt.{decimal}
 use Rattle.tmw_events.specs.Text.{digit, kind_text}
@@ -8,13 +8,17 @@ use Rattle.tmw_events.specs.declared.event.Kind.{Kind}
 use Rattle.tmw_events.specs.declared.event.Kind.TheVariants.{N, V, W}
 use Rattle.tmw_lines.specs.Text.{line}
 
--- A value of more than nine digits is long.
-abbrev pub is_long : ℕ → Bool
-is_long value = nat_le 1000000000 value
+-- A value of at most nine digits is short.
+abbrev pub is_short : ℕ → Bool
+is_short value = nat_lt value 1000000000
 
--- These values and the next one, if it is long and not among them.
+-- the value is one of these
+abbrev pub has_name : List ℕ → ℕ → Bool
+has_name values value = list_any (λ other. other == value) values
+
+-- These values and the next one, if it is not short and not among them.
 abbrev pub with_value : List ℕ → ℕ → List ℕ
-with_value values value = if is_long value && not (list_any (λ other. other == value) values) then values ++ value ∷ [] else values
+with_value values value = if is_short value || has_name values value then values else values ++ value ∷ []
 
 -- and the one that the next event writes, adds or answers
 abbrev pub with_kind : List ℕ → Kind → List ℕ

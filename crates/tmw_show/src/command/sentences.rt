@@ -37,7 +37,8 @@ pub fn push_clauses(text: &mut Vec<u8>, told: &[Word], reason: &Reason) -> Resul
     push_each(text, &StepClause, &reason.steps)?;
     push_clause(text, told)?;
     let words = end_words(*text.allocator(), &reason.end)?;
-    push_each(text, &Spoken { values: &[] }, &words)
+    push_each(text, &Spoken { values: &[] }, &words)?;
+    Ok(())
 }
 
 /// The clause of a step.

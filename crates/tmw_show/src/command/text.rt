@@ -65,7 +65,13 @@ fn drawn_text(alloc: Global, criterion: Criterion, shown: &Shown) -> Result<Vec<
     push_window(&mut text, told, showing.from, &marks, &showing.events)?;
     let kept = kept_of(alloc, &marks, &showing.events)?;
     let values = long_values(alloc, &kept)?;
-    push_reason_of(&mut text, showing.from, &values, &showing.events, &shown.needed)?;
+    push_reason_of(
+        &mut text,
+        showing.from,
+        &values,
+        &showing.events,
+        &shown.needed,
+    )?;
     Ok(text)
 }
 

@@ -1,6 +1,6 @@
 ghost use Rattle.std.specs.Prelude.{◌≡◌, ◌==◌, ◌∷◌, ◌++◌, IfOk, OnOk, position};
 ghost use Rattle.tmw_events.specs.Text.{digit};
-ghost use Rattle.tmw_show.specs.Values.{long_values, named, names_from, short_name, shown_kind, value_text, with_kind, with_value};
+ghost use Rattle.tmw_show.specs.Values.{has_name, long_values, named, names_from, short_name, shown_kind, value_text, with_kind, with_value};
 
 use crate::command::event_text::push_kind;
 use crate::command::numbers::push_number;
@@ -11,13 +11,21 @@ use tmw_events::{Event, Ix, Kind};
 /// The least value of more than nine digits: it is shown by a short name.
 const LEAST_LONG: u64 = 1_000_000_000;
 
+/// Whether the value is one of these.
+fn has_name(values: &[u64], value: u64) -> bool
+    ensures { result ≡ has_name values.now value }
+{
+    values.iter().any(|other| *other == value)
+}
+
 /// Adds the value to these, if it is long and not among them.
 fn note_value(values: &mut Vec<u64>, value: u64) -> Result<(), AllocError>
     ensures { OnOk result (values.new.items ≡ with_value values.old.items value) }
 {
-    if LEAST_LONG <= value && !values.iter().any(|other| *other == value) {
-        values.push(value)?;
+    if value < LEAST_LONG || has_name(values, value) {
+        return Ok(());
     }
+    values.push(value)?;
     Ok(())
 }
 

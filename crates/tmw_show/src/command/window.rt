@@ -78,7 +78,7 @@ fn push_rows(
     requires { from + length events.now < 2 ^ 64 }
     ensures { OnOk result
         (text.new.items ≡ text.old.items
-        ++ rows_text told width legend.names.now legend.values.now from 0 marks.now events.now) }
+        ++ rows_text told width legend.entry.names.now legend.entry.values.now from 0 marks.now events.now) }
 {
     let mut place = 0;
     let mut rest_marks = marks;
@@ -119,7 +119,7 @@ fn push_line(
     ensures { OnOk result
         (text.new.items ≡ text.old.items
         ++ line (told_row width
-        (event_row legend.names.now legend.values.now place number event) told.now)) }
+        (event_row legend.entry.names.now legend.entry.values.now place number event) told.now)) }
 {
     let before = text.len();
     push_row(text, legend, place, number, event)?;
@@ -139,7 +139,7 @@ fn push_row(
     event: Event,
 ) -> Result<(), AllocError>
     ensures { OnOk result (text.new.items
-        ≡ text.old.items ++ event_row legend.names.now legend.values.now place number event) }
+        ≡ text.old.items ++ event_row legend.entry.names.now legend.entry.values.now place number event) }
 {
     let mut buffer = Buffer::new();
     let digits = buffer.format(number).as_bytes();
