@@ -122,16 +122,19 @@ def is_true(sentence, names, states, window):
 
 def origin_of(end, names, window):
     """What has to be told before this last sentence of where the value comes from that it says was read, or None."""
-    found = re.fullmatch(r"(T\d+) read (\d+) from register (\d+), w.*", end)
+    found = re.fullmatch(r"(T\d+) read (\d+) from register (\d+), w.*?(?: make it (\d+))?", end)
     if not found:
         return None
-    reader, value, register = names[found[1]], int(found[2]), int(found[3])
+    reader, value, register, expected = names[found[1]], int(found[2]), int(found[3]), found[4] and int(found[4])
     number = {event: n for n, t in enumerate(transactions(window), 1) for event in t.events}
-    own = [call for call in calls(window) if call[0] in reader.events]
-    read = min(call[1].number for call in own if (operation(call) or ())[:2] == (register, value))
-    # (an add puts its value there by its answer, which has to come before too)
+    read, known = None, None
+    for call in calls(window):
+        other, answer, left = operation(call) or (None, None, None)
+        if call[0] in reader.events and other == register:
+            if read is None and (known, answer) == (expected, value):
+                read = call[1].number
+            known = answer if left is None else left
     puts = [call for call in calls(window) if left_by(call) == (register, value) and call[0].number < read]
-    puts = [call for call in puts if call[0].kind[0] == "W" or call[1].number < read]
     if not puts:
         return f"no earlier event of this window puts {value} into register {register}"
     call = max(puts, key=lambda call: call[0].number)

@@ -69,9 +69,9 @@ may_miss_all part [] events = true
 may_miss_all part (mark ∷ marks) [] = true
 may_miss_all part (mark ∷ marks) (e ∷ events) = (mark || may_miss part e.kind) && may_miss_all part marks events
 
--- What is kept has the last event, whole calls and each write whose value it reads. Each transaction agrees with its whole on what it
--- leaves at last in a register that it changes, and on the first answer that it had to find otherwise. It is a part of the window, in which each transaction is left of the one in which its own events lie. (What an add that is
--- not answered would leave isn't known.)
+-- What is kept has the last event, whole calls and each write whose value it reads. It is a part of the window, in which each transaction
+-- is left of the one in which its own events lie, and agrees with it on what it leaves at last in a register that it changes, and on the
+-- values of the first answer unlike its own operations. (What an add that is not answered would leave isn't known.)
 abbrev pub keeps_part : List Bool → List Event → Bool
 keeps_part marks window =
     keeps_last marks

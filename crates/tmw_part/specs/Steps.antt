@@ -41,16 +41,16 @@ abbrev pub is_some_of : ℕ → Option ℕ → Bool
 is_some_of v None = false
 is_some_of v (Some w) = w == v
 
-abbrev pub is_same_writer : Option ℕ → Option ℕ → Bool
-is_same_writer None None = true
-is_same_writer None (Some b) = false
-is_same_writer (Some a) None = false
-is_same_writer (Some a) (Some b) = a == b
+abbrev pub is_same_option : Option ℕ → Option ℕ → Bool
+is_same_option None None = true
+is_same_option None (Some b) = false
+is_same_option (Some a) None = false
+is_same_option (Some a) (Some b) = a == b
 
 abbrev pub is_same_source : Source → Source → Bool
 is_same_source s t =
     (s.reader == t.reader)
-    && ((s.register.number == t.register.number) && ((s.value == t.value) && is_same_writer s.writer t.writer))
+    && ((s.register.number == t.register.number) && ((s.value == t.value) && is_same_option s.writer t.writer))
 
 -- The step says that the one stands before the other.
 abbrev pub orders : ℕ → ℕ → Step → Bool
@@ -130,7 +130,7 @@ from_else s w = record s { writer = w }
 -- The value can't come from this writer, unless it is the source's own.
 abbrev pub comes_not_else : List State → List Txn → List Step → Source → Option ℕ → Bool
 comes_not_else states ts steps s w =
-    is_same_writer w s.writer || (not (may_come_from states ts s w) || is_excluded ts steps (from_else s w))
+    is_same_option w s.writer || (not (may_come_from states ts s w) || is_excluded ts steps (from_else s w))
 
 -- It comes from no other than the source's own writer.
 abbrev pub is_only : List State → List Txn → List Step → Source → Bool
@@ -156,7 +156,7 @@ is_known_rival ts steps s a left =
 
 -- The value comes from a transaction, not from the start.
 abbrev pub has_writer : Source → Bool
-has_writer s = not (is_same_writer s.writer None)
+has_writer s = not (is_same_option s.writer None)
 
 -- Whether a step follows from these: by real time; because the value can come from nowhere else; because the reader and the writer would
 -- else have a rival between them; or by a third transaction.

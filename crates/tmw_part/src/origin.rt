@@ -1,5 +1,6 @@
 ghost use Rattle.std.specs.Prelude.{◌≡◌, ◌≤◌, ◌<◌, IfOk, IfSome, length};
-ghost use Rattle.tmw_part.specs.Origins.{answered_from, fate_by, fate_of, origin_at, origin_of, reads, reads_at};
+ghost use Rattle.tmw_part.specs.Origins.{answered_from, fate_by, fate_of, known_past, origin_at, origin_of, reads};
+ghost use Rattle.tmw_part.specs.Steps.{is_same_option};
 ghost use Rattle.tmw_part.specs.Shown.{txn_of, txns_of};
 
 use crate::deeds::{is_some_of, left_by};
@@ -19,7 +20,7 @@ pub enum Fate {
     GivenUp,
     /// It had not asked to commit.
     Unasked,
-    /// It left another value there.
+    /// It put or left another value there, or is the reader itself.
     Overwritten,
     /// It left the value there, and committed or asked to.
     Stays,
@@ -46,40 +47,54 @@ fn reads(register: Ix, value: u64, kind: Kind, next: Option<Kind>) -> bool
     }
 }
 
-/// Whether the event at this place, before these, is a call of the reader that reads the value from the register.
-fn reads_at(
-    window: &[Transaction],
-    register: Ix,
-    value: u64,
-    reader: usize,
-    place: usize,
-    event: &Event,
-    events: &[Event],
-) -> bool
-    ensures { result ≡ reads_at (txns_of window.now) register.number value reader place
-        event.now events.now }
+/// What is known of the register after the call, with what follows it in its thread, if this is known before it.
+fn known_past(register: Ix, known: Option<u64>, kind: Kind, next: Option<Kind>) -> Option<u64>
+    ensures { result ≡ known_past register.number known kind next }
 {
-    reads(register, value, event.kind, next_of(event.thread, events))
-        && owner(window, event.thread, place, place) == reader
+    match (kind, next) {
+        (Kind::R(other), Some(Kind::V(value))) if other == register => Some(value),
+        (Kind::W(other, value), Some(Kind::K)) if other == register => Some(value),
+        (Kind::N(other, added), Some(Kind::V(value))) if other == register => {
+            Some(value.wrapping_add(added))
+        }
+        _ => known,
+    }
 }
 
-/// The place of the answer by which the reader first reads the value from the register, or the length.
+/// Whether both are known to be one value, or nothing is known.
+fn is_same_value(one: Option<u64>, other: Option<u64>) -> bool
+    ensures { result ≡ is_same_option one other }
+{
+    match (one, other) {
+        (None, None) => true,
+        (Some(a), Some(b)) => a == b,
+        _ => false,
+    }
+}
+
+/// The place of the answer by which the reader first reads the value from the register while its own calls make that
+/// register this, or the length.
 fn answered_at(
     window: &[Transaction],
     register: Ix,
     value: u64,
+    expected: Option<u64>,
     reader: usize,
     events: &[Event],
 ) -> usize
-    ensures is { result ≡ answered_from (txns_of window.now) register.number value reader 0
-        events.now }
-    ensures within { result ≤ length events.now }
+    ensures { result ≡ answered_from (txns_of window.now) register.number value expected reader
+        None 0 events.now }
 {
+    let mut known = None;
     let mut place = 0;
     let mut rest = events;
     while let [event, more @ ..] = rest {
-        if reads_at(window, register, value, reader, place, event, more) {
-            return call_of(place, *event, more).upto;
+        if owner(window, event.thread, place, place) == reader {
+            let next = next_of(event.thread, more);
+            if is_same_value(known, expected) && reads(register, value, event.kind, next) {
+                return call_of(place, *event, more).upto;
+            }
+            known = known_past(register, known, event.kind, next);
         }
         place += 1;
         rest = more;
@@ -127,23 +142,26 @@ fn origin_at(
 }
 
 /// Finds the last event of a window that puts the value into the register before the reader, the transaction at this
-/// place, is answered it.
+/// place, is answered it while its own calls make the register this: nothing that is known, or a value.
 pub fn find_origin(
     alloc: Global,
     events: &[Event],
     register: Ix,
     value: u64,
+    expected: Option<u64>,
     reader: usize,
 ) -> Result<Option<Origin>, AllocError>
-    ensures is { IfOk result (λ found. found ≡ origin_of events.now register.number value reader) }
+    ensures is { IfOk result (λ found. found
+        ≡ origin_of events.now register.number value expected reader) }
     ensures within { IfOk result (λ found. IfSome found (λ origin. origin.place < length events.now)) }
 {
     let window = transactions(alloc, events)?;
     let mut found = None;
     let mut place = 0;
-    let mut rest = &events[..answered_at(&window, register, value, reader, events)];
+    let mut rest = events;
+    let upto = answered_at(&window, register, value, expected, reader, events);
     while let [event, more @ ..] = rest {
-        if puts(register, value, event.kind, next_of(event.thread, more)) {
+        if place < upto && puts(register, value, event.kind, next_of(event.thread, more)) {
             found = Some(origin_at(&window, register, value, reader, place, event));
         }
         place += 1;

@@ -52,8 +52,8 @@ AnswersShow options Ended bytes (Err fault) = AnswersTextFault (HasTextFault tra
 abbrev pub shown_events : Shown → List Event
 shown_events shown = kept_of (marks_of shown.needed shown.showing.events.items) shown.showing.events.items
 
--- What is written in this form: the report's line, the states from which the last window begins, its events, and the reason why these
--- are violated, where it is told; or the events alone, as traces; or a page that draws them.
+-- What is written in this form: the report's line, the states from which the last window begins, those of its events that are shown, and
+-- the reason why the window is violated, where it is told; or the events alone, as traces; or a page that draws them.
 abbrev pub drawn_text : Criterion → Shown → List ℕ
 drawn_text criterion shown =
     report_by criterion shown.showing.fed shown.showing.verdict

@@ -132,15 +132,16 @@ origin_words from register value (Some origin) =
     Transaction origin.writer ∷ Saying Put
     ∷ (put_words value register ++ (Saying AtEvent ∷ Number (from + (origin.place + 1)) ∷ fate_words origin.fate))
 
--- So of the value that the transaction at this place of the window read.
-abbrev pub read_from : ℕ → List Event → ℕ → ℕ → ℕ → List Word
-read_from from window reader register value = origin_words from register value (origin_of window register value reader)
+-- So of the value that the transaction at this place of the window read while its own calls made the register `expected`.
+abbrev pub read_from : ℕ → List Event → ℕ → ℕ → ℕ → Option ℕ → List Word
+read_from from window reader register value expected =
+    origin_words from register value (origin_of window register value expected reader)
 
 -- and of the read, if there is one, that no order explains
 abbrev pub told_by : ℕ → List Event → Contradiction → List Word
 told_by from window (Cycle place) = []
-told_by from window (NoSource reader register value) = read_from from window reader register.number value
-told_by from window (Unlike reader register expected read) = read_from from window reader register.number read
+told_by from window (NoSource reader register value) = read_from from window reader register.number value None
+told_by from window (Unlike reader register expected read) = read_from from window reader register.number read (Some expected)
 
 abbrev pub told_words : ℕ → List Event → Option Reason → List Word
 told_words from window None = []

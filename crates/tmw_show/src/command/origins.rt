@@ -57,7 +57,8 @@ fn push_put(words: &mut Vec<Word>, register: Ix, value: u64) -> Result<(), Alloc
     Ok(())
 }
 
-/// Where the value comes from that the transaction at this place of the window read.
+/// Where the value comes from that the transaction at this place of the window read while its own calls made the
+/// register this.
 fn read_from(
     alloc: Global,
     from: u64,
@@ -65,12 +66,13 @@ fn read_from(
     reader: usize,
     register: Ix,
     value: u64,
+    expected: Option<u64>,
 ) -> Result<Vec<Word>, AllocError>
     requires { from + length events.now < 2 ^ 64 }
     ensures { IfOk result (λ words. words.items
-        ≡ read_from from events.now reader register.number value) }
+        ≡ read_from from events.now reader register.number value expected) }
 {
-    let origin = find_origin(alloc, events, register, value, reader)?;
+    let origin = find_origin(alloc, events, register, value, expected, reader)?;
     origin_words(alloc, from, register, value, origin)
 }
 
@@ -91,12 +93,12 @@ pub fn told_by(
             reader,
             register,
             value,
-        } => read_from(alloc, from, events, reader, register, value),
+        } => read_from(alloc, from, events, reader, register, value, None),
         Contradiction::Unlike {
             reader,
             register,
+            expected,
             read,
-            ..
-        } => read_from(alloc, from, events, reader, register, read),
+        } => read_from(alloc, from, events, reader, register, read, Some(expected)),
     }
 }

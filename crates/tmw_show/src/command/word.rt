@@ -1,4 +1,4 @@
-/// A word of a sentence that tells why a part is violated.
+/// A word of a sentence that tells why a window is violated.
 #[derive(Clone, Copy, PartialEq, Eq, Debug)]
 pub enum Word {
     /// The transaction at this place among those of the window.

@@ -1,7 +1,5 @@
 -- The last sentence follows the others.
-use Rattle.std.proofs.Common.{[]}
-use Rattle.std.specs.List.{flat_map}
-use Rattle.tmw_show.specs.Sentences.{clause_text, end_words, step_words, word_text}
+use Rattle.tmw_show.proofs.Shared.{[], clause_text, end_words, flat_map, step_words, word_text}
 use Rattle.tmw_show.proofs.Appends.{three}
 use Rattle.tmw_show.proofs.command.sentences.push_clauses.Goals as goal
 

@@ -1,5 +1,4 @@
-use Rattle.std.proofs.Common.{◌≡◌, length}
-use Rattle.tmw_show.specs.Values.{long_values, values_after}
+use Rattle.tmw_show.proofs.Shared.{length, long_values, values_after, ◌≡◌}
 use Rattle.tmw_show.proofs.command.values.long_values.Given as goal
 
 abbrev pub invariant-loop-rest : goal.invariant-loop-rest

@@ -1,5 +1,4 @@
-use Rattle.std.proofs.Common.{◌≡◌, ◌+◌, ◌++◌, length}
-use Rattle.tmw_show.specs.Values.{names_from}
+use Rattle.tmw_show.proofs.Shared.{length, names_from, ◌++◌, ◌+◌, ◌≡◌}
 use Rattle.tmw_show.proofs.command.values.push_names.Given as goal
 
 abbrev pub invariant-loop-rest : goal.invariant-loop-rest

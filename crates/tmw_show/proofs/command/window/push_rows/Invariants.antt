@@ -1,6 +1,5 @@
 -- What is written and what is still to be written are all; the places go on.
-use Rattle.std.proofs.Common.{◌≡◌, ◌+◌, ◌++◌, length}
-use Rattle.tmw_show.specs.Drawing.{rows_text}
+use Rattle.tmw_show.proofs.Shared.{length, rows_text, ◌++◌, ◌+◌, ◌≡◌}
 use Rattle.tmw_show.proofs.command.window.push_rows.Given as goal
 
 abbrev pub invariant-loop-rest_marks : goal.invariant-loop-rest_marks

@@ -1,9 +1,5 @@
 -- Each part follows the one before it.
-use Rattle.std.proofs.Common.{codes}
-use Rattle.tmw_cuts.specs.Members.{members}
-use Rattle.tmw_show.specs.Explaining.{reason_of}
-use Rattle.tmw_show.specs.Page.{about_json, mark_json, needed_json, told_of, why_json, window_json}
-use Rattle.tmw_show.specs.Sentences.{told_words}
+use Rattle.tmw_show.proofs.Shared.{about_json, codes, mark_json, members, needed_json, reason_of, told_of, told_words, why_json, window_json}
 use Rattle.tmw_show.proofs.Appends.{six}
 use Rattle.tmw_show.proofs.command.page.json.push_json.Goals as goal
 
