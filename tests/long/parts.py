@@ -131,7 +131,7 @@ def origin_of(end, names, window):
     for call in calls(window):
         other, answer, left = operation(call) or (None, None, None)
         if call[0] in reader.events and other == register:
-            if read is None and (known, answer) == (expected, value):
+            if read is None and answer == value and expected in (None, known):
                 read = call[1].number
             known = answer if left is None else left
     puts = [call for call in calls(window) if left_by(call) == (register, value) and call[0].number < read]

@@ -1,5 +1,5 @@
 -- Steps that follow from those before them hold in each serial order, and contradict each other in none.
-use Rattle.tmw_part.proofs.Shared.{Aborted, All, All-contains, All-from_recursion, AllByRecursion, Bool, Changes, ComesFrom, Committed, Contains, Criterion, Derives, ExplainsBy, HoldsIn, IsTrue, List, Live, None, Opacity, Option, Pending, Placed, ReasonLaw, Some, StandsAt, StandsBefore, StandsBeforeWriter, State, Status, Step, Strict, Txn, [], and_from, and_parts, ap, arith, begin_apart, begins_before, cases_Bool, cases_order, comes_not_else, contradicts, ends_before, eq-eqb, eqb-true, false, follows, from_else, gives, has_place, has_writer, inl, inr, is_asked, is_before, is_committed, is_excluded, is_held, is_known_rival, is_pair, is_rival, is_same_option, is_some_of, left_by, length, list_all, list_any, ltb-true, may_come_from, may_hold, needed_of, not, not-true, operations, ops_at, or_cases, orders, range_with_len, refl, slice_get, slice_index, status_of, subst, suc, supplies, sym, take, take_all, true, txn_at, writes, zero, ℕ, ◌&&◌, ◌+◌, ◌<◌, ◌==◌, ◌||◌, ◌∙◌, ◌∷◌, ◌≡◌, ◌≤◌}
+use Rattle.tmw_part.proofs.Shared.{Aborted, All, All-contains, All-from_recursion, AllByRecursion, Bool, Changes, ComesFrom, Committed, Contains, Criterion, Derives, ExplainsBy, HoldsIn, IsTrue, List, Live, None, Opacity, Option, Pending, Placed, ReasonLaw, Some, StandsAt, StandsBefore, StandsBeforeWriter, State, Status, Step, Strict, Txn, [], and_from, and_parts, ap, arith, begin_apart, begins_before, cases_Bool, cases_order, comes_not_else, contradicts, ends_before, eq-eqb, eqb-true, false, follows, from_else, gives, has_place, has_writer, inl, inr, is_asked, is_before, is_committed, is_excluded, is_held, is_known_rival, is_pair, is_rival, is_same_writer, is_some_of, left_by, length, list_all, list_any, ltb-true, may_come_from, may_hold, needs, not, not-true, operations, ops_at, or_cases, orders, range_with_len, refl, slice_get, slice_index, status_of, subst, suc, supplies, sym, take, take_all, true, txn_at, writes, zero, ℕ, ◌&&◌, ◌+◌, ◌<◌, ◌==◌, ◌||◌, ◌∙◌, ◌∷◌, ◌≡◌, ◌≤◌}
 use Rattle.tmw_part.specs.declared.step.Step.TheVariants.{ChangedFirst, From, ReadFirst, RealTime, Through}
 use Rattle.tmw_part.specs.declared.step.Contradiction.{Contradiction}
 use Rattle.tmw_part.specs.declared.step.Contradiction.TheVariants.{Cycle, NoSource, Unlike}
@@ -7,7 +7,7 @@ use Rattle.tmw_part.specs.declared.step.Source.{Source}
 use Rattle.std.proofs.lemmas.List.Folds.{list_any_at}
 use Rattle.tmw_part.proofs.ListFacts.{find_any, find_place, each_place, none_all, all-more, get_some}
 use Rattle.tmw_part.proofs.OrderFacts.{IsIn, IsSerial, apart, serial}
-use Rattle.tmw_part.proofs.OrderValues.{state_at, reads_at, length-state_at, value_at, needed_holds, reads_alike}
+use Rattle.tmw_part.proofs.OrderValues.{state_at, reads_at, length-state_at, value_at, needs_holds, reads_alike}
 
 -- what is used of transactions that begin apart, of an order of them, of the state that it begins in and of the steps that are known
 record Case (criterion : Criterion) (states : List State) (ts : List Txn) (s : State) (order : List Placed) (steps : List Step) : Type 0 where
@@ -83,7 +83,7 @@ abbrev IsWithin : List Txn → Option ℕ → Type 0
 IsWithin ts None = Unit {0}
 IsWithin ts (Some a) = a < length ts
 
-pub same_writer : (v w : Option ℕ) → IsTrue (is_same_option v w) → v ≡ w
+pub same_writer : (v w : Option ℕ) → IsTrue (is_same_writer v w) → v ≡ w
 same_writer None None is = refl
 same_writer None (Some b) is = absurd (cc)
 same_writer (Some a) None is = absurd (cc)
@@ -214,11 +214,11 @@ module _ (criterion : Criterion) (states : List State) (ts : List Txn) (start : 
     comes : ComesFrom ts order s.register.number place writer
     may : IsTrue (may_come_from states ts s writer)
 
-  read_value : (s : Source) (j : ℕ) → StandsAt ts order s.reader j → IsTrue (is_some_of s.value (needed_of s.register.number (ops_at ts s.reader)))
+  read_value : (s : Source) (j : ℕ) → StandsAt ts order s.reader j → IsTrue (needs s.register.number s.value (ops_at ts s.reader))
       → slice_index (state_at start order j) s.register.number ≡ s.value
   read_value s j at needs =
       let same = txn_at-get ts s.reader at.placed.txn at.is in
-      needed_holds (state_at start order j) s.register.number s.value (operations at.placed.txn.text)
+      needs_holds (state_at start order j) s.register.number s.value (operations at.placed.txn.text)
       (reads_at start order j at.placed c.serial.legal at.there) (rw same at needs)
 
   actual : (s : Source) → IsTrue (is_asked criterion ts steps s) → Actual s
@@ -355,7 +355,7 @@ module _ (criterion : Criterion) (states : List State) (ts : List Txn) (start : 
       let only = (and_parts (may_come_from states ts s s.writer) _ rest).1 in
       let found = actual s asked in
       let passes = writer_passes (comes_not_else states ts steps s) found.writer found.within only in
-      elim (or_cases (is_same_option found.writer s.writer) _ passes) [
+      elim (or_cases (is_same_writer found.writer s.writer) _ passes) [
         | inl same ↦
             (found.place, found.stands, subst (ComesFrom ts order s.register.number found.place) (same_writer found.writer s.writer same) found.comes)
         | inr none ↦ absurd (is_source s found none)

@@ -12,7 +12,7 @@ use Rattle.tmw_part.specs.declared.origin.Fate.TheVariants.{GivenUp, Unasked, Ov
 use Rattle.tmw_part.specs.declared.origin.Origin.{Origin}
 use Rattle.tmw_part.specs.Kept.{owner}
 use Rattle.tmw_part.specs.Pieces.{call_of, next_of, puts}
-use Rattle.tmw_part.specs.Steps.{is_same_option, is_some_of, txn_at}
+use Rattle.tmw_part.specs.Steps.{is_some_of, txn_at}
 
 -- The call, with what follows it in its thread, reads the value from the register.
 abbrev pub reads : ℕ → ℕ → Kind → Option Kind → Bool
@@ -27,13 +27,18 @@ known_past r known (W q w) (Some K) = if q.number == r then Some w else known
 known_past r known (N q d) (Some (V w)) = if q.number == r then Some ((w + d) % 2 ^ 64) else known
 known_past r known kind next = known
 
--- The place of the answer by which the reader first reads the value from the register while its own calls make that register `expected`:
--- nothing that is known, or a value. The first of these events has this place, and so much is known before it.
+-- What is known is what is expected, if a value is.
+abbrev pub is_as_expected : Option ℕ → Option ℕ → Bool
+is_as_expected None known = true
+is_as_expected (Some v) known = is_some_of v known
+
+-- The place of the answer by which the reader first reads the value from the register, or first does so while its own calls make that
+-- register the value `expected`. The first of these events has this place, and so much is known before it.
 abbrev pub answered_from : List Txn → ℕ → ℕ → Option ℕ → ℕ → Option ℕ → ℕ → List Event → ℕ
 answered_from window r v expected reader known place [] = place
 answered_from window r v expected reader known place (e ∷ events) =
     if owner window e.thread.number place place == reader
-    then (if is_same_option known expected && reads r v e.kind (next_of e.thread.number events)
+    then (if is_as_expected expected known && reads r v e.kind (next_of e.thread.number events)
     then (call_of place e events).upto
     else answered_from window r v expected reader (known_past r known e.kind (next_of e.thread.number events)) (place + 1) events)
     else answered_from window r v expected reader known (place + 1) events
@@ -69,8 +74,8 @@ origin_from window r v reader upto place (e ∷ events) =
     or_before (origin_from window r v reader upto (place + 1) events)
     (if nat_lt place upto && puts r v e.kind (next_of e.thread.number events) then Some (origin_at window r v reader place e) else None)
 
--- Of the window's events the last that puts the value into the register before the reader, the transaction at this place, is answered it
--- while its own calls make the register `expected`.
+-- Of the window's events the last that puts the value into the register before the reader, the transaction at this place, is first
+-- answered it, or first while its own calls make the register `expected`.
 abbrev pub origin_of : List Event → ℕ → ℕ → Option ℕ → ℕ → Option Origin
 origin_of window r v expected reader =
     let ts = transactions window in

@@ -26,12 +26,12 @@ txn_at ts a = slice_index_or ts a nothing
 abbrev pub ops_at : List Txn → ℕ → List Op
 ops_at ts a = operations (txn_at ts a).text
 
--- What the operations need the register to hold before them: the first of them on the register is a read or an add that was answered it.
-abbrev pub needed_of : ℕ → List Op → Option ℕ
-needed_of r [] = None
-needed_of r (Read q v ∷ ops) = if q.number == r then Some v else needed_of r ops
-needed_of r (Write q v ∷ ops) = if q.number == r then None else needed_of r ops
-needed_of r (Add q d v ∷ ops) = if q.number == r then Some v else needed_of r ops
+-- The operations need the register to hold the value before them: a read, or the first add, was answered it before any of them changed it.
+abbrev pub needs : ℕ → ℕ → List Op → Bool
+needs r v [] = false
+needs r v (Read q w ∷ ops) = ((q.number == r) && (w == v)) || needs r v ops
+needs r v (Write q w ∷ ops) = not (q.number == r) && needs r v ops
+needs r v (Add q d w ∷ ops) = if q.number == r then w == v else needs r v ops
 
 abbrev pub is_pair : ℕ → ℕ → Option (ℕ × ℕ) → Bool
 is_pair a b None = false
@@ -41,16 +41,16 @@ abbrev pub is_some_of : ℕ → Option ℕ → Bool
 is_some_of v None = false
 is_some_of v (Some w) = w == v
 
-abbrev pub is_same_option : Option ℕ → Option ℕ → Bool
-is_same_option None None = true
-is_same_option None (Some b) = false
-is_same_option (Some a) None = false
-is_same_option (Some a) (Some b) = a == b
+abbrev pub is_same_writer : Option ℕ → Option ℕ → Bool
+is_same_writer None None = true
+is_same_writer None (Some b) = false
+is_same_writer (Some a) None = false
+is_same_writer (Some a) (Some b) = a == b
 
 abbrev pub is_same_source : Source → Source → Bool
 is_same_source s t =
     (s.reader == t.reader)
-    && ((s.register.number == t.register.number) && ((s.value == t.value) && is_same_option s.writer t.writer))
+    && ((s.register.number == t.register.number) && ((s.value == t.value) && is_same_writer s.writer t.writer))
 
 -- The step says that the one stands before the other.
 abbrev pub orders : ℕ → ℕ → Step → Bool
@@ -130,7 +130,7 @@ from_else s w = record s { writer = w }
 -- The value can't come from this writer, unless it is the source's own.
 abbrev pub comes_not_else : List State → List Txn → List Step → Source → Option ℕ → Bool
 comes_not_else states ts steps s w =
-    is_same_option w s.writer || (not (may_come_from states ts s w) || is_excluded ts steps (from_else s w))
+    is_same_writer w s.writer || (not (may_come_from states ts s w) || is_excluded ts steps (from_else s w))
 
 -- It comes from no other than the source's own writer.
 abbrev pub is_only : List State → List Txn → List Step → Source → Bool
@@ -146,7 +146,7 @@ is_left_by_none states ts s =
 -- The reader stands in each order, and needs the register to hold the value.
 abbrev pub is_asked : Criterion → List Txn → List Step → Source → Bool
 is_asked criterion ts steps s =
-    has_place criterion ts steps s.reader && is_some_of s.value (needed_of s.register.number (ops_at ts s.reader))
+    has_place criterion ts steps s.reader && needs s.register.number s.value (ops_at ts s.reader)
 
 -- The source is known, and the transaction is a rival that leaves this value, which is another.
 abbrev pub is_known_rival : List Txn → List Step → Source → ℕ → ℕ → Bool
@@ -156,7 +156,7 @@ is_known_rival ts steps s a left =
 
 -- The value comes from a transaction, not from the start.
 abbrev pub has_writer : Source → Bool
-has_writer s = not (is_same_option s.writer None)
+has_writer s = not (is_same_writer s.writer None)
 
 -- Whether a step follows from these: by real time; because the value can come from nowhere else; because the reader and the writer would
 -- else have a rival between them; or by a third transaction.

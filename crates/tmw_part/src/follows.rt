@@ -4,8 +4,8 @@ ghost use Rattle.tmw_defs.specs.Opaque.{precedes};
 ghost use Rattle.tmw_part.specs.Shown.{txns_of};
 ghost use Rattle.tmw_part.specs.Steps.{comes_not_else, contradicts, follows, has_place, has_writer, is_asked, is_before, is_excluded, is_held, is_known_rival, is_left_by_none, is_only, leaves, is_rival, may_come_from, stands_between, txn_at};
 
-use crate::deeds::{find_unlike, is_pair, is_some_of, left_by, needed_of, writes};
-use crate::known::{begins_before, ends_before, is_before, is_given, is_same_option, is_supplied};
+use crate::deeds::{find_unlike, is_pair, is_some_of, left_by, needs, writes};
+use crate::known::{begins_before, ends_before, is_before, is_given, is_same_writer, is_supplied};
 use crate::step::{Contradiction, Source, Step};
 use crate::transaction::{Transaction, precedes, status_of};
 use tmw_cuts::State;
@@ -86,7 +86,7 @@ fn is_rival(transactions: &[Transaction], steps: &[Step], source: &Source, place
     ensures { result ≡ is_rival (txns_of transactions.now) steps.now source.now place }
 {
     place != source.reader
-        && !is_same_option(source.writer, Some(place))
+        && !is_same_writer(source.writer, Some(place))
         && is_held(transactions, steps, place)
         && writes(source.register, text_at(transactions, place))
 }
@@ -130,8 +130,9 @@ fn is_asked(
 ) -> bool
     ensures { result ≡ is_asked criterion (txns_of transactions.now) steps.now source.now }
 {
-    let needed = needed_of(source.register, text_at(transactions, source.reader));
-    has_place(criterion, transactions, steps, source.reader) && is_some_of(source.value, needed)
+    let text = text_at(transactions, source.reader);
+    has_place(criterion, transactions, steps, source.reader)
+        && needs(source.register, source.value, text)
 }
 
 /// Whether the value can't come from this writer, unless it is the source's own.
@@ -146,7 +147,7 @@ fn comes_not_else(
         ≡ comes_not_else states.now (txns_of transactions.now) steps.now source.now writer }
 {
     let other = Source { writer, ..*source };
-    is_same_option(writer, source.writer)
+    is_same_writer(writer, source.writer)
         || !may_come_from(states, transactions, source, writer)
         || is_excluded(transactions, steps, &other)
 }
@@ -243,7 +244,7 @@ fn is_known_rival(
 pub(crate) fn has_writer(source: &Source) -> bool
     ensures { result ≡ has_writer source.now }
 {
-    !is_same_option(source.writer, None)
+    !is_same_writer(source.writer, None)
 }
 
 /// Whether by these steps the rival stands before the reader, where the value comes from a transaction.

@@ -1,12 +1,12 @@
 ghost use Rattle.std.specs.Prelude.{◌≡◌};
 ghost use Rattle.std.specs.List.{list_any};
-ghost use Rattle.tmw_part.specs.Steps.{begins_before, ends_before, gives, is_before, is_same_option, is_same_source, orders, is_some_of, supplies};
+ghost use Rattle.tmw_part.specs.Steps.{begins_before, ends_before, gives, is_before, is_same_writer, is_same_source, orders, is_some_of, supplies};
 
 use crate::step::{Source, Step};
 
 /// Whether both are the same transaction, or no transaction.
-pub(crate) fn is_same_option(one: Option<usize>, other: Option<usize>) -> bool
-    ensures { result ≡ is_same_option one other }
+pub(crate) fn is_same_writer(one: Option<usize>, other: Option<usize>) -> bool
+    ensures { result ≡ is_same_writer one other }
 {
     match (one, other) {
         (None, None) => true,
@@ -22,7 +22,7 @@ fn is_same_source(one: &Source, other: &Source) -> bool
     one.reader == other.reader
         && one.register == other.register
         && one.value == other.value
-        && is_same_option(one.writer, other.writer)
+        && is_same_writer(one.writer, other.writer)
 }
 
 /// Whether the place is this.

@@ -1,6 +1,5 @@
 ghost use Rattle.std.specs.Prelude.{◌≡◌, ◌≤◌, ◌<◌, IfOk, IfSome, length};
-ghost use Rattle.tmw_part.specs.Origins.{answered_from, fate_by, fate_of, known_past, origin_at, origin_of, reads};
-ghost use Rattle.tmw_part.specs.Steps.{is_same_option};
+ghost use Rattle.tmw_part.specs.Origins.{answered_from, fate_by, fate_of, is_as_expected, known_past, origin_at, origin_of, reads};
 ghost use Rattle.tmw_part.specs.Shown.{txn_of, txns_of};
 
 use crate::deeds::{is_some_of, left_by};
@@ -61,19 +60,18 @@ fn known_past(register: Ix, known: Option<u64>, kind: Kind, next: Option<Kind>) 
     }
 }
 
-/// Whether both are known to be one value, or nothing is known.
-fn is_same_value(one: Option<u64>, other: Option<u64>) -> bool
-    ensures { result ≡ is_same_option one other }
+/// Whether what is known is what is expected, if a value is.
+fn is_as_expected(expected: Option<u64>, known: Option<u64>) -> bool
+    ensures { result ≡ is_as_expected expected known }
 {
-    match (one, other) {
-        (None, None) => true,
-        (Some(a), Some(b)) => a == b,
-        _ => false,
+    match expected {
+        None => true,
+        Some(value) => is_some_of(value, known),
     }
 }
 
-/// The place of the answer by which the reader first reads the value from the register while its own calls make that
-/// register this, or the length.
+/// The place of the answer by which the reader first reads the value from the register, or first while its own calls make
+/// it the expected one; or the length.
 fn answered_at(
     window: &[Transaction],
     register: Ix,
@@ -91,7 +89,7 @@ fn answered_at(
     while let [event, more @ ..] = rest {
         if owner(window, event.thread, place, place) == reader {
             let next = next_of(event.thread, more);
-            if is_same_value(known, expected) && reads(register, value, event.kind, next) {
+            if is_as_expected(expected, known) && reads(register, value, event.kind, next) {
                 return call_of(place, *event, more).upto;
             }
             known = known_past(register, known, event.kind, next);
@@ -142,7 +140,7 @@ fn origin_at(
 }
 
 /// Finds the last event of a window that puts the value into the register before the reader, the transaction at this
-/// place, is answered it while its own calls make the register this: nothing that is known, or a value.
+/// place, is first answered it, or first while its own calls make the register the expected value.
 pub fn find_origin(
     alloc: Global,
     events: &[Event],

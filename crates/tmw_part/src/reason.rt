@@ -39,7 +39,7 @@ fn find_steps(
 {
     let candidates = candidates(alloc, drawn)?;
     let steps = close(criterion, alloc, states, window, &candidates)?;
-    let ends = ends(alloc, drawn)?;
+    let ends = ends(alloc, window, drawn)?;
     let Some(end) = find_end(criterion, states, window, &steps, &ends) else {
         return Ok(None);
     };
