@@ -68,6 +68,12 @@ def pieces(window):
     return [t.events for t in transactions(window)] + calls(window)
 
 
+def with_readers(piece, window):
+    """The piece and the calls, with their answers, that read a value which it puts into a register."""
+    put = {left_by(call) for call in calls(window) if call[0] in piece}
+    return [*piece, *[event for call in calls(window) if (operation(call) or (None, None))[:2] in put for event in call]]
+
+
 def without(piece, events):
     return tuple(event for event in events if event not in piece)
 
@@ -96,19 +102,19 @@ def is_true(sentence, names, states, window):
         reader, value, register, writer, *order = said
         may_commit = writer.status in ("committed", "pending")
         return has_read(reader, register, value) and may_commit and last_left(writer, register) == value and order == [writer, reader]
-    if said := told("A read V from register V, where A left another value: A before A"):
-        reader, value, register, rival, *order = said
-        return has_read(reader, register, value) and last_left(rival, register) not in (None, value) and order == [reader, rival]
-    if said := told("A left another value in register V than A read: A before A"):
-        rival, register, reader, before, writer = said
-        value = last_left(writer, register)
-        return has_read(reader, register, value) and last_left(rival, register) not in (None, value) and before is rival
+    if said := told("A read V from register V, where A left V: A before A"):
+        reader, value, register, rival, left, *order = said
+        return has_read(reader, register, value) and last_left(rival, register) == left != value and order == [reader, rival]
+    if said := told("A left V in register V, where A read V: A before A"):
+        rival, left, register, reader, value, before, writer = said
+        others = last_left(rival, register) == left != value and last_left(writer, register) == value
+        return has_read(reader, register, value) and others and before is rival
     if said := told("A read V from register V, which neither the start nor another commit left"):
         reader, value, register = said
         others = [t for t in transactions(window) if t is not reader and t.status in ("committed", "pending")]
         left = [*[state[register] for state in states], *[last_left(t, register) for t in others]]
         return has_read(reader, register, value) and value not in left
-    if said := told("A read V from register V, where it had to find V"):
+    if said := told("A read V from register V, where its own earlier calls make it V"):
         reader, value, register, expected = said
         return (expected, value) == first_unlike(reader, register)
     return bool(told("A would come before itself"))
@@ -116,16 +122,19 @@ def is_true(sentence, names, states, window):
 
 def origin_of(end, names, window):
     """What has to be told before this last sentence of where the value comes from that it says was read, or None."""
-    found = re.fullmatch(r"(T\d+) read (\d+) from register (\d+), w.*", end)
+    found = re.fullmatch(r"(T\d+) read (\d+) from register (\d+), w.*?(?: make it (\d+))?", end)
     if not found:
         return None
-    reader, value, register = names[found[1]], int(found[2]), int(found[3])
+    reader, value, register, expected = names[found[1]], int(found[2]), int(found[3]), found[4] and int(found[4])
     number = {event: n for n, t in enumerate(transactions(window), 1) for event in t.events}
-    own = [call for call in calls(window) if call[0] in reader.events]
-    read = min(call[1].number for call in own if (operation(call) or ())[:2] == (register, value))
-    # (an add puts its value there by its answer, which has to come before too)
+    read, known = None, None
+    for call in calls(window):
+        other, answer, left = operation(call) or (None, None, None)
+        if call[0] in reader.events and other == register:
+            if read is None and answer == value and expected in (None, known):
+                read = call[1].number
+            known = answer if left is None else left
     puts = [call for call in calls(window) if left_by(call) == (register, value) and call[0].number < read]
-    puts = [call for call in puts if call[0].kind[0] == "W" or call[1].number < read]
     if not puts:
         return f"no earlier event of this window puts {value} into register {register}"
     call = max(puts, key=lambda call: call[0].number)
@@ -190,7 +199,7 @@ def compare(program, criterion, start, events):
     assert written("show", "--why", "--trace", trace=trace_of(start, events)) == "".join(traces), "other traces"
     for judged in [json.loads(written("judge", trace=trace)) for trace in traces]:
         assert judged["verdict"] == "violated" and (judged["at"] == len(part) or len(states) > 1), "a trace not violated at its end"
-    for less in [without(piece, part) for piece in pieces(window)]:
+    for less in [without(gone, part) for piece in pieces(window) for gone in (piece, with_readers(piece, window))]:
         assert less == part or not is_part(less, window) or has_order(criterion, states, less), "a piece can be taken out"
     return window, part, states, why
 

@@ -8,8 +8,9 @@
 # - Each permutation with each completion is tried: neither the window nor its part has a serial order from any of its states.
 # - The part is one by Part.antt of tmw_defs, with whole calls and the last event, each transaction left of its events' own. A write is
 #   missing only if the part doesn't read its value. A transaction of the part leaves what it left in each
-#   register that it changes, and its first answer unlike its own calls is as it was.
-# - What is left without one more transaction, or without one more call and its answer, is no such part, or has an order.
+#   register that it changes, and its first answer unlike its own calls has the values that it had.
+# - What is left without one more transaction, or without one more call and its answer, is no such part, or has an order: alone, and
+#   together with the reads of its values.
 # - Each sentence of the reason is true of the window: who ended before another began, what a transaction read, what it left in a
 #   register at its end, and what it had to find by its own calls. Of a read that no order explains the last event before its
 #   answer that puts the value there is told, with what became of it; or that none does.

@@ -1,29 +1,29 @@
 -- What is kept of a window: all of it at first, and less without a piece.
-use Rattle.tmw_part.proofs.Shared.{Bool, Event, List, Piece, [], all_kept, ap, arith, cases_Bool, false, inl, inr, is_of, kept_of, length, refl, suc, sym, true, without, without_from, ℕ, ◌+◌, ◌<◌, ◌∙◌, ◌∷◌, ◌≡◌, ◌⊎◌}
+use Rattle.tmw_part.proofs.Shared.{Bool, Event, List, Piece, [], all_kept, ap, arith, cases_Bool, false, inl, inr, is_of_any, kept_of, length, refl, suc, sym, true, without, without_from, ℕ, ◌+◌, ◌<◌, ◌∙◌, ◌∷◌, ◌≡◌, ◌⊎◌}
 use Rattle.std.specs.Cmp.Lexicographic.{pointwise}
 use Rattle.std.proofs.Math.Bool.{beq}
 
-pub length-without : (piece : Piece) (place : ℕ) (marks : List Bool) (events : List Event) → length marks ≡ length events
-    → length (without_from piece place marks events) ≡ length events
-length-without piece place [] [] each = refl
-length-without piece place [] (e ∷ events) each = absurd (omega (arith, each))
-length-without piece place (mark ∷ marks) [] each = absurd (omega (arith, each))
-length-without piece place (mark ∷ marks) (e ∷ events) each = ap (λ n. suc n) (length-without piece (place + 1) marks events (omega (arith, each)))
+pub length-without : (pieces : List Piece) (place : ℕ) (marks : List Bool) (events : List Event) → length marks ≡ length events
+    → length (without_from pieces place marks events) ≡ length events
+length-without piecess place [] [] each = refl
+length-without piecess place [] (e ∷ events) each = absurd (omega (arith, each))
+length-without piecess place (mark ∷ marks) [] each = absurd (omega (arith, each))
+length-without piecess place (mark ∷ marks) (e ∷ events) each = ap (λ n. suc n) (length-without piecess (place + 1) marks events (omega (arith, each)))
 
-pub without-fewer : (piece : Piece) (place : ℕ) (marks : List Bool) (events : List Event) → length marks ≡ length events
-    → (without_from piece place marks events ≡ marks)
-    ⊎ (length (kept_of (without_from piece place marks events) events) < length (kept_of marks events))
-without-fewer piece place [] [] each = inl refl
-without-fewer piece place [] (e ∷ events) each = absurd (omega (arith, each))
-without-fewer piece place (mark ∷ marks) [] each = absurd (omega (arith, each))
-without-fewer piece place (false ∷ marks) (e ∷ events) each =
-    elim (without-fewer piece (place + 1) marks events (omega (arith, each))) [
+pub without-fewer : (pieces : List Piece) (place : ℕ) (marks : List Bool) (events : List Event) → length marks ≡ length events
+    → (without_from pieces place marks events ≡ marks)
+    ⊎ (length (kept_of (without_from pieces place marks events) events) < length (kept_of marks events))
+without-fewer pieces place [] [] each = inl refl
+without-fewer pieces place [] (e ∷ events) each = absurd (omega (arith, each))
+without-fewer pieces place (mark ∷ marks) [] each = absurd (omega (arith, each))
+without-fewer pieces place (false ∷ marks) (e ∷ events) each =
+    elim (without-fewer pieces (place + 1) marks events (omega (arith, each))) [
       | inl same ↦ inl (ap (λ more. false ∷ more) same)
       | inr fewer ↦ inr fewer
     ]
-without-fewer piece place (true ∷ marks) (e ∷ events) each =
-    let rest = without-fewer piece (place + 1) marks events (omega (arith, each)) in
-    elim (cases_Bool (is_of piece place e)) [
+without-fewer pieces place (true ∷ marks) (e ∷ events) each =
+    let rest = without-fewer pieces (place + 1) marks events (omega (arith, each)) in
+    elim (cases_Bool (is_of_any pieces place e)) [
       | inl is ↦ rw is (inr (elim rest [
         | inl same ↦ rw same (omega arith)
         | inr fewer ↦ omega (arith, fewer)
@@ -58,10 +58,10 @@ itself-marks (true ∷ xs) = itself-marks xs
 itself-marks (false ∷ xs) = itself-marks xs
 
 -- where the piece takes something out, fewer events are kept
-pub fewer-kept : (piece : Piece) (marks left : List Bool) (events : List Event) → length marks ≡ length events
-    → left ≡ without piece marks events → pointwise beq left marks ≡ false → length (kept_of left events) < length (kept_of marks events)
-fewer-kept piece marks left events each is other =
-    elim (without-fewer piece 0 marks events each) [
+pub fewer-kept : (pieces : List Piece) (marks left : List Bool) (events : List Event) → length marks ≡ length events
+    → left ≡ without pieces marks events → pointwise beq left marks ≡ false → length (kept_of left events) < length (kept_of marks events)
+fewer-kept pieces marks left events each is other =
+    elim (without-fewer pieces 0 marks events each) [
       | inl same ↦
           let all : left ≡ marks = is ∙ same in
           let bad : true ≡ false = sym (itself-marks marks) ∙ (rw all at other) in

@@ -12,9 +12,9 @@ pub keeps_last-got : (marks : List Bool) (mark : Bool) → slice_get marks (leng
 keeps_last-got [] mark got = absurd (cc)
 keeps_last-got (first ∷ marks) mark got = keeps_last-at (first ∷ marks) (length (first ∷ marks) - 1) mark (omega arith) got
 
-pub without_none : (piece : Piece) (place : ℕ) (marks : List Bool) → without_from piece place marks [] ≡ []
-without_none piece place [] = refl
-without_none piece place (mark ∷ marks) = refl
+pub without_none : (pieces : List Piece) (place : ℕ) (marks : List Bool) → without_from pieces place marks [] ≡ []
+without_none pieces place [] = refl
+without_none pieces place (mark ∷ marks) = refl
 
 position_or_len-map : {A B : Type 0} (p : B → Bool) (f : A → B) (xs : List A)
     → position_or_len p (map f xs) ≡ position_or_len (λ x. p (f x)) xs

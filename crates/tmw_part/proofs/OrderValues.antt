@@ -1,5 +1,5 @@
 -- What the registers hold along a serial order: what the last that is held and changes them left, or what the start has.
-use Rattle.tmw_part.proofs.Shared.{Add, Changes, IsTrue, IsUnchanged, List, None, Op, Option, Placed, Read, Some, State, Write, [], after, after_writes, and_parts, ap, arith, cases_Bool, end_state, eq-eqb, eqb-false, eqb-true, false, first_unlike, get_or-set_other, get_or-set_same, if◌then◌else◌, inl, inr, is_legal, is_some_of, left_by, length, length-set, needed_of, operations, or_parts, reads_hold, refl, slice_get, slice_index, slice_set, suc, sym, take, unlike_or, writes, zero, ℕ, ◌%◌, ◌+◌, ◌<◌, ◌==◌, ◌^◌, ◌∙◌, ◌∷◌, ◌≡◌, ◌⊎◌}
+use Rattle.tmw_part.proofs.Shared.{Add, Changes, IsTrue, IsUnchanged, List, None, Op, Option, Placed, Read, Some, State, Write, [], after, after_writes, and_parts, ap, arith, cases_Bool, end_state, eq-eqb, eqb-false, eqb-true, false, first_unlike, get_or-set_other, get_or-set_same, if◌then◌else◌, inl, inr, is_legal, is_some_of, left_by, length, length-set, needs, not, not-true, operations, or_cases, or_parts, reads_hold, refl, slice_get, slice_index, slice_set, suc, sym, take, unlike_or, writes, zero, ℕ, ◌%◌, ◌&&◌, ◌+◌, ◌<◌, ◌==◌, ◌^◌, ◌∙◌, ◌∷◌, ◌≡◌, ◌⊎◌}
 use Rattle.tmw_events.specs.declared.ix.Ix.{Ix}
 
 -- a register that is set, and another
@@ -78,31 +78,28 @@ unwritten s r (Add q d v ∷ ops) not_so =
     let (other, more) = or_parts (q.number == r) _ not_so in
     unwritten (slice_set s q.number ((v + d) % 2 ^ 64)) r ops more ∙ set_else s q r ((v + d) % 2 ^ 64) other
 
+-- an answer that the register holds
+found : (s : State) (q : Ix) (r w v : ℕ) → IsTrue (q.number == r) → IsTrue (w == v) → IsTrue (slice_index s q.number == w) → slice_index s r ≡ v
+found s q r w v one two here = ap (slice_index s) (sym (eqb-true q.number r one)) ∙ eqb-true (slice_index s q.number) w here ∙ eqb-true w v two
+
 -- what operations need is what the register holds before them
-pub needed_holds : (s : State) (r v : ℕ) (ops : List Op) → IsTrue (reads_hold s ops) → IsTrue (is_some_of v (needed_of r ops))
-    → slice_index s r ≡ v
-needed_holds s r v [] reads needs = absurd (cc)
-needed_holds s r v (Read q w ∷ ops) reads needs =
+pub needs_holds : (s : State) (r v : ℕ) (ops : List Op) → IsTrue (reads_hold s ops) → IsTrue (needs r v ops) → slice_index s r ≡ v
+needs_holds s r v [] reads is = absurd (cc)
+needs_holds s r v (Read q w ∷ ops) reads is =
     let (here, rest) = and_parts (slice_index s q.number == w) _ reads in
-    elim (cases_Bool (q.number == r)) [
-      | inl is ↦
-          let same : q.number ≡ r = eqb-true q.number r is in
-          ap (slice_index s) (sym same) ∙ eqb-true (slice_index s q.number) w here ∙ eqb-true w v (rw is at needs)
-      | inr other ↦ needed_holds s r v ops rest (rw other at needs)
+    elim (or_cases ((q.number == r) && (w == v)) _ is) [
+      | inl both ↦ let (one, two) = and_parts (q.number == r) _ both in found s q r w v one two here
+      | inr more ↦ needs_holds s r v ops rest more
     ]
-needed_holds s r v (Write q w ∷ ops) reads needs =
-    elim (cases_Bool (q.number == r)) [
-      | inl is ↦ absurd (let not_so = rw is at needs in cc)
-      | inr other ↦ sym (set_else s q r w other) ∙ needed_holds (slice_set s q.number w) r v ops reads (rw other at needs)
-    ]
-needed_holds s r v (Add q d w ∷ ops) reads needs =
+needs_holds s r v (Write q w ∷ ops) reads is =
+    let (other, more) = and_parts (not (q.number == r)) _ is in
+    sym (set_else s q r w (not-true _ other)) ∙ needs_holds (slice_set s q.number w) r v ops reads more
+needs_holds s r v (Add q d w ∷ ops) reads is =
     let (here, rest) = and_parts (slice_index s q.number == w) _ reads in
     let sum = (w + d) % 2 ^ 64 in
     elim (cases_Bool (q.number == r)) [
-      | inl is ↦
-          let same : q.number ≡ r = eqb-true q.number r is in
-          ap (slice_index s) (sym same) ∙ eqb-true (slice_index s q.number) w here ∙ eqb-true w v (rw is at needs)
-      | inr other ↦ sym (set_else s q r sum other) ∙ needed_holds (slice_set s q.number sum) r v ops rest (rw other at needs)
+      | inl one ↦ found s q r w v one (rw one at is) here
+      | inr other ↦ sym (set_else s q r sum other) ∙ needs_holds (slice_set s q.number sum) r v ops rest (rw other at is)
     ]
 
 -- what is known of a register, where it is right

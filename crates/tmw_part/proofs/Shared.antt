@@ -20,13 +20,13 @@ pub use Rattle.tmw_defs.specs.declared.op.Op.TheVariants.{Add, Read, Write}
 pub use Rattle.tmw_defs.specs.declared.status.Status.{Status}
 pub use Rattle.tmw_defs.specs.declared.status.Status.TheVariants.{Aborted, Committed, Live, Pending}
 pub use Rattle.tmw_events.specs.declared.event.Event.{Event}
-pub use Rattle.tmw_part.specs.Finding.{Fails, IsNeeded, IsViolated, IsViolatedPart, TellsViolated}
-pub use Rattle.tmw_part.specs.Kept.{all_kept, are_whole, is_of, keeps_last, keeps_part, kept_of, lies_in, may_miss_all, number_or, owners, owners_among, places_from, without, without_from}
-pub use Rattle.tmw_part.specs.Origins.{next_of, or_before, origin_from, origin_of}
-pub use Rattle.tmw_part.specs.Pieces.{calls_from, whole_of}
+pub use Rattle.tmw_part.specs.Finding.{AreNeeded, Fails, IsNeeded, IsViolated, IsViolatedPart, TellsViolated}
+pub use Rattle.tmw_part.specs.Kept.{all_kept, are_whole, is_of_any, keeps_last, keeps_part, kept_of, lies_in, may_miss_all, number_or, owners, owners_among, places_from, without, without_from}
+pub use Rattle.tmw_part.specs.Origins.{or_before, origin_from, origin_of}
+pub use Rattle.tmw_part.specs.Pieces.{calls_from, is_put_from, next_of, readers_from, whole_of}
 pub use Rattle.tmw_part.specs.Reasons.{Changes, ComesFrom, HoldsIn, IsNeededEach, IsReason, IsUnchanged, ReasonLaw, ReasonTells, StandsAt, StandsBefore, StandsBeforeWriter, begin_apart}
 pub use Rattle.tmw_part.specs.Shown.{answers_none, may_all_go, shown, txn_of, txns_of, unread_in}
-pub use Rattle.tmw_part.specs.Steps.{Derives, begins_before, comes_not_else, contradicts, ends_before, follows, from_else, gives, has_place, has_writer, is_asked, is_before, is_committed, is_excluded, is_held, is_known_rival, is_pair, is_rival, is_same_writer, is_some_of, may_come_from, needed_of, ops_at, orders, supplies, txn_at}
+pub use Rattle.tmw_part.specs.Steps.{Derives, begins_before, comes_not_else, contradicts, ends_before, follows, from_else, gives, has_place, has_writer, is_asked, is_before, is_committed, is_excluded, is_held, is_known_rival, is_pair, is_rival, is_same_writer, is_some_of, may_come_from, needs, ops_at, orders, supplies, txn_at}
 pub use Rattle.tmw_part.specs.Taking.{AreTaken, AreUnfit}
 pub use Rattle.tmw_part.specs.Test.{agree, are_left_of, are_ops_left, are_placed, are_same_rows, is_among, is_left_of, is_part_at, is_same, is_same_op, is_same_row, is_same_status, nothing, staying_of, without_number}
 pub use Rattle.tmw_part.specs.Unlike.{first_unlike, unlike_or}

@@ -1,5 +1,5 @@
 -- Steps that follow from those before them hold in each serial order, and contradict each other in none.
-use Rattle.tmw_part.proofs.Shared.{Aborted, All, All-contains, All-from_recursion, AllByRecursion, Bool, Changes, ComesFrom, Committed, Contains, Criterion, Derives, ExplainsBy, HoldsIn, IsTrue, List, Live, None, Opacity, Option, Pending, Placed, ReasonLaw, Some, StandsAt, StandsBefore, StandsBeforeWriter, State, Status, Step, Strict, Txn, [], and_from, and_parts, ap, arith, begin_apart, begins_before, cases_Bool, cases_order, comes_not_else, contradicts, ends_before, eq-eqb, eqb-true, false, follows, from_else, gives, has_place, has_writer, inl, inr, is_asked, is_before, is_committed, is_excluded, is_held, is_known_rival, is_pair, is_rival, is_same_writer, is_some_of, left_by, length, list_all, list_any, ltb-true, may_come_from, may_hold, needed_of, not, not-true, operations, ops_at, or_cases, orders, range_with_len, refl, slice_get, slice_index, status_of, subst, suc, supplies, sym, take, take_all, true, txn_at, writes, zero, ℕ, ◌&&◌, ◌+◌, ◌<◌, ◌==◌, ◌||◌, ◌∙◌, ◌∷◌, ◌≡◌, ◌≤◌}
+use Rattle.tmw_part.proofs.Shared.{Aborted, All, All-contains, All-from_recursion, AllByRecursion, Bool, Changes, ComesFrom, Committed, Contains, Criterion, Derives, ExplainsBy, HoldsIn, IsTrue, List, Live, None, Opacity, Option, Pending, Placed, ReasonLaw, Some, StandsAt, StandsBefore, StandsBeforeWriter, State, Status, Step, Strict, Txn, [], and_from, and_parts, ap, arith, begin_apart, begins_before, cases_Bool, cases_order, comes_not_else, contradicts, ends_before, eq-eqb, eqb-true, false, follows, from_else, gives, has_place, has_writer, inl, inr, is_asked, is_before, is_committed, is_excluded, is_held, is_known_rival, is_pair, is_rival, is_same_writer, is_some_of, left_by, length, list_all, list_any, ltb-true, may_come_from, may_hold, needs, not, not-true, operations, ops_at, or_cases, orders, range_with_len, refl, slice_get, slice_index, status_of, subst, suc, supplies, sym, take, take_all, true, txn_at, writes, zero, ℕ, ◌&&◌, ◌+◌, ◌<◌, ◌==◌, ◌||◌, ◌∙◌, ◌∷◌, ◌≡◌, ◌≤◌}
 use Rattle.tmw_part.specs.declared.step.Step.TheVariants.{ChangedFirst, From, ReadFirst, RealTime, Through}
 use Rattle.tmw_part.specs.declared.step.Contradiction.{Contradiction}
 use Rattle.tmw_part.specs.declared.step.Contradiction.TheVariants.{Cycle, NoSource, Unlike}
@@ -7,7 +7,7 @@ use Rattle.tmw_part.specs.declared.step.Source.{Source}
 use Rattle.std.proofs.lemmas.List.Folds.{list_any_at}
 use Rattle.tmw_part.proofs.ListFacts.{find_any, find_place, each_place, none_all, all-more, get_some}
 use Rattle.tmw_part.proofs.OrderFacts.{IsIn, IsSerial, apart, serial}
-use Rattle.tmw_part.proofs.OrderValues.{state_at, reads_at, length-state_at, value_at, needed_holds, reads_alike}
+use Rattle.tmw_part.proofs.OrderValues.{state_at, reads_at, length-state_at, value_at, needs_holds, reads_alike}
 
 -- what is used of transactions that begin apart, of an order of them, of the state that it begins in and of the steps that are known
 record Case (criterion : Criterion) (states : List State) (ts : List Txn) (s : State) (order : List Placed) (steps : List Step) : Type 0 where
@@ -117,8 +117,8 @@ module _ (criterion : Criterion) (states : List State) (ts : List Txn) (start : 
       let one : i ≡ m = stands_once a i m at first in
       let two : j ≡ k = stands_once b j k there here in
       omega (arith, low)
-  says_before a b (ReadFirst s w) holds is = both a b s.reader w is holds
-  says_before a b (ChangedFirst w s) holds is =
+  says_before a b (ReadFirst s w left) holds is = both a b s.reader w is holds
+  says_before a b (ChangedFirst w left s) holds is =
       let (one, two) = and_parts (w == a) _ is in
       rw (← eqb-true w a one) (rw (some_of b s.writer two) at holds)
   says_before a b (Through one between other) holds is = both a b one other is holds
@@ -135,8 +135,8 @@ module _ (criterion : Criterion) (states : List State) (ts : List Txn) (start : 
       let (m, first, low, changes, last) = rw (some_of a s.writer is) at comes in
       let same : changes.placed ≡ first.placed = placed_same (sym changes.there ∙ first.there) in
       record { place = m; stands = first; held = rw (← same) changes.held }
-  supplied_stands a (ReadFirst s w) holds is = absurd (cc)
-  supplied_stands a (ChangedFirst w s) holds is = absurd (cc)
+  supplied_stands a (ReadFirst s w left) holds is = absurd (cc)
+  supplied_stands a (ChangedFirst w left s) holds is = absurd (cc)
   supplied_stands a (Through one between other) holds is = absurd (cc)
 
   held_stands : (a : ℕ) → IsTrue (is_held ts steps a) → StandsHeld ts order a
@@ -214,11 +214,11 @@ module _ (criterion : Criterion) (states : List State) (ts : List Txn) (start : 
     comes : ComesFrom ts order s.register.number place writer
     may : IsTrue (may_come_from states ts s writer)
 
-  read_value : (s : Source) (j : ℕ) → StandsAt ts order s.reader j → IsTrue (is_some_of s.value (needed_of s.register.number (ops_at ts s.reader)))
+  read_value : (s : Source) (j : ℕ) → StandsAt ts order s.reader j → IsTrue (needs s.register.number s.value (ops_at ts s.reader))
       → slice_index (state_at start order j) s.register.number ≡ s.value
   read_value s j at needs =
       let same = txn_at-get ts s.reader at.placed.txn at.is in
-      needed_holds (state_at start order j) s.register.number s.value (operations at.placed.txn.text)
+      needs_holds (state_at start order j) s.register.number s.value (operations at.placed.txn.text)
       (reads_at start order j at.placed c.serial.legal at.there) (rw same at needs)
 
   actual : (s : Source) → IsTrue (is_asked criterion ts steps s) → Actual s
@@ -292,8 +292,8 @@ module _ (criterion : Criterion) (states : List State) (ts : List Txn) (start : 
       let there : ComesFrom ts order s.register.number j s.writer =
       rw (eqb-true s.register.number t.register.number register, same_writer s.writer t.writer writer) comes in
       (j, here, there)
-  given s (ReadFirst t w) holds is = absurd (cc)
-  given s (ChangedFirst w t) holds is = absurd (cc)
+  given s (ReadFirst t w left) holds is = absurd (cc)
+  given s (ChangedFirst w left t) holds is = absurd (cc)
   given s (Through one between other) holds is = absurd (cc)
 
   source_holds : (s : Source) → IsTrue (list_any (gives s) steps) → HoldsIn ts order (From s)
@@ -360,8 +360,8 @@ module _ (criterion : Criterion) (states : List State) (ts : List Txn) (start : 
             (found.place, found.stands, subst (ComesFrom ts order s.register.number found.place) (same_writer found.writer s.writer same) found.comes)
         | inr none ↦ absurd (is_source s found none)
       ]
-  step_holds (ReadFirst s w) is = λ i j at there.
-      let (known, begins) = and_parts (is_known_rival ts steps s w) _ is in
+  step_holds (ReadFirst s w left) is = λ i j at there.
+      let (known, begins) = and_parts (is_known_rival ts steps s w left) _ is in
       let (has, both) = and_parts (list_any (gives s) steps) _ known in
       let rival = (and_parts (is_rival ts steps s w) _ both).0 in
       let (k, stands, comes) = source_holds s has in
@@ -370,8 +370,8 @@ module _ (criterion : Criterion) (states : List State) (ts : List Txn) (start : 
       let one : i ≡ k = stands_once s.reader i k at stands in
       let two : j ≡ r.place = stands_once w j r.place there r.stands in
       omega (arith, low)
-  step_holds (ChangedFirst w s) is =
-      let (known, more) = and_parts (is_known_rival ts steps s w) _ is in
+  step_holds (ChangedFirst w left s) is =
+      let (known, more) = and_parts (is_known_rival ts steps s w left) _ is in
       let before = (and_parts (has_writer s) _ more).1 in
       let (has, both) = and_parts (list_any (gives s) steps) _ known in
       let rival = (and_parts (is_rival ts steps s w) _ both).0 in

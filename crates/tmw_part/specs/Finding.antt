@@ -1,5 +1,5 @@
 -- What is found in a violated window: a part that is violated by itself, of which nothing more can be taken out.
-use Rattle.std.specs.Prelude.{◌≡◌, ◌≢◌, ◌⊎◌, ◌<◌, ◌≤◌, ℕ, Bool, true, false, List, [], length, All, IsTrue, IsFalse}
+use Rattle.std.specs.Prelude.{◌≡◌, ◌≢◌, ◌⊎◌, ◌<◌, ◌≤◌, ℕ, Bool, true, false, List, [], ◌∷◌, length, All, IsTrue, IsFalse}
 use Rattle.std.specs.List.{Contains}
 use Rattle.tmw_events.specs.declared.event.Event.{Event}
 use Rattle.tmw_defs.specs.declared.criterion.Criterion.{Criterion}
@@ -8,7 +8,7 @@ use Rattle.tmw_defs.specs.Opaque.{State}
 use Rattle.tmw_defs.specs.Part.{HasOrderBy, IsPart}
 use Rattle.tmw_part.specs.declared.piece.Piece.{Piece}
 use Rattle.tmw_part.specs.Kept.{all_kept, kept_of, keeps_part, without}
-use Rattle.tmw_part.specs.Pieces.{pieces}
+use Rattle.tmw_part.specs.Pieces.{pieces, with_readers}
 
 -- From one of these states the events' transactions have a serial order.
 abbrev pub HasOrderFrom : Criterion → List State → List Event → Type 0
@@ -39,12 +39,18 @@ Fails criterion registers states window marks =
     IsFalse (keeps_part marks window)
     ⊎ (IsFalse (is_well_formed registers (kept_of marks window)) ⊎ HasOrderFrom criterion states (kept_of marks window))
 
--- The piece can't be taken out of what is kept too: it is out already, or what is then kept fails.
+-- These pieces can't be taken out of what is kept: they are out already, or what is then kept fails.
+abbrev pub AreNeeded : Criterion → ℕ → List State → List Event → List Bool → List Piece → Type 0
+AreNeeded criterion registers states window marks pieces =
+    (without pieces marks window ≡ marks) ⊎ Fails criterion registers states window (without pieces marks window)
+
+-- The piece can't be taken out, alone or together with the reads of its values.
 abbrev pub IsNeeded : Criterion → ℕ → List State → List Event → List Bool → Piece → Type 0
 IsNeeded criterion registers states window marks piece =
-    (without piece marks window ≡ marks) ⊎ Fails criterion registers states window (without piece marks window)
+    AreNeeded criterion registers states window marks (piece ∷ [])
+    × AreNeeded criterion registers states window marks (with_readers piece window)
 
--- What is kept is such a part and minimal: no piece more can be taken out.
+-- What is kept is such a part and minimal: no piece more can be taken out, alone or with the reads of its values.
 pub record IsMinimalPart (criterion : Criterion) (registers : ℕ) (states : List State) (window : List Event) (marks : List Bool) : Type 0 where
   pub is : IsViolatedPart criterion registers states window marks
   pub minimal : All (IsNeeded criterion registers states window marks) (pieces window)

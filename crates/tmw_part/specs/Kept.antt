@@ -1,13 +1,13 @@
 -- Which events of a window are kept: a mark for each, in order.
 use Rattle.std.specs.Prelude.{◌==◌, ◌&&◌, ◌||◌, ◌+◌, ℕ, Bool, true, false, not, nat_le, List, [], ◌∷◌, length, map, position, slice_index_or, replicate, Option, Some, None}
-use Rattle.std.specs.List.{list_all}
+use Rattle.std.specs.List.{list_all, list_any}
 use Rattle.tmw_events.specs.declared.event.Event.{Event}
 use Rattle.tmw_events.specs.declared.event.Kind.{Kind}
 use Rattle.tmw_events.specs.declared.event.Kind.TheVariants.{W}
 use Rattle.tmw_defs.specs.History.{Txn, transactions}
 use Rattle.tmw_defs.specs.Part.{is_unread}
 use Rattle.tmw_part.specs.declared.piece.Piece.{Piece}
-use Rattle.tmw_part.specs.Pieces.{calls_from}
+use Rattle.tmw_part.specs.Pieces.{calls_from, is_of}
 use Rattle.tmw_part.specs.Test.{is_part_at, is_same}
 
 -- Each event is kept.
@@ -69,9 +69,9 @@ may_miss_all part [] events = true
 may_miss_all part (mark ∷ marks) [] = true
 may_miss_all part (mark ∷ marks) (e ∷ events) = (mark || may_miss part e.kind) && may_miss_all part marks events
 
--- What is kept has the last event, whole calls and each write whose value it reads. Each transaction agrees with its whole on what it
--- leaves at last in a register that it changes, and on the first answer that it had to find otherwise. It is a part of the window, in which each transaction is left of the one in which its own events lie. (What an add that is
--- not answered would leave isn't known.)
+-- What is kept has the last event, whole calls and each write whose value it reads. It is a part of the window, in which each transaction
+-- is left of the one in which its own events lie, and agrees with it on what it leaves at last in a register that it changes, and on the
+-- values of the first answer unlike its own operations. (What an add that is not answered would leave isn't known.)
 abbrev pub keeps_part : List Bool → List Event → Bool
 keeps_part marks window =
     keeps_last marks
@@ -79,15 +79,16 @@ keeps_part marks window =
     && (may_miss_all (transactions (kept_of marks window)) marks window
     && is_part_at (owners marks window) (transactions (kept_of marks window)) (transactions window)))
 
--- The event at this place is one of the piece.
-abbrev pub is_of : Piece → ℕ → Event → Bool
-is_of piece place e = (e.thread.number == piece.thread) && (nat_le piece.from place && nat_le place piece.upto)
+-- The event at this place is one of these pieces.
+abbrev pub is_of_any : List Piece → ℕ → Event → Bool
+is_of_any pieces place e = list_any (λ piece. is_of piece place e) pieces
 
--- The piece is no longer kept. The first mark is of this place.
-abbrev pub without_from : Piece → ℕ → List Bool → List Event → List Bool
-without_from piece place [] events = []
-without_from piece place (mark ∷ marks) [] = []
-without_from piece place (mark ∷ marks) (e ∷ events) = (mark && not (is_of piece place e)) ∷ without_from piece (place + 1) marks events
+-- The pieces are no longer kept. The first mark is of this place.
+abbrev pub without_from : List Piece → ℕ → List Bool → List Event → List Bool
+without_from pieces place [] events = []
+without_from pieces place (mark ∷ marks) [] = []
+without_from pieces place (mark ∷ marks) (e ∷ events) =
+    (mark && not (is_of_any pieces place e)) ∷ without_from pieces (place + 1) marks events
 
-abbrev pub without : Piece → List Bool → List Event → List Bool
-without piece marks window = without_from piece 0 marks window
+abbrev pub without : List Piece → List Bool → List Event → List Bool
+without pieces marks window = without_from pieces 0 marks window

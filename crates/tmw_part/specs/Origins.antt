@@ -1,8 +1,8 @@
 -- Who in a window wrote a value that a transaction read of a register, and what became of that write.
-use Rattle.std.specs.Prelude.{◌==◌, ◌&&◌, ◌+◌, ◌%◌, ◌^◌, ℕ, suc, Bool, true, false, List, [], ◌∷◌, take, Option, Some, None, if◌then◌else◌}
+use Rattle.std.specs.Prelude.{◌==◌, ◌&&◌, ◌+◌, ◌%◌, ◌^◌, ℕ, Bool, true, false, nat_lt, List, [], ◌∷◌, Option, Some, None, if◌then◌else◌}
 use Rattle.tmw_events.specs.declared.event.Event.{Event}
 use Rattle.tmw_events.specs.declared.event.Kind.{Kind}
-use Rattle.tmw_events.specs.declared.event.Kind.TheVariants.{R, W, N, V}
+use Rattle.tmw_events.specs.declared.event.Kind.TheVariants.{R, W, N, V, K}
 use Rattle.tmw_defs.specs.declared.status.Status.{Status}
 use Rattle.tmw_defs.specs.declared.status.Status.TheVariants.{Live, Aborted}
 use Rattle.tmw_defs.specs.History.{Txn, status_of, operations, transactions}
@@ -11,22 +11,8 @@ use Rattle.tmw_part.specs.declared.origin.Fate.{Fate}
 use Rattle.tmw_part.specs.declared.origin.Fate.TheVariants.{GivenUp, Unasked, Overwritten, Stays}
 use Rattle.tmw_part.specs.declared.origin.Origin.{Origin}
 use Rattle.tmw_part.specs.Kept.{owner}
+use Rattle.tmw_part.specs.Pieces.{call_of, next_of, puts}
 use Rattle.tmw_part.specs.Steps.{is_some_of, txn_at}
-
--- The call, with what follows it in its thread, puts the value into the register: a write of it, answered or not, or an add that ends there.
-abbrev pub puts : ℕ → ℕ → Kind → Option Kind → Bool
-puts r v (W q w) next = (q.number == r) && (w == v)
-puts r v (N q d) (Some (V w)) = (q.number == r) && ((w + d) % 2 ^ 64 == v)
-puts r v kind next = false
-
--- The thread's first event among these.
-abbrev pub next_of : ℕ → List Event → Option Kind
-next_of thread [] = None
-next_of thread (e ∷ events) = if e.thread.number == thread then Some e.kind else next_of thread events
-
--- The number, from 1, of the transaction of the window in which the event of this thread at this place lies.
-abbrev pub number_at : List Txn → ℕ → ℕ → ℕ
-number_at window thread place = suc (owner window thread place place)
 
 -- The call, with what follows it in its thread, reads the value from the register.
 abbrev pub reads : ℕ → ℕ → Kind → Option Kind → Bool
@@ -34,23 +20,28 @@ reads r v (R q) (Some (V w)) = (q.number == r) && (w == v)
 reads r v (N q d) (Some (V w)) = (q.number == r) && (w == v)
 reads r v kind next = false
 
--- How many of these events come before the thread's first one among them.
-abbrev pub until_next : ℕ → List Event → ℕ
-until_next thread [] = 0
-until_next thread (e ∷ events) = if e.thread.number == thread then 0 else suc (until_next thread events)
+-- What is known of the register after the call, with what follows it in its thread, if this is known before it.
+abbrev pub known_past : ℕ → Option ℕ → Kind → Option Kind → Option ℕ
+known_past r known (R q) (Some (V w)) = if q.number == r then Some w else known
+known_past r known (W q w) (Some K) = if q.number == r then Some w else known
+known_past r known (N q d) (Some (V w)) = if q.number == r then Some ((w + d) % 2 ^ 64) else known
+known_past r known kind next = known
 
--- The event at this place, before these, is a call of the reader that reads the value from the register.
-abbrev pub reads_at : List Txn → ℕ → ℕ → ℕ → ℕ → Event → List Event → Bool
-reads_at window r v reader place e events =
-    reads r v e.kind (next_of e.thread.number events) && (number_at window e.thread.number place == reader)
+-- What is known is what is expected, if a value is.
+abbrev pub is_as_expected : Option ℕ → Option ℕ → Bool
+is_as_expected None known = true
+is_as_expected (Some v) known = is_some_of v known
 
--- The place of the answer by which the reader first reads the value from the register; the first of these events has this place.
-abbrev pub answered_from : List Txn → ℕ → ℕ → ℕ → ℕ → List Event → ℕ
-answered_from window r v reader place [] = place
-answered_from window r v reader place (e ∷ events) =
-    if reads_at window r v reader place e events
-    then place + (1 + until_next e.thread.number events)
-    else answered_from window r v reader (place + 1) events
+-- The place of the answer by which the reader first reads the value from the register, or first does so while its own calls make that
+-- register the value `expected`. The first of these events has this place, and so much is known before it.
+abbrev pub answered_from : List Txn → ℕ → ℕ → Option ℕ → ℕ → Option ℕ → ℕ → List Event → ℕ
+answered_from window r v expected reader known place [] = place
+answered_from window r v expected reader known place (e ∷ events) =
+    if owner window e.thread.number place place == reader
+    then (if is_as_expected expected known && reads r v e.kind (next_of e.thread.number events)
+    then (call_of place e events).upto
+    else answered_from window r v expected reader (known_past r known e.kind (next_of e.thread.number events)) (place + 1) events)
+    else answered_from window r v expected reader known (place + 1) events
 
 -- the later of two, if the first is there
 abbrev pub or_before : Option Origin → Option Origin → Option Origin
@@ -64,7 +55,7 @@ fate_by Live last = Unasked
 fate_by _ true = Stays
 fate_by _ false = Overwritten
 
--- What the reader itself put there it has overwritten, if it reads it as another's.
+-- What the reader itself put there is no longer there, if it reads it as another's.
 abbrev pub fate_of : ℕ → ℕ → Bool → Txn → Fate
 fate_of r v true t = Overwritten
 fate_of r v false t = fate_by (status_of t.text) (is_some_of v (left_by r None (operations t.text)))
@@ -72,18 +63,20 @@ fate_of r v false t = fate_by (status_of t.text) (is_some_of v (left_by r None (
 abbrev pub origin_at : List Txn → ℕ → ℕ → ℕ → ℕ → Event → Origin
 origin_at window r v reader place e = record {
   place = place;
-  number = number_at window e.thread.number place;
-  fate = fate_of r v (number_at window e.thread.number place == reader) (txn_at window (owner window e.thread.number place place));
+  writer = owner window e.thread.number place place;
+  fate = fate_of r v (owner window e.thread.number place place == reader) (txn_at window (owner window e.thread.number place place));
 }
 
--- The last of these events that does so; the first of them has this place.
-abbrev pub origin_from : List Txn → ℕ → ℕ → ℕ → ℕ → List Event → Option Origin
-origin_from window r v reader place [] = None
-origin_from window r v reader place (e ∷ events) =
-    or_before (origin_from window r v reader (place + 1) events)
-    (if puts r v e.kind (next_of e.thread.number events) then Some (origin_at window r v reader place e) else None)
+-- The last of these events that does so and comes before that place. The first of them has this place.
+abbrev pub origin_from : List Txn → ℕ → ℕ → ℕ → ℕ → ℕ → List Event → Option Origin
+origin_from window r v reader upto place [] = None
+origin_from window r v reader upto place (e ∷ events) =
+    or_before (origin_from window r v reader upto (place + 1) events)
+    (if nat_lt place upto && puts r v e.kind (next_of e.thread.number events) then Some (origin_at window r v reader place e) else None)
 
--- Of the window's events the last that puts the value into the register before the reader, which has this number, is answered it.
-abbrev pub origin_of : List Event → ℕ → ℕ → ℕ → Option Origin
-origin_of window r v reader =
-    origin_from (transactions window) r v reader 0 (take (answered_from (transactions window) r v reader 0 window) window)
+-- Of the window's events the last that puts the value into the register before the reader, the transaction at this place, is first
+-- answered it, or first while its own calls make the register `expected`.
+abbrev pub origin_of : List Event → ℕ → ℕ → Option ℕ → ℕ → Option Origin
+origin_of window r v expected reader =
+    let ts = transactions window in
+    origin_from ts r v reader (answered_from ts r v expected reader None 0 window) 0 window

@@ -49,8 +49,8 @@ StandsBeforeWriter ts order a (Some b) = StandsBefore ts order a b
 abbrev pub HoldsIn : List Txn → List Placed → Step → Type 0
 HoldsIn ts order (RealTime one other) = StandsBefore ts order one other
 HoldsIn ts order (From s) = (j : ℕ) × StandsAt ts order s.reader j × ComesFrom ts order s.register.number j s.writer
-HoldsIn ts order (ReadFirst s rival) = StandsBefore ts order s.reader rival
-HoldsIn ts order (ChangedFirst rival s) = StandsBeforeWriter ts order rival s.writer
+HoldsIn ts order (ReadFirst s rival left) = StandsBefore ts order s.reader rival
+HoldsIn ts order (ChangedFirst rival left s) = StandsBeforeWriter ts order rival s.writer
 HoldsIn ts order (Through one between other) = StandsBefore ts order one other
 
 -- The steps are a reason: each follows from those before it, and together they contradict each other so.

@@ -26,12 +26,12 @@ txn_at ts a = slice_index_or ts a nothing
 abbrev pub ops_at : List Txn → ℕ → List Op
 ops_at ts a = operations (txn_at ts a).text
 
--- What the operations need the register to hold before them: the first of them on the register is a read or an add that was answered it.
-abbrev pub needed_of : ℕ → List Op → Option ℕ
-needed_of r [] = None
-needed_of r (Read q v ∷ ops) = if q.number == r then Some v else needed_of r ops
-needed_of r (Write q v ∷ ops) = if q.number == r then None else needed_of r ops
-needed_of r (Add q d v ∷ ops) = if q.number == r then Some v else needed_of r ops
+-- The operations need the register to hold the value before them: a read, or the first add, was answered it before any of them changed it.
+abbrev pub needs : ℕ → ℕ → List Op → Bool
+needs r v [] = false
+needs r v (Read q w ∷ ops) = ((q.number == r) && (w == v)) || needs r v ops
+needs r v (Write q w ∷ ops) = not (q.number == r) && needs r v ops
+needs r v (Add q d w ∷ ops) = if q.number == r then w == v else needs r v ops
 
 abbrev pub is_pair : ℕ → ℕ → Option (ℕ × ℕ) → Bool
 is_pair a b None = false
@@ -56,8 +56,8 @@ is_same_source s t =
 abbrev pub orders : ℕ → ℕ → Step → Bool
 orders a b (RealTime one other) = (one == a) && (other == b)
 orders a b (From s) = is_some_of a s.writer && (s.reader == b)
-orders a b (ReadFirst s rival) = (s.reader == a) && (rival == b)
-orders a b (ChangedFirst rival s) = (rival == a) && is_some_of b s.writer
+orders a b (ReadFirst s rival left) = (s.reader == a) && (rival == b)
+orders a b (ChangedFirst rival left s) = (rival == a) && is_some_of b s.writer
 orders a b (Through one between other) = (one == a) && (other == b)
 
 -- The step says that this is the source.
@@ -146,11 +146,13 @@ is_left_by_none states ts s =
 -- The reader stands in each order, and needs the register to hold the value.
 abbrev pub is_asked : Criterion → List Txn → List Step → Source → Bool
 is_asked criterion ts steps s =
-    has_place criterion ts steps s.reader && is_some_of s.value (needed_of s.register.number (ops_at ts s.reader))
+    has_place criterion ts steps s.reader && needs s.register.number s.value (ops_at ts s.reader)
 
--- The source is known, and the transaction is a rival that leaves another value.
-abbrev pub is_known_rival : List Txn → List Step → Source → ℕ → Bool
-is_known_rival ts steps s a = list_any (gives s) steps && (is_rival ts steps s a && not (leaves ts s a))
+-- The source is known, and the transaction is a rival that leaves this value, which is another.
+abbrev pub is_known_rival : List Txn → List Step → Source → ℕ → ℕ → Bool
+is_known_rival ts steps s a left =
+    list_any (gives s) steps
+    && (is_rival ts steps s a && (is_some_of left (left_by s.register.number None (ops_at ts a)) && not (left == s.value)))
 
 -- The value comes from a transaction, not from the start.
 abbrev pub has_writer : Source → Bool
@@ -162,9 +164,10 @@ abbrev pub follows : Criterion → List State → List Txn → List Step → Ste
 follows criterion states ts steps (RealTime one other) = not (one == other) && precedes (txn_at ts one) (txn_at ts other)
 follows criterion states ts steps (From s) =
     is_asked criterion ts steps s && (may_come_from states ts s s.writer && is_only states ts steps s)
-follows criterion states ts steps (ReadFirst s rival) = is_known_rival ts steps s rival && begins_before steps s.writer rival
-follows criterion states ts steps (ChangedFirst rival s) =
-    is_known_rival ts steps s rival && (has_writer s && is_before steps rival s.reader)
+follows criterion states ts steps (ReadFirst s rival left) =
+    is_known_rival ts steps s rival left && begins_before steps s.writer rival
+follows criterion states ts steps (ChangedFirst rival left s) =
+    is_known_rival ts steps s rival left && (has_writer s && is_before steps rival s.reader)
 follows criterion states ts steps (Through one between other) =
     has_place criterion ts steps between && (is_before steps one between && is_before steps between other)
 

@@ -51,7 +51,8 @@ is_same_pair_or_none (Some p) (Some q) = (p.0 == q.0) && (p.1 == q.1)
 abbrev pub leaves_same : List Op → List Op → ℕ → Bool
 leaves_same left whole r = is_same_or_none (left_by r None left) (left_by r None whole)
 
--- Of the register, they were given no answer unlike the operations before it, or the first such answer of the whole.
+-- Of the register, they were given no answer unlike the operations before it, or the first has the values of the first such answer of the
+-- whole.
 abbrev pub is_unlike_same : List Op → List Op → ℕ → Bool
 is_unlike_same left whole r = is_same_pair_or_none (first_unlike r None left) (first_unlike r None whole)
 
@@ -60,7 +61,7 @@ abbrev pub agree : List Op → List Op → List Op → Bool
 agree left whole ops = list_all (λ op. leaves_same left whole (register_of op) && is_unlike_same left whole (register_of op)) ops
 
 -- The one transaction is left of the other: it has the same status, lacks only operations that may go, and agrees with the other on what
--- it leaves in each register that it changes and on the first answer that it had to find otherwise.
+-- it leaves in each register that it changes, and on the values of the first answer unlike its own operations.
 abbrev pub is_left_of : (ℕ → ℕ → Bool) → Txn → Txn → Bool
 is_left_of unread t u =
     is_same_status (status_of u.text) (status_of t.text)

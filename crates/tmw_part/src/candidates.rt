@@ -1,34 +1,40 @@
 //! The steps that are tried. The contracts of those that choose among them say what a reason is, so which are here changes only which
 //! reasons are found.
-use crate::deeds::needed_of;
-use crate::follows::text_at;
+use crate::deeds::{left_by, needed_of};
+use crate::drawn::Drawn;
 use crate::step::{Source, Step};
-use crate::transaction::Transaction;
 use std::alloc::{AllocError, Global};
 use tmw_events::Ix;
 
-/// Adds the steps from real time between the one and each of so many transactions.
-fn push_real_times(steps: &mut Vec<Step>, count: usize, one: usize) -> Result<(), AllocError> {
-    for other in 0..count {
-        steps.push(Step::RealTime { one, other })?;
+/// Adds the steps from real time between the one and each of these transactions.
+fn push_real_times(steps: &mut Vec<Step>, drawn: &[Drawn], one: usize) -> Result<(), AllocError> {
+    for other in drawn {
+        steps.push(Step::RealTime {
+            one,
+            other: other.place,
+        })?;
     }
     Ok(())
 }
 
-/// Adds the steps from real time between so many transactions.
-fn push_all_real_times(steps: &mut Vec<Step>, count: usize) -> Result<(), AllocError> {
-    for one in 0..count {
-        push_real_times(steps, count, one)?;
+/// Adds the steps from real time between these transactions.
+fn push_all_real_times(steps: &mut Vec<Step>, drawn: &[Drawn]) -> Result<(), AllocError> {
+    for one in drawn {
+        push_real_times(steps, drawn, one.place)?;
     }
     Ok(())
 }
 
-/// Adds a value's sources: the start, and each of so many transactions.
-fn push_sources_of(list: &mut Vec<Source>, count: usize, start: Source) -> Result<(), AllocError> {
+/// Adds a value's sources: the start, and each of these transactions.
+fn push_sources_of(
+    list: &mut Vec<Source>,
+    drawn: &[Drawn],
+    start: Source,
+) -> Result<(), AllocError> {
     list.push(start)?;
-    for place in 0..count {
+    for writer in drawn {
         list.push(Source {
-            writer: Some(place),
+            writer: Some(writer.place),
             ..start
         })?;
     }
@@ -38,29 +44,29 @@ fn push_sources_of(list: &mut Vec<Source>, count: usize, start: Source) -> Resul
 /// Adds the sources of what a reader needs in each register.
 fn push_sources_at(
     list: &mut Vec<Source>,
-    transactions: &[Transaction],
-    reader: usize,
+    drawn: &[Drawn],
+    reader: &Drawn,
 ) -> Result<(), AllocError> {
     for number in 0..8u8 {
         let register = Ix { number };
-        if let Some(value) = needed_of(register, text_at(transactions, reader)) {
+        if let Some(value) = needed_of(register, reader.text) {
             let start = Source {
-                reader,
+                reader: reader.place,
                 register,
                 value,
                 writer: None,
             };
-            push_sources_of(list, transactions.len(), start)?;
+            push_sources_of(list, drawn, start)?;
         }
     }
     Ok(())
 }
 
 /// Returns the sources of what each transaction needs.
-fn sources(alloc: Global, transactions: &[Transaction]) -> Result<Vec<Source>, AllocError> {
+fn sources(alloc: Global, drawn: &[Drawn]) -> Result<Vec<Source>, AllocError> {
     let mut list = Vec::new(alloc);
-    for reader in 0..transactions.len() {
-        push_sources_at(&mut list, transactions, reader)?;
+    for reader in drawn {
+        push_sources_at(&mut list, drawn, reader)?;
     }
     Ok(list)
 }
@@ -73,11 +79,22 @@ fn push_sources(steps: &mut Vec<Step>, sources: &[Source]) -> Result<(), AllocEr
     Ok(())
 }
 
-/// Adds the steps that a source and each of so many transactions make, as its rival.
-fn push_firsts(steps: &mut Vec<Step>, count: usize, source: Source) -> Result<(), AllocError> {
-    for rival in 0..count {
-        steps.push(Step::ReadFirst { source, rival })?;
-        steps.push(Step::ChangedFirst { rival, source })?;
+/// Adds the steps that a source makes with each of these transactions that changes its register, as its rival.
+fn push_firsts(steps: &mut Vec<Step>, drawn: &[Drawn], source: Source) -> Result<(), AllocError> {
+    for other in drawn {
+        let rival = other.place;
+        if let Some(left) = left_by(source.register, other.text) {
+            steps.push(Step::ReadFirst {
+                source,
+                rival,
+                left,
+            })?;
+            steps.push(Step::ChangedFirst {
+                rival,
+                left,
+                source,
+            })?;
+        }
     }
     Ok(())
 }
@@ -85,59 +102,55 @@ fn push_firsts(steps: &mut Vec<Step>, count: usize, source: Source) -> Result<()
 /// Adds the steps that sources and their rivals make.
 fn push_all_firsts(
     steps: &mut Vec<Step>,
-    count: usize,
+    drawn: &[Drawn],
     sources: &[Source],
 ) -> Result<(), AllocError> {
     for source in sources {
-        push_firsts(steps, count, *source)?;
+        push_firsts(steps, drawn, *source)?;
     }
     Ok(())
 }
 
-/// Adds the steps that lead from the one transaction by the other to each of so many.
+/// Adds the steps that lead from the one transaction by the other to each of these.
 fn push_throughs_between(
     steps: &mut Vec<Step>,
-    count: usize,
+    drawn: &[Drawn],
     one: usize,
     between: usize,
 ) -> Result<(), AllocError> {
-    for other in 0..count {
+    for other in drawn {
         steps.push(Step::Through {
             one,
             between,
-            other,
+            other: other.place,
         })?;
     }
     Ok(())
 }
 
-/// Adds the steps that lead from the one of so many transactions to another by a third.
-fn push_throughs(steps: &mut Vec<Step>, count: usize, one: usize) -> Result<(), AllocError> {
-    for between in 0..count {
-        push_throughs_between(steps, count, one, between)?;
+/// Adds the steps that lead from the one of these transactions to another by a third.
+fn push_throughs(steps: &mut Vec<Step>, drawn: &[Drawn], one: usize) -> Result<(), AllocError> {
+    for between in drawn {
+        push_throughs_between(steps, drawn, one, between.place)?;
     }
     Ok(())
 }
 
-/// Adds the steps that lead from one of so many transactions to another by a third.
-fn push_all_throughs(steps: &mut Vec<Step>, count: usize) -> Result<(), AllocError> {
-    for one in 0..count {
-        push_throughs(steps, count, one)?;
+/// Adds the steps that lead from one of these transactions to another by a third.
+fn push_all_throughs(steps: &mut Vec<Step>, drawn: &[Drawn]) -> Result<(), AllocError> {
+    for one in drawn {
+        push_throughs(steps, drawn, one.place)?;
     }
     Ok(())
 }
 
 /// Returns the steps to try, of these transactions. Those that tell more are tried first.
-pub(crate) fn candidates(
-    alloc: Global,
-    transactions: &[Transaction],
-) -> Result<Vec<Step>, AllocError> {
-    let count = transactions.len();
-    let sources = sources(alloc, transactions)?;
+pub(crate) fn candidates(alloc: Global, drawn: &[Drawn]) -> Result<Vec<Step>, AllocError> {
+    let sources = sources(alloc, drawn)?;
     let mut steps = Vec::new(alloc);
-    push_all_real_times(&mut steps, count)?;
+    push_all_real_times(&mut steps, drawn)?;
     push_sources(&mut steps, &sources)?;
-    push_all_firsts(&mut steps, count, &sources)?;
-    push_all_throughs(&mut steps, count)?;
+    push_all_firsts(&mut steps, drawn, &sources)?;
+    push_all_throughs(&mut steps, drawn)?;
     Ok(steps)
 }

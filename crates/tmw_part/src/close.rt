@@ -15,8 +15,8 @@ fn tells(steps: &[Step], step: &Step) -> bool {
     match *step {
         Step::RealTime { one, other } => is_before(steps, one, other),
         Step::From(source) => is_given(steps, &source),
-        Step::ReadFirst { source, rival } => is_before(steps, source.reader, rival),
-        Step::ChangedFirst { rival, source } => ends_before(steps, rival, source.writer),
+        Step::ReadFirst { source, rival, .. } => is_before(steps, source.reader, rival),
+        Step::ChangedFirst { rival, source, .. } => ends_before(steps, rival, source.writer),
         Step::Through {
             one,
             between: _between,

@@ -1,7 +1,7 @@
 ghost use Rattle.std.specs.Prelude.{◌≡◌, ◌≢◌, ℕ, None, Some, IfSome, IfNone, IsTrue};
 ghost use Rattle.tmw_defs.specs.History.{operations};
 ghost use Rattle.tmw_cuts.specs.Written.{writes, left_by};
-ghost use Rattle.tmw_part.specs.Steps.{is_pair, is_some_of, needed_of};
+ghost use Rattle.tmw_part.specs.Steps.{is_pair, is_some_of, needs};
 ghost use Rattle.tmw_part.specs.Unlike.{answer_of, first_unlike, known_after};
 
 use tmw_cuts::operation;
@@ -28,10 +28,26 @@ pub(crate) fn is_pair(one: u64, other: u64, option: Option<(u64, u64)>) -> bool
     }
 }
 
-/// The value of the register that the operations of a transaction need before them.
-pub(crate) fn needed_of(register: Ix, text: &[Kind]) -> Option<u64>
-    ensures { result ≡ needed_of register.number (operations text.now) }
+/// Whether the operations of a transaction need the register to hold the value before them.
+pub(crate) fn needs(register: Ix, value: u64, text: &[Kind]) -> bool
+    ensures { result ≡ needs register.number value (operations text.now) }
 {
+    let mut rest = text;
+    while let [call, answer, more @ ..] = rest {
+        match operation(*call, *answer) {
+            Some(Op::Read(other, read)) if other == register && read == value => return true,
+            Some(Op::Write(other, _value)) if other == register => return false,
+            Some(Op::Add(other, _added, read)) if other == register => return read == value,
+            _ => {}
+        }
+        rest = more;
+    }
+    false
+}
+
+/// The value of the register that the first operation on it needs before them, if it needs one. Which it is decides only
+/// which steps are tried.
+pub(crate) fn needed_of(register: Ix, text: &[Kind]) -> Option<u64> {
     let mut rest = text;
     while let [call, answer, more @ ..] = rest {
         match operation(*call, *answer) {

@@ -3,37 +3,51 @@ ghost use Rattle.tmw_part.specs.Shown.{txns_of};
 ghost use Rattle.tmw_part.specs.Steps.{contradicts};
 
 use crate::deeds::{find_unlike, needed_of};
+use crate::drawn::Drawn;
 use crate::follows::{contradicts, text_at};
 use crate::step::{Contradiction, Step};
 use crate::transaction::Transaction;
 use std::alloc::{AllocError, Global};
 use tmw_cuts::State;
 use tmw_defs::Criterion;
-use tmw_events::Ix;
+use tmw_events::{Ix, Kind};
 
-/// Adds what may be wrong with what a transaction read, for each register.
+/// Adds that the transaction read the register unlike its own calls, if these texts of it say so.
+fn push_unlike(
+    ends: &mut Vec<Contradiction>,
+    reader: usize,
+    register: Ix,
+    text: &[Kind],
+) -> Result<(), AllocError> {
+    if let Some((expected, read)) = find_unlike(register, text) {
+        ends.push(Contradiction::Unlike {
+            reader,
+            register,
+            expected,
+            read,
+        })?;
+    }
+    Ok(())
+}
+
+/// Adds what may be wrong with what a transaction read, for each register: by the calls that are drawn, by nobody having
+/// left it, or by all its calls in the window.
 fn push_reads(
     ends: &mut Vec<Contradiction>,
-    transactions: &[Transaction],
-    reader: usize,
+    window: &[Transaction],
+    one: &Drawn,
 ) -> Result<(), AllocError> {
-    let text = text_at(transactions, reader);
+    let reader = one.place;
     for number in 0..8u8 {
         let register = Ix { number };
-        if let Some((expected, read)) = find_unlike(register, text) {
-            ends.push(Contradiction::Unlike {
-                reader,
-                register,
-                expected,
-                read,
-            })?;
-        }
-        if let Some(value) = needed_of(register, text) {
+        push_unlike(ends, reader, register, one.text)?;
+        if let Some(value) = needed_of(register, one.text) {
             ends.push(Contradiction::NoSource {
                 reader,
                 register,
                 value,
             })?;
+            push_unlike(ends, reader, register, text_at(window, reader))?;
         }
     }
     Ok(())
@@ -42,10 +56,11 @@ fn push_reads(
 /// Adds what may be wrong with what the transactions read.
 fn push_all_reads(
     ends: &mut Vec<Contradiction>,
-    transactions: &[Transaction],
+    window: &[Transaction],
+    drawn: &[Drawn],
 ) -> Result<(), AllocError> {
-    for reader in 0..transactions.len() {
-        push_reads(ends, transactions, reader)?;
+    for one in drawn {
+        push_reads(ends, window, one)?;
     }
     Ok(())
 }
@@ -53,12 +68,13 @@ fn push_all_reads(
 /// Returns the contradictions to which steps of these transactions may come. Those that one sentence tells are first.
 pub(crate) fn ends(
     alloc: Global,
-    transactions: &[Transaction],
+    window: &[Transaction],
+    drawn: &[Drawn],
 ) -> Result<Vec<Contradiction>, AllocError> {
     let mut ends = Vec::new(alloc);
-    push_all_reads(&mut ends, transactions)?;
-    for place in 0..transactions.len() {
-        ends.push(Contradiction::Cycle(place))?;
+    push_all_reads(&mut ends, window, drawn)?;
+    for one in drawn {
+        ends.push(Contradiction::Cycle(one.place))?;
     }
     Ok(ends)
 }

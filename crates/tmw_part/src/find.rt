@@ -1,13 +1,14 @@
 ghost use Rattle.std.specs.Prelude.{◌≡◌, ◌≤◌, ◌<◌, All, IfOk, IfSome, IfNone, IsTrue, IsFalse, length};
 ghost use Rattle.tmw_defs.specs.History.{transactions};
 ghost use Rattle.tmw_cuts.specs.Members.{members};
-ghost use Rattle.tmw_part.specs.Finding.{FindsPart, IsMinimalPart, IsNeeded, IsViolatedPart};
+ghost use Rattle.tmw_part.specs.Finding.{AreNeeded, FindsPart, IsMinimalPart, IsNeeded, IsViolatedPart};
 ghost use Rattle.tmw_part.specs.Kept.{kept_of};
 ghost use Rattle.tmw_part.specs.Pieces.{pieces};
 
 use crate::kept_part::is_violated_part;
 use crate::marks::without;
 use crate::piece::{Piece, pieces};
+use crate::readers::with_readers;
 use crate::violated::is_violated;
 use std::alloc::{AllocError, Global};
 use tmw_cuts::States;
@@ -17,8 +18,38 @@ use tmw_events::{Event, Registers};
 /// How many events a window has at most that is searched.
 pub const MOST_EVENTS: usize = 1_000;
 
-/// What is kept without the piece, if that is less, and a violated part still.
+/// What is kept without these pieces, if that is less, and a violated part still.
 fn try_without(
+    criterion: Criterion,
+    alloc: Global,
+    registers: Registers,
+    states: &States,
+    events: &[Event],
+    pieces: &[Piece],
+    marks: &[bool],
+) -> Result<Option<Vec<bool>>, AllocError>
+    requires few { length (transactions events.now) ≤ 8 }
+    requires each { length marks.now ≡ length events.now }
+    ensures part { IfOk result (λ found. IfSome found (λ left. IsViolatedPart criterion
+        registers.number (members states.now) events.now left.items)) }
+    ensures fewer { IfOk result (λ found. IfSome found (λ left.
+        length (kept_of left.items events.now) < length (kept_of marks.now events.now))) }
+    ensures needed { IfOk result (λ found. IfNone found (AreNeeded criterion registers.number
+        (members states.now) events.now marks.now pieces.now)) }
+{
+    let left = without(alloc, pieces, marks, events)?;
+    if left.as_slice() == marks {
+        return Ok(None);
+    }
+    if !is_violated_part(criterion, alloc, registers, states, events, &left)? {
+        return Ok(None);
+    }
+    Ok(Some(left))
+}
+
+/// What is kept without the piece, alone or together with the reads of its values, if that is less, and a violated part
+/// still.
+fn try_piece(
     criterion: Criterion,
     alloc: Global,
     registers: Registers,
@@ -36,18 +67,24 @@ fn try_without(
     ensures needed { IfOk result (λ found. IfNone found (IsNeeded criterion registers.number
         (members states.now) events.now marks.now piece.now)) }
 {
-    let left = without(alloc, *piece, marks, events)?;
-    if left.as_slice() == marks {
-        return Ok(None);
+    let alone = try_without(
+        criterion,
+        alloc,
+        registers,
+        states,
+        events,
+        &[*piece],
+        marks,
+    )?;
+    if alone.is_some() {
+        return Ok(alone);
     }
-    if !is_violated_part(criterion, alloc, registers, states, events, &left)? {
-        return Ok(None);
-    }
-    Ok(Some(left))
+    let pieces = with_readers(alloc, piece, events)?;
+    try_without(criterion, alloc, registers, states, events, &pieces, marks)
 }
 
-/// Takes each of the pieces in turn out of what is kept, if what is left is a violated part still. Tells whether it took
-/// one.
+/// Takes each of the pieces in turn out of what is kept, alone or with the reads of its values, if what is left is a
+/// violated part still. Tells whether it took one.
 fn take_out(
     criterion: Criterion,
     alloc: Global,
@@ -70,7 +107,7 @@ fn take_out(
 {
     let mut took = false;
     for piece in pieces {
-        let found = try_without(criterion, alloc, registers, states, events, piece, marks)?;
+        let found = try_piece(criterion, alloc, registers, states, events, piece, marks)?;
         if let Some(left) = found {
             *marks = left;
             took = true;
@@ -103,10 +140,11 @@ fn take_all_out(
 }
 
 /// Finds a part of a window that is violated by itself, from any of the states, and of which nothing more can be taken
-/// out, one transaction or one call with its answer at a time: for each event, whether it is kept. The last event is, and
-/// each write of a value that the part reads. What a transaction leaves at last in a register that the part has it change
-/// is what it leaves in the window, and so is the first answer that it had to find otherwise. In a window of more than `MOST_EVENTS` events, and in one that is not
-/// violated, all are. It fails only if an allocation does.
+/// out, one transaction or one call with its answer at a time, alone or with the reads of its values: for each event,
+/// whether it is kept. The last event is, and each write of a value that the part reads. What a transaction leaves at last
+/// in a register that the part has it change is what it leaves in the window. The first answer unlike its own calls has
+/// the values that it has in the window. In a window of more than `MOST_EVENTS` events, and in one that is not violated,
+/// all are kept. It fails only if an allocation does.
 pub fn find_part(
     criterion: Criterion,
     alloc: Global,

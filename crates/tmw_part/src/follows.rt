@@ -4,7 +4,7 @@ ghost use Rattle.tmw_defs.specs.Opaque.{precedes};
 ghost use Rattle.tmw_part.specs.Shown.{txns_of};
 ghost use Rattle.tmw_part.specs.Steps.{comes_not_else, contradicts, follows, has_place, has_writer, is_asked, is_before, is_excluded, is_held, is_known_rival, is_left_by_none, is_only, leaves, is_rival, may_come_from, stands_between, txn_at};
 
-use crate::deeds::{find_unlike, is_pair, is_some_of, left_by, needed_of, writes};
+use crate::deeds::{find_unlike, is_pair, is_some_of, left_by, needs, writes};
 use crate::known::{begins_before, ends_before, is_before, is_given, is_same_writer, is_supplied};
 use crate::step::{Contradiction, Source, Step};
 use crate::transaction::{Transaction, precedes, status_of};
@@ -130,8 +130,9 @@ fn is_asked(
 ) -> bool
     ensures { result ≡ is_asked criterion (txns_of transactions.now) steps.now source.now }
 {
-    let needed = needed_of(source.register, text_at(transactions, source.reader));
-    has_place(criterion, transactions, steps, source.reader) && is_some_of(source.value, needed)
+    let text = text_at(transactions, source.reader);
+    has_place(criterion, transactions, steps, source.reader)
+        && needs(source.register, source.value, text)
 }
 
 /// Whether the value can't come from this writer, unless it is the source's own.
@@ -223,18 +224,20 @@ fn precedes_at(transactions: &[Transaction], one: usize, other: usize) -> bool
     }
 }
 
-/// Whether the transaction is a rival of a source that is known, and leaves another value.
+/// Whether the transaction is a rival of a source that is known, and leaves this value, which is another.
 fn is_known_rival(
     transactions: &[Transaction],
     steps: &[Step],
     source: &Source,
     place: usize,
+    left: u64,
 ) -> bool
-    ensures { result ≡ is_known_rival (txns_of transactions.now) steps.now source.now place }
+    ensures { result ≡ is_known_rival (txns_of transactions.now) steps.now source.now place left }
 {
     is_given(steps, source)
         && is_rival(transactions, steps, source, place)
-        && !leaves(transactions, source, place)
+        && is_some_of(left, left_by(source.register, text_at(transactions, place)))
+        && left != source.value
 }
 
 /// Whether the value comes from a transaction, not from the start.
@@ -269,12 +272,21 @@ pub(crate) fn follows(
                 && may_come_from(states, transactions, &source, source.writer)
                 && is_only(states, transactions, steps, &source)
         }
-        Step::ReadFirst { source, rival } => {
-            is_known_rival(transactions, steps, &source, rival)
+        Step::ReadFirst {
+            source,
+            rival,
+            left,
+        } => {
+            is_known_rival(transactions, steps, &source, rival, left)
                 && begins_before(steps, source.writer, rival)
         }
-        Step::ChangedFirst { rival, source } => {
-            is_known_rival(transactions, steps, &source, rival) && is_late(steps, &source, rival)
+        Step::ChangedFirst {
+            rival,
+            left,
+            source,
+        } => {
+            is_known_rival(transactions, steps, &source, rival, left)
+                && is_late(steps, &source, rival)
         }
         Step::Through {
             one,

@@ -1,6 +1,6 @@
 ghost use Rattle.std.specs.Prelude.{◌≡◌};
 ghost use Rattle.std.specs.List.{list_any};
-ghost use Rattle.tmw_part.specs.Steps.{begins_before, ends_before, gives, is_before, is_same_source, is_same_writer, orders, is_some_of, supplies};
+ghost use Rattle.tmw_part.specs.Steps.{begins_before, ends_before, gives, is_before, is_same_writer, is_same_source, orders, is_some_of, supplies};
 
 use crate::step::{Source, Step};
 
@@ -42,8 +42,8 @@ fn orders(one: usize, other: usize, step: &Step) -> bool
     match *step {
         Step::RealTime { one: a, other: b } => a == one && b == other,
         Step::From(source) => is_at(one, source.writer) && source.reader == other,
-        Step::ReadFirst { source, rival } => source.reader == one && rival == other,
-        Step::ChangedFirst { rival, source } => rival == one && is_at(other, source.writer),
+        Step::ReadFirst { source, rival, .. } => source.reader == one && rival == other,
+        Step::ChangedFirst { rival, source, .. } => rival == one && is_at(other, source.writer),
         Step::Through {
             one: a,
             between: _between,

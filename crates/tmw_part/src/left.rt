@@ -162,7 +162,7 @@ fn leaves_same(left: &[Kind], whole: &[Kind], register: Ix) -> bool
 }
 
 /// Whether a transaction of which this text is left was given no answer of the register unlike its own operations, or
-/// the first such answer of its whole text.
+/// the first with the values of the first such answer of its whole text.
 fn is_unlike_same(left: &[Kind], whole: &[Kind], register: Ix) -> bool
     ensures { result
         ≡ is_unlike_same (operations left.now) (operations whole.now) register.number }

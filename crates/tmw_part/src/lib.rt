@@ -1,32 +1,36 @@
-//! Of a violated window, a part that is violated by itself, and from which no transaction and no call can be taken out on its own.
+//! Of a violated window, a part that is violated by itself, from which nothing more can be taken out, and a reason why the window is.
 #![tactic(auto)]
 
+// The part: what may be taken out of a window, and whether what is left is a part of it and violated.
+mod find;
+mod kept_part;
+mod left;
+mod marks;
+mod part;
+mod piece;
+mod readers;
+mod transaction;
+mod violated;
+
+// The reason: the steps that are tried, which follow, what they come to, and which are needed.
 mod candidates;
 mod close;
 mod deeds;
+mod drawn;
 mod ends;
-mod find;
 mod follows;
-mod kept_part;
 mod known;
-mod left;
-mod marks;
-mod names;
-mod origin;
-mod part;
-mod piece;
 mod prune;
 mod reason;
 mod step;
-mod transaction;
-mod violated;
+
+// Where a value comes from, and where a transaction's name is drawn.
+mod names;
+mod origin;
 
 pub use find::{MOST_EVENTS, find_part};
 pub use marks::kept_of;
 pub use names::{Name, names_of};
 pub use origin::{Fate, Origin, find_origin};
-pub use part::law_test;
-pub use piece::Piece;
 pub use reason::{Reason, find_reason, law_reason};
 pub use step::{Contradiction, Source, Step};
-pub use transaction::{Transaction, precedes, status_of, transactions};

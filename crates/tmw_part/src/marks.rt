@@ -1,6 +1,6 @@
 //! Which events of a window are kept: a mark for each, in order.
 ghost use Rattle.std.specs.Prelude.{◌≡◌, ◌<◌, ◌≤◌, IfOk, IfSome, length, position, slice_index_or, true};
-ghost use Rattle.tmw_part.specs.Kept.{are_whole, keeps_last, kept_of, lies_in, may_miss, may_miss_all, owner, owners_among, places_from, without};
+ghost use Rattle.tmw_part.specs.Kept.{are_whole, is_of_any, keeps_last, kept_of, lies_in, may_miss, may_miss_all, owner, owners_among, places_from, without};
 ghost use Rattle.tmw_part.specs.Shown.{txn_of, txns_of};
 
 use crate::left::is_unread;
@@ -167,21 +167,28 @@ pub fn may_miss_all(
     Ok(true)
 }
 
-/// Returns the marks of what is kept without the piece.
+/// Whether the event at this place is one of these pieces.
+fn is_of_any(pieces: &[Piece], place: usize, event: Event) -> bool
+    ensures { result ≡ is_of_any pieces.now place event }
+{
+    pieces.iter().any(|piece| piece.has(place, event))
+}
+
+/// Returns the marks of what is kept without these pieces.
 pub fn without(
     alloc: Global,
-    piece: Piece,
+    pieces: &[Piece],
     marks: &[bool],
     events: &[Event],
 ) -> Result<Vec<bool>, AllocError>
-    ensures { IfOk result (λ left. left.items ≡ without piece marks.now events.now) }
+    ensures { IfOk result (λ left. left.items ≡ without pieces.now marks.now events.now) }
 {
     let mut left = Vec::new(alloc);
     for (place, event) in events.iter().enumerate() {
         let Some(mark) = marks.get(place) else {
             return Ok(left);
         };
-        left.push(*mark && !piece.has(place, *event))?;
+        left.push(*mark && !is_of_any(pieces, place, *event))?;
     }
     Ok(left)
 }

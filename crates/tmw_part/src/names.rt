@@ -13,8 +13,8 @@ use tmw_events::Event;
 pub struct Name {
     /// The place of the first of its events that is kept.
     pub first: usize,
-    /// Its number among the window's transactions, which count from 1 in the order of their first events.
-    pub number: u64,
+    /// Its place among the window's transactions.
+    pub transaction: usize,
 }
 
 /// What the transaction, whose events have these places in the window, is there.
@@ -23,8 +23,8 @@ fn name_in(places: &[usize], window: &[Transaction], transaction: &Transaction) 
 {
     let first = number_at(places, transaction.first);
     let last = number_at(places, transaction.last);
-    let number = owner(window, transaction.thread, first, last) as u64 + 1;
-    Name { first, number }
+    let transaction = owner(window, transaction.thread, first, last);
+    Name { first, transaction }
 }
 
 /// What each of these transactions is in the window.

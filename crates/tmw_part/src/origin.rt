@@ -1,10 +1,12 @@
 ghost use Rattle.std.specs.Prelude.{◌≡◌, ◌≤◌, ◌<◌, IfOk, IfSome, length};
-ghost use Rattle.tmw_part.specs.Origins.{answered_from, fate_by, fate_of, next_of, number_at, origin_at, origin_of, puts, reads, reads_at, until_next};
+ghost use Rattle.tmw_part.specs.Origins.{answered_from, fate_by, fate_of, is_as_expected, known_past, origin_at, origin_of, reads};
 ghost use Rattle.tmw_part.specs.Shown.{txn_of, txns_of};
 
 use crate::deeds::{is_some_of, left_by};
 use crate::follows::text_at;
 use crate::marks::owner;
+use crate::piece::call_of;
+use crate::readers::{next_of, puts};
 use crate::transaction::{Transaction, status_of, transactions};
 use std::alloc::{AllocError, Global};
 use tmw_defs::Status;
@@ -17,7 +19,7 @@ pub enum Fate {
     GivenUp,
     /// It had not asked to commit.
     Unasked,
-    /// It left another value there.
+    /// It put or left another value there, or is the reader itself.
     Overwritten,
     /// It left the value there, and committed or asked to.
     Stays,
@@ -28,43 +30,9 @@ pub enum Fate {
 pub struct Origin {
     /// The place in the window of the call that put it there.
     pub place: usize,
-    /// The transaction's number in the window, from 1.
-    pub number: u64,
+    /// The transaction's place among those of the window.
+    pub writer: usize,
     pub fate: Fate,
-}
-
-/// Whether the call, with what follows it in its thread, puts the value into the register.
-fn puts(register: Ix, value: u64, kind: Kind, next: Option<Kind>) -> bool
-    ensures { result ≡ puts register.number value kind next }
-{
-    match (kind, next) {
-        (Kind::W(other, written), _) => other == register && written == value,
-        (Kind::N(other, added), Some(Kind::V(found))) => {
-            other == register && found.wrapping_add(added) == value
-        }
-        _ => false,
-    }
-}
-
-/// The thread's first event among these.
-fn next_of(thread: Ix, events: &[Event]) -> Option<Kind>
-    ensures { result ≡ next_of thread.number events.now }
-{
-    let mut rest = events;
-    while let [event, more @ ..] = rest {
-        if event.thread == thread {
-            return Some(event.kind);
-        }
-        rest = more;
-    }
-    None
-}
-
-/// The number of the transaction in which the event of this thread at this place lies.
-fn number_at(window: &[Transaction], thread: Ix, place: usize) -> u64
-    ensures { result ≡ number_at (txns_of window.now) thread.number place }
-{
-    owner(window, thread, place, place) as u64 + 1
 }
 
 /// Whether the call, with what follows it in its thread, reads the value from the register.
@@ -78,57 +46,53 @@ fn reads(register: Ix, value: u64, kind: Kind, next: Option<Kind>) -> bool
     }
 }
 
-/// How many of these events come before the thread's first one among them.
-fn until_next(thread: Ix, events: &[Event]) -> usize
-    ensures is { result ≡ until_next thread.number events.now }
-    ensures within { result ≤ length events.now }
+/// What is known of the register after the call, with what follows it in its thread, if this is known before it.
+fn known_past(register: Ix, known: Option<u64>, kind: Kind, next: Option<Kind>) -> Option<u64>
+    ensures { result ≡ known_past register.number known kind next }
 {
-    let mut before = 0;
-    let mut rest = events;
-    while let [event, more @ ..] = rest {
-        if event.thread == thread {
-            return before;
+    match (kind, next) {
+        (Kind::R(other), Some(Kind::V(value))) if other == register => Some(value),
+        (Kind::W(other, value), Some(Kind::K)) if other == register => Some(value),
+        (Kind::N(other, added), Some(Kind::V(value))) if other == register => {
+            Some(value.wrapping_add(added))
         }
-        before += 1;
-        rest = more;
+        _ => known,
     }
-    before
 }
 
-/// Whether the event at this place, before these, is a call of the reader that reads the value from the register.
-fn reads_at(
-    window: &[Transaction],
-    register: Ix,
-    value: u64,
-    reader: u64,
-    place: usize,
-    event: &Event,
-    events: &[Event],
-) -> bool
-    ensures { result ≡ reads_at (txns_of window.now) register.number value reader place
-        event.now events.now }
+/// Whether what is known is what is expected, if a value is.
+fn is_as_expected(expected: Option<u64>, known: Option<u64>) -> bool
+    ensures { result ≡ is_as_expected expected known }
 {
-    reads(register, value, event.kind, next_of(event.thread, events))
-        && number_at(window, event.thread, place) == reader
+    match expected {
+        None => true,
+        Some(value) => is_some_of(value, known),
+    }
 }
 
-/// The place of the answer by which the reader first reads the value from the register, or the length.
+/// The place of the answer by which the reader first reads the value from the register, or first while its own calls make
+/// it the expected one; or the length.
 fn answered_at(
     window: &[Transaction],
     register: Ix,
     value: u64,
-    reader: u64,
+    expected: Option<u64>,
+    reader: usize,
     events: &[Event],
 ) -> usize
-    ensures is { result ≡ answered_from (txns_of window.now) register.number value reader 0
-        events.now }
-    ensures within { result ≤ length events.now }
+    ensures { result ≡ answered_from (txns_of window.now) register.number value expected reader
+        None 0 events.now }
 {
+    let mut known = None;
     let mut place = 0;
     let mut rest = events;
     while let [event, more @ ..] = rest {
-        if reads_at(window, register, value, reader, place, event, more) {
-            return place + (1 + until_next(event.thread, more));
+        if owner(window, event.thread, place, place) == reader {
+            let next = next_of(event.thread, more);
+            if is_as_expected(expected, known) && reads(register, value, event.kind, next) {
+                return call_of(place, *event, more).upto;
+            }
+            known = known_past(register, known, event.kind, next);
         }
         place += 1;
         rest = more;
@@ -154,47 +118,48 @@ fn origin_at(
     window: &[Transaction],
     register: Ix,
     value: u64,
-    reader: u64,
+    reader: usize,
     place: usize,
     event: &Event,
 ) -> Origin
     ensures { result ≡ origin_at (txns_of window.now) register.number value reader place event.now }
 {
-    let number = number_at(window, event.thread, place);
-    if number == reader {
-        return Origin {
-            place,
-            number,
-            fate: Fate::Overwritten,
-        };
-    }
-    let text = text_at(window, owner(window, event.thread, place, place));
+    let writer = owner(window, event.thread, place, place);
+    let text = text_at(window, writer);
     let last = is_some_of(value, left_by(register, text));
+    let fate = if writer == reader {
+        Fate::Overwritten
+    } else {
+        fate_by(status_of(text), last)
+    };
     Origin {
         place,
-        number,
-        fate: fate_by(status_of(text), last),
+        writer,
+        fate,
     }
 }
 
-/// Finds the last event of a window that puts the value into the register before the reader, the transaction of this
-/// number, is answered it.
+/// Finds the last event of a window that puts the value into the register before the reader, the transaction at this
+/// place, is first answered it, or first while its own calls make the register the expected value.
 pub fn find_origin(
     alloc: Global,
     events: &[Event],
     register: Ix,
     value: u64,
-    reader: u64,
+    expected: Option<u64>,
+    reader: usize,
 ) -> Result<Option<Origin>, AllocError>
-    ensures is { IfOk result (λ found. found ≡ origin_of events.now register.number value reader) }
+    ensures is { IfOk result (λ found. found
+        ≡ origin_of events.now register.number value expected reader) }
     ensures within { IfOk result (λ found. IfSome found (λ origin. origin.place < length events.now)) }
 {
     let window = transactions(alloc, events)?;
     let mut found = None;
     let mut place = 0;
-    let mut rest = &events[..answered_at(&window, register, value, reader, events)];
+    let mut rest = events;
+    let upto = answered_at(&window, register, value, expected, reader, events);
     while let [event, more @ ..] = rest {
-        if puts(register, value, event.kind, next_of(event.thread, more)) {
+        if place < upto && puts(register, value, event.kind, next_of(event.thread, more)) {
             found = Some(origin_at(&window, register, value, reader, place, event));
         }
         place += 1;

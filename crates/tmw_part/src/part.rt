@@ -1,6 +1,4 @@
-ghost use Rattle.std.specs.Prelude.{◌≡◌, ◌<◌, All, IfOk, IsTrue, List, ℕ, length};
-ghost use Rattle.tmw_defs.specs.History.{Txn};
-ghost use Rattle.tmw_defs.specs.Part.{IsPart};
+ghost use Rattle.std.specs.Prelude.{◌≡◌, ◌<◌, All, IfOk, length};
 ghost use Rattle.tmw_part.specs.Test.{are_placed, is_among, is_part_at, staying_of, without_number};
 ghost use Rattle.tmw_part.specs.Shown.{shown, txns_of, unread_in};
 
@@ -79,12 +77,6 @@ fn staying_of<'a>(
     }
     Ok(staying)
 }
-
-/// Proves that what passes the test is a part.
-pub fn law_test()
-    ensures { (places : List ℕ) (part whole : List Txn) → IsTrue (is_part_at places part whole)
-        → IsPart part whole }
-{}
 
 /// Tells whether the one transactions are a part of the others, as what is left of those at these places.
 pub fn is_part(

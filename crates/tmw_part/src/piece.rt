@@ -1,6 +1,6 @@
 ghost use Rattle.std.specs.Prelude.{◌≡◌, ◌+◌, ◌<◌, ◌==◌, ◌^◌, ◌++◌, IfOk, IfSome, OnOk, length, position};
 ghost use Rattle.tmw_defs.specs.History.{is_call};
-ghost use Rattle.tmw_part.specs.Kept.{is_of};
+ghost use Rattle.tmw_part.specs.Pieces.{is_of};
 ghost use Rattle.tmw_part.specs.Pieces.{call_of, calls_from, pieces};
 
 use crate::transaction::transactions;
@@ -44,7 +44,7 @@ fn first_of(thread: Ix, events: &[Event]) -> Option<usize>
 }
 
 /// The call at this place, before these events, with its answer if it has one.
-fn call_of(place: usize, call: Event, events: &[Event]) -> Piece
+pub(crate) fn call_of(place: usize, call: Event, events: &[Event]) -> Piece
     requires { place + 1 + length events.now < 2 ^ 64 }
     ensures { result ≡ call_of place call events.now }
 {

@@ -6,7 +6,9 @@ ghost use Rattle.tmw_part.specs.Shown.{txns_of};
 
 use crate::candidates::candidates;
 use crate::close::close;
+use crate::drawn::{Drawn, draw};
 use crate::ends::{ends, find_end};
+use crate::marks::{kept_of, owners, places_of};
 use crate::prune::prune;
 use crate::step::{Contradiction, Step};
 use crate::transaction::{MOST_TRANSACTIONS, Transaction, transactions};
@@ -15,7 +17,7 @@ use tmw_cuts::State;
 use tmw_defs::Criterion;
 use tmw_events::Event;
 
-/// Why no serial order explains some transactions.
+/// Why no serial order explains the transactions of a window.
 #[derive(Drop)]
 pub struct Reason {
     /// What holds in each order. Each follows from those before it, and none of them can be left out.
@@ -24,43 +26,48 @@ pub struct Reason {
     pub end: Contradiction,
 }
 
-/// Finds the steps of a reason, and what they come to.
+/// Finds the steps of a reason, and what they come to, among those of these transactions of the window.
 fn find_steps(
     criterion: Criterion,
     alloc: Global,
     states: &[State],
-    transactions: &[Transaction],
+    window: &[Transaction],
+    drawn: &[Drawn],
 ) -> Result<Option<(Vec<Step>, Contradiction)>, AllocError>
-    ensures { let ts = txns_of transactions.now in IfOk result (λ found. IfSome found
+    ensures { let ts = txns_of window.now in IfOk result (λ found. IfSome found
         (λ pair. IsPruned criterion states.now ts pair.0.items pair.1)) }
 {
-    let candidates = candidates(alloc, transactions)?;
-    let steps = close(criterion, alloc, states, transactions, &candidates)?;
-    let ends = ends(alloc, transactions)?;
-    let Some(end) = find_end(criterion, states, transactions, &steps, &ends) else {
+    let candidates = candidates(alloc, drawn)?;
+    let steps = close(criterion, alloc, states, window, &candidates)?;
+    let ends = ends(alloc, window, drawn)?;
+    let Some(end) = find_end(criterion, states, window, &steps, &ends) else {
         return Ok(None);
     };
-    let kept = prune(criterion, alloc, states, transactions, steps, &end)?;
+    let kept = prune(criterion, alloc, states, window, steps, &end)?;
     Ok(Some((kept, end)))
 }
 
-/// Finds out why no serial order of the events' transactions, by this criterion and from any of the states, explains
-/// them. Not for each such history steps as `Step` has them tell why, and of more than eight transactions no reason is
-/// searched.
+/// Finds out why no serial order of a window's transactions, by this criterion and from any of the states, explains
+/// them. Each step holds of the whole window, and speaks of the transactions that have an event with a mark. Not for each
+/// window such steps tell why, and of more than eight transactions no reason is searched: then it is `None`.
 pub fn find_reason(
     criterion: Criterion,
     alloc: Global,
     states: &[State],
     events: &[Event],
+    marks: &[bool],
 ) -> Result<Option<Reason>, AllocError>
     ensures { let ts = transactions events.now in
         IfOk result (λ found. IfSome found (IsFound criterion states.now ts)) }
 {
-    let list = transactions(alloc, events)?;
-    if list.len() > MOST_TRANSACTIONS {
+    let window = transactions(alloc, events)?;
+    if window.len() > MOST_TRANSACTIONS {
         return Ok(None);
     }
-    let Some((steps, end)) = find_steps(criterion, alloc, states, &list)? else {
+    let part = transactions(alloc, &kept_of(alloc, marks, events)?)?;
+    let owners = owners(alloc, &places_of(alloc, marks)?, &part, &window)?;
+    let drawn = draw(alloc, &owners, &part)?;
+    let Some((steps, end)) = find_steps(criterion, alloc, states, &window, &drawn)? else {
         return Ok(None);
     };
     Ok(Some(Reason { steps, end }))

@@ -1,6 +1,6 @@
 use tmw_events::Ix;
 
-/// Where a value comes from that a transaction read of a register. Transactions are told by their places among all, which count from 0.
+/// Where a value comes from that a transaction read of a register. A transaction is given by its place among those of the window, from 0.
 #[derive(Clone, Copy)]
 pub struct Source {
     pub reader: usize,
@@ -20,14 +20,16 @@ pub enum Step {
     },
     /// The value comes from there: nobody else can have left it.
     From(Source),
-    /// The reader stands before `rival`, which leaves another value in the register and stands after the source.
+    /// The reader stands before `rival`, which leaves this other value in the register and stands after the source.
     ReadFirst {
         source: Source,
         rival: usize,
+        left: u64,
     },
-    /// `rival` stands before the source's writer: it leaves another value in the register and stands before the reader.
+    /// `rival` stands before the source's writer: it leaves this other value in the register and stands before the reader.
     ChangedFirst {
         rival: usize,
+        left: u64,
         source: Source,
     },
     /// `one` stands before `other`: it stands before `between`, and `between` before `other`.

@@ -1,5 +1,5 @@
 -- What is added to a text part by part.
-use Rattle.std.proofs.Common.{◌≡◌, ℕ, List, ◌++◌, ap, ◌∙◌, append_assoc}
+use Rattle.tmw_show.proofs.Shared.{List, ap, append_assoc, ℕ, ◌++◌, ◌∙◌, ◌≡◌}
 
 module _ (before first : List ℕ) {a : List ℕ} (is_first : a ≡ before ++ first) where
   pub two : (second : List ℕ) {b : List ℕ} → b ≡ a ++ second → b ≡ before ++ (first ++ second)

@@ -1,22 +1,10 @@
 -- What is shown of a run that was read and judged answers its bytes, and so does the want of memory for it.
-use Rattle.std.proofs.Common.{◌≡◌, ℕ, List, [], Result, Ok, Err, refl, sym, ◌∙◌, append-nil, arith}
-use Rattle.std.specs.Prelude.{IfErr, IfOk}
+use Rattle.tmw_show.proofs.Shared.{AnswersShow, AreEvents, Err, Event, Header, IfErr, IfOk, IsShowing, IsShownFor, List, Memory, Ok, Result, ShowOptions, Showing, Shown, [], append-nil, arith, refl, rules_for, sym, trace_grammar, trace_text, ℕ, ◌∙◌, ◌≡◌}
 use Rattle.tmw_lines.specs.TextFault.{EndsSoon}
-use Rattle.tmw_lines.specs.declared.text_fault.TextFault.TheVariants.{Memory as WantsMemory}
-use Rattle.tmw_trace.specs.Text.{trace_grammar, trace_text, AreEvents}
-use Rattle.tmw_trace.specs.declared.header.Header.{Header}
-use Rattle.tmw_events.specs.declared.event.Event.{Event}
-use Rattle.tmw_monitor.specs.Fitting.{rules_for}
 use Rattle.tmw_report.specs.Quote.{RemarksFault}
 use Rattle.tmw_report.specs.declared.fault.Fault.{Fault}
-use Rattle.tmw_report.specs.declared.fault.Fault.TheVariants.{Memory}
 use Rattle.tmw_streams.specs.Streams.{ToSink}
-use Rattle.tmw_window.specs.Showing.{IsShowing}
-use Rattle.tmw_window.specs.declared.showing.Showing.{Showing}
-use Rattle.tmw_show.specs.Explaining.{IsShownFor}
-use Rattle.tmw_show.specs.Running.{AnswersShow}
-use Rattle.tmw_show.specs.declared.command.options.ShowOptions.{ShowOptions}
-use Rattle.tmw_show.specs.declared.command.shown.Shown.{Shown}
+use Rattle.tmw_lines.specs.declared.text_fault.TextFault.TheVariants.{Memory as WantsMemory}
 
 -- the text of a trace ends soon behind whole lines
 pub trace-soon : (header : Header) (history : List Event) (bytes : List ℕ) → AreEvents header history → bytes ≡ trace_text header history

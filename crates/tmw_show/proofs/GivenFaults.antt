@@ -1,15 +1,11 @@
 -- What was given behind a trace's first line is what was read up to a fault.
-use Rattle.std.proofs.Common.{ℕ, List, [], ◌++◌, Err}
+use Rattle.tmw_show.proofs.Shared.{BadHeader, BadLine, Cut, Err, Event, Header, Io, List, TooLong, Version, [], trace_grammar, ℕ, ◌++◌}
 use Rattle.tmw_lines.specs.ItemsGiven.{AreGiven}
 use Rattle.tmw_lines.specs.ItemsRead.{AreReadFor}
 use Rattle.tmw_lines.specs.Lines.{HasRead}
 use Rattle.tmw_lines.specs.declared.lines.Lines.{Lines}
 use Rattle.tmw_lines.specs.declared.text_fault.TextFault.{TextFault}
-use Rattle.tmw_lines.specs.declared.text_fault.TextFault.TheVariants.{BadHeader, BadLine, Cut, Memory, Io, TooLong}
-use Rattle.tmw_events.specs.declared.event.Event.{Event}
-use Rattle.tmw_trace.specs.Text.{trace_grammar}
-use Rattle.tmw_trace.specs.declared.header.Header.{Header}
-use Rattle.tmw_trace.specs.declared.version.Version.{Version}
+use Rattle.tmw_lines.specs.declared.text_fault.TextFault.TheVariants.{Memory}
 
 module _ (Done T : Type 0) (Takes : T → List Event → T → Type 0) (Lacks : T → Event → T → Type 0) (Ended : Type 0)
     (lines after : Lines Version) (taker given : T) (header : Header) (first bytes : List ℕ) (items : List Event)

@@ -1,6 +1,7 @@
 mod Appends
 mod Explained
 mod GivenFaults
+mod Shared
 pub mod Shows
 mod StateHeaders
 mod TracesProof

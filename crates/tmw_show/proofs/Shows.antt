@@ -1,17 +1,5 @@
 -- The events that are shown of a trace are numbered up to the trace's length.
-use Rattle.std.proofs.Common.{◌+◌, ◌-◌, ◌≤◌, ◌^◌, ℕ, List, length, ap, ◌∙◌, arith}
-use Rattle.std.specs.Prelude.{take}
-use Rattle.std.proofs.lemmas.List.{length-take, length-drop}
-use Rattle.tmw_events.specs.declared.event.Event.{Event}
-use Rattle.tmw_defs.specs.declared.verdict.Verdict.{Verdict}
-use Rattle.tmw_defs.specs.Opaque.{State}
-use Rattle.tmw_defs.specs.Verdict.{Rules}
-use Rattle.tmw_window.specs.Shown.{shown_length, IsShown}
-use Rattle.tmw_window.specs.Showing.{IsShowing}
-use Rattle.tmw_window.specs.declared.showing.Showing.{Showing}
-use Rattle.tmw_show.specs.declared.command.options.ShowOptions.{ShowOptions}
-use Rattle.tmw_show.specs.declared.command.shown.Shown.{Shown}
-use Rattle.tmw_show.specs.Running.{IsShownOf}
+use Rattle.tmw_show.proofs.Shared.{Event, IsShowing, IsShown, IsShownOf, List, Rules, ShowOptions, Showing, Shown, State, Verdict, ap, arith, length, length-drop, length-take, shown_length, take, ℕ, ◌+◌, ◌-◌, ◌^◌, ◌∙◌, ◌≤◌}
 
 -- the window ends within the history
 numbered : (rules : Rules) (history : List Event) (v : Verdict) (from : ℕ) (states : List State) (events : List Event)

@@ -1,15 +1,5 @@
 -- What is written of the states from which a window begins is the texts of traces, one for each state.
-use Rattle.std.proofs.Common.{◌≡◌, ◌≤◌, ◌^◌, ℕ, List, [], ◌∷◌, ◌++◌, length, map, All, refl, ap}
-use Rattle.std.specs.List.{flat_map, AllByRecursion}
-use Rattle.tmw_events.specs.Text.{FitsKind}
-use Rattle.tmw_events.specs.declared.event.Event.{Event}
-use Rattle.tmw_events.specs.declared.registers.Registers.{Registers}
-use Rattle.tmw_trace.specs.Text.{trace_text}
-use Rattle.tmw_trace.specs.declared.header.Header.{Header}
-use Rattle.tmw_trace.specs.declared.version.Version.TheVariants.{Two}
-use Rattle.tmw_defs.specs.Opaque.{State}
-use Rattle.tmw_window.specs.StatesLaw.{FitsRegisters}
-use Rattle.tmw_show.specs.TracesLaw.{IsHeaderFor}
+use Rattle.tmw_show.proofs.Shared.{All, AllByRecursion, Event, FitsKind, FitsRegisters, Header, IsHeaderFor, List, Registers, State, Two, [], ap, flat_map, length, map, refl, trace_text, ℕ, ◌++◌, ◌^◌, ◌∷◌, ◌≡◌, ◌≤◌}
 use Rattle.tmw_show.specs.TracesText.{start_trace}
 
 -- the header of a trace that begins with this state

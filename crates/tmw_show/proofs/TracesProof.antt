@@ -1,41 +1,11 @@
 -- The traces that are written of what is shown are judged as the run is.
-use Rattle.std.proofs.Common.{◌≡◌, ◌≢◌, ◌≤◌, ◌^◌, ◌==◌, ℕ, Bool, true, false, refl, inl, inr, List, [], ◌∷◌, length, map, All, sym, ap, subst, ◌∙◌, take-append-drop, arith}
-use Rattle.std.specs.Prelude.{take, drop, get_or}
-use Rattle.std.specs.List.{Contains, AllByRecursion, list_all}
+use Rattle.tmw_show.proofs.Shared.{All, AllByRecursion, AreJudgedLike, Bool, Bounds, Contains, Criterion, Event, FindsPart, FitsKind, FitsRegisters, HasOrderBy, Header, IsContradictory, IsFinalBy, IsHeaderFor, IsJudgedAlike, IsNeededOf, IsShowing, IsVerdict, IsViolated, List, Needed, NotViolated, One, Opacity, Part, Registers, Shown, State, StatesLaw, Strict, TellOf, TracesLaw, Two, Unasked, Verdict, Version, WindowLaw, [], ap, arith, at_end, drop, false, get_or, inl, inr, length, list_all, map, marks_of, members, refl, rules_for, rules_from, shown_events, shown_length, subst, sym, take, take-append-drop, transactions, true, ℕ, ◌==◌, ◌^◌, ◌∙◌, ◌∷◌, ◌≡◌, ◌≢◌, ◌≤◌}
 use Rattle.std.proofs.lemmas.Bool.{and_parts}
 use Rattle.std.proofs.lemmas.List.Elements.{All-contains, All-drop, All-from_recursion, All-take, Contains-get_or, recursion_from_All}
 use Rattle.std.proofs.lemmas.List.Folds.{list_all-append}
-use Rattle.tmw_events.specs.Text.{FitsKind}
-use Rattle.tmw_events.specs.declared.event.Event.{Event}
-use Rattle.tmw_events.specs.declared.registers.Registers.{Registers}
 use Rattle.tmw_trace.specs.Start.{is_start}
-use Rattle.tmw_trace.specs.declared.header.Header.{Header}
-use Rattle.tmw_trace.specs.declared.version.Version.{Version}
-use Rattle.tmw_trace.specs.declared.version.Version.TheVariants.{One, Two}
-use Rattle.tmw_defs.specs.declared.criterion.Criterion.{Criterion}
-use Rattle.tmw_defs.specs.declared.criterion.Criterion.TheVariants.{Opacity, Strict}
-use Rattle.tmw_defs.specs.declared.verdict.Verdict.{Verdict}
 use Rattle.tmw_defs.specs.declared.verdict.Verdict.TheVariants.{Violated}
-use Rattle.tmw_defs.specs.Criteria.{IsFinalBy}
-use Rattle.tmw_defs.specs.History.{transactions}
-use Rattle.tmw_defs.specs.Opaque.{State}
-use Rattle.tmw_defs.specs.Part.{HasOrderBy}
-use Rattle.tmw_defs.specs.Verdict.{IsViolated, IsVerdict}
-use Rattle.tmw_cuts.specs.Members.{members}
-use Rattle.tmw_monitor.specs.declared.bounds.Bounds.{Bounds}
-use Rattle.tmw_monitor.specs.Fitting.{rules_for}
-use Rattle.tmw_window.specs.Showing.{IsShowing}
-use Rattle.tmw_window.specs.Shown.{shown_length}
-use Rattle.tmw_window.specs.StatesLaw.{FitsRegisters, StatesLaw}
-use Rattle.tmw_window.specs.WindowLaw.{IsJudgedAlike, WindowLaw, at_end}
-use Rattle.tmw_part.specs.Finding.{FindsPart}
 use Rattle.tmw_part.specs.Kept.{all_kept, kept_of}
-use Rattle.tmw_show.specs.Explaining.{IsNeededOf, marks_of}
-use Rattle.tmw_show.specs.Running.{shown_events}
-use Rattle.tmw_show.specs.TracesLaw.{IsHeaderFor, IsContradictory, AreJudgedLike, TellOf, TracesLaw, rules_from}
-use Rattle.tmw_show.specs.declared.command.needed.Needed.{Needed}
-use Rattle.tmw_show.specs.declared.command.needed.Needed.TheVariants.{Unasked, NotViolated, Part}
-use Rattle.tmw_show.specs.declared.command.shown.Shown.{Shown}
 use Rattle.tmw_show.proofs.Shows.{shown-numbered}
 use Rattle.tmw_show.proofs.StateHeaders.{header_of, headers_of, initials-headers_of, each-headers_of, headers_of-each, heads-header_of, text-headers_of}
 

@@ -1,26 +1,6 @@
 -- The last window of a violated run is searched, if it is short: it is well-formed, of at most eight transactions, and has no order.
-use Rattle.std.proofs.Common.{◌≡◌, ◌≤◌, ℕ, Bool, true, List, length, IsTrue, sym, subst, ◌∙◌, inl, inr, arith}
-use Rattle.std.specs.List.{Contains}
-use Rattle.tmw_events.specs.declared.event.Event.{Event}
-use Rattle.tmw_events.specs.declared.registers.Registers.{Registers}
-use Rattle.tmw_defs.specs.declared.criterion.Criterion.{Criterion}
-use Rattle.tmw_defs.specs.declared.criterion.Criterion.TheVariants.{Opacity, Strict}
-use Rattle.tmw_defs.specs.declared.verdict.Verdict.{Verdict}
-use Rattle.tmw_defs.specs.Criteria.{IsFinalBy}
-use Rattle.tmw_defs.specs.History.{is_well_formed, transactions}
-use Rattle.tmw_defs.specs.Opaque.{State}
-use Rattle.tmw_defs.specs.Part.{HasOrderBy}
-use Rattle.tmw_cuts.specs.Members.{members}
-use Rattle.tmw_monitor.specs.declared.bounds.Bounds.{Bounds}
-use Rattle.tmw_monitor.specs.Fitting.{rules_for}
-use Rattle.tmw_window.specs.Showing.{IsShowing}
-use Rattle.tmw_window.specs.WindowLaw.{IsJudgedAlike, WindowLaw}
-use Rattle.tmw_window.specs.declared.showing.Showing.{Showing}
-use Rattle.tmw_part.specs.Finding.{IsMinimalPart, IsSearched}
-use Rattle.tmw_show.specs.Explaining.{IsNeededOf, IsViolation, marks_of}
+use Rattle.tmw_show.proofs.Shared.{Bool, Bounds, Contains, Criterion, Event, HasOrderBy, IsFinalBy, IsJudgedAlike, IsMinimalPart, IsNeededOf, IsSearched, IsShowing, IsTrue, IsViolation, List, Needed, NotViolated, Opacity, Part, Registers, Showing, State, Strict, Unasked, Verdict, WindowLaw, arith, inl, inr, is_well_formed, length, marks_of, members, rules_for, subst, sym, transactions, true, ℕ, ◌∙◌, ◌≡◌, ◌≤◌}
 use Rattle.tmw_show.specs.WhyLaw.{WhyLaw}
-use Rattle.tmw_show.specs.declared.command.needed.Needed.{Needed}
-use Rattle.tmw_show.specs.declared.command.needed.Needed.TheVariants.{Unasked, NotViolated, Part}
 use Rattle.tmw_show.proofs.TracesProof.{no-item}
 
 final_ordered : (c : Criterion) (registers : ℕ) (s : State) (events : List Event) → IsTrue (is_well_formed registers events)

@@ -3,7 +3,6 @@
 use Rattle.std.specs.Prelude.{ℕ, Bool, true, false, ◌+◌, ◌-◌, ◌*◌, ◌==◌, List, [], ◌∷◌, ◌++◌, length, take, replicate, max, codes, Option, Some, None, if◌then◌else◌}
 use Rattle.std.specs.List.{flat_map}
 use Rattle.std.specs.Fmt.{decimal}
-use Rattle.tmw_events.specs.Text.{kind_text}
 use Rattle.tmw_events.specs.declared.event.Event.{Event}
 use Rattle.tmw_events.specs.declared.registers.Registers.{Registers}
 use Rattle.tmw_lines.specs.Text.{line}
@@ -21,6 +20,7 @@ use Rattle.tmw_part.specs.Kept.{kept_of}
 use Rattle.tmw_part.specs.Names.{names_of}
 use Rattle.tmw_part.specs.declared.names.Name.{Name}
 use Rattle.tmw_show.specs.Names.{label_at}
+use Rattle.tmw_show.specs.Values.{long_values, names_from, shown_kind}
 use Rattle.tmw_monitor.specs.declared.broken.Broken.{Broken}
 use Rattle.tmw_show.specs.declared.command.told.Told.{Told}
 
@@ -54,9 +54,9 @@ abbrev pub number_text : ℕ → List ℕ
 number_text number = blanks (9 - length (decimal number)) ++ decimal number
 
 -- the event of this number, in its thread's column, with the name of its transaction if that begins at this place of the window
-abbrev pub event_row : List Name → ℕ → ℕ → Event → List ℕ
-event_row names place number event =
-    number_text number ++ (blanks (2 + 15 * event.thread.number) ++ (label_at names place ++ kind_text event.kind))
+abbrev pub event_row : List Name → List ℕ → ℕ → ℕ → Event → List ℕ
+event_row names values place number event =
+    number_text number ++ (blanks (2 + 15 * event.thread.number) ++ (label_at names place ++ shown_kind values event.kind))
 
 -- the words for what the prefix that ends here is, by the verdict
 abbrev pub violated_text : Criterion → List ℕ
@@ -98,20 +98,24 @@ abbrev pub told_row : ℕ → List ℕ → List ℕ → List ℕ
 told_row width row told = row ++ beside (width - length row) told
 
 -- a line for each event that has the mark. The first has this place in the window, behind which its number is one more than so many.
-abbrev pub rows_text : Told → ℕ → List Name → ℕ → ℕ → List Bool → List Event → List ℕ
-rows_text told width names from place [] events = []
-rows_text told width names from place (mark ∷ marks) [] = []
-rows_text told width names from place (false ∷ marks) (event ∷ events) = rows_text told width names from (place + 1) marks events
-rows_text told width names from place (true ∷ marks) (event ∷ events) =
-    line (told_row width (event_row names place (from + (place + 1)) event) (told_text told (from + (place + 1))))
-    ++ rows_text told width names from (place + 1) marks events
+abbrev pub rows_text : Told → ℕ → List Name → List ℕ → ℕ → ℕ → List Bool → List Event → List ℕ
+rows_text told width names values from place [] events = []
+rows_text told width names values from place (mark ∷ marks) [] = []
+rows_text told width names values from place (false ∷ marks) (event ∷ events) =
+    rows_text told width names values from (place + 1) marks events
+rows_text told width names values from place (true ∷ marks) (event ∷ events) =
+    line (told_row width (event_row names values place (from + (place + 1)) event) (told_text told (from + (place + 1))))
+    ++ rows_text told width names values from (place + 1) marks events
 
 -- the heads of the columns that these events need
 abbrev pub heads_for : List Event → List ℕ
 heads_for events = heads_text (last_thread events)
 
--- the line of the heads, and a line for each event that has the mark: the first event has the number that follows `from`
+-- The line of the heads, a line for each event that has the mark, and one for each short name. The first event has the number that
+-- follows `from`.
 abbrev pub window_text : Told → ℕ → List Bool → List Event → List ℕ
 window_text told from marks events =
-    line (heads_for (kept_of marks events))
-    ++ rows_text told (length (heads_for (kept_of marks events))) (names_of marks events) from 0 marks events
+    let kept = kept_of marks events in
+    line (heads_for kept)
+    ++ (rows_text told (length (heads_for kept)) (names_of marks events) (long_values kept) from 0 marks events
+    ++ names_from 0 (long_values kept))

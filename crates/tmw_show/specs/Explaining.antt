@@ -13,11 +13,7 @@ use Rattle.tmw_part.specs.Finding.{FindsPart}
 use Rattle.tmw_part.specs.Found.{IsFound}
 use Rattle.tmw_part.specs.declared.reason.Reason.{Reason}
 use Rattle.tmw_part.specs.Kept.{all_kept, kept_of}
-use Rattle.tmw_part.specs.Names.{names_of}
-use Rattle.tmw_part.specs.declared.names.Name.{Name}
 use Rattle.tmw_window.specs.declared.showing.Showing.{Showing}
-use Rattle.tmw_show.specs.Sentences.{told_words}
-use Rattle.tmw_show.specs.declared.command.word.Word.{Word}
 use Rattle.tmw_show.specs.declared.command.needed.Needed.{Needed}
 use Rattle.tmw_show.specs.declared.command.shown.Shown.{Shown}
 use Rattle.tmw_show.specs.declared.command.needed.Needed.TheVariants.{Unasked, NotViolated, Part}
@@ -26,13 +22,13 @@ use Rattle.tmw_show.specs.declared.command.needed.Needed.TheVariants.{Unasked, N
 abbrev pub IsViolation : Verdict → Type 0
 IsViolation verdict = (at : ℕ) × (verdict ≡ Violated at)
 
--- Only where it is asked why a window is violated that is, a part of it is found, and maybe a reason why that is violated.
+-- Only where it is asked why a window is violated that is, a part of it is found, and maybe a reason why the window is.
 abbrev pub IsNeededOf : Criterion → Bool → Registers → Showing → Needed → Type 0
 IsNeededOf criterion why registers showing Unasked = why ≡ false
 IsNeededOf criterion why registers showing NotViolated = (why ≡ true) × (IsViolation showing.verdict → ⊥)
 IsNeededOf criterion why registers showing (Part marks reason) = (why ≡ true)
     × IsViolation showing.verdict × FindsPart criterion registers.number (members showing.states) showing.events.items marks.items
-    × IfSome reason (IsFound criterion (members showing.states) (transactions (kept_of marks.items showing.events.items)))
+    × IfSome reason (IsFound criterion (members showing.states) (transactions showing.events.items))
 
 -- This is what is shown, where it is so asked, of a run with so many registers whose last window this is.
 pub record IsShownFor (criterion : Criterion) (why : Bool) (registers : Registers) (showing : Showing) (shown : Shown) : Type 0 where
@@ -49,14 +45,6 @@ marks_of _ events = all_kept events
 abbrev pub reason_of : Needed → Option Reason
 reason_of (Part marks reason) = reason
 reason_of _ = None
-
--- The names of the transactions that are shown.
-abbrev pub shown_names : Needed → List Event → List Name
-shown_names needed events = names_of (marks_of needed events) events
-
--- What is told of the read that no order explains, where so many events stand before the window.
-abbrev pub shown_told : ℕ → Needed → List Event → List Word
-shown_told from needed events = told_words from (shown_names needed events) events (reason_of needed)
 
 -- how many events of how many are shown
 abbrev pub counts_words : ℕ → ℕ → List ℕ

@@ -6,4 +6,5 @@ pub mod Running
 pub mod Sentences
 pub mod TracesLaw
 pub mod TracesText
+pub mod Values
 pub mod WhyLaw

@@ -19,10 +19,9 @@ use Rattle.tmw_show.specs.declared.command.page.parts.TheConstants.{HEAD, TAIL}
 use Rattle.tmw_show.specs.declared.command.needed.Needed.{Needed}
 use Rattle.tmw_show.specs.declared.command.needed.Needed.TheVariants.{Part}
 use Rattle.tmw_part.specs.declared.reason.Reason.{Reason}
-use Rattle.tmw_part.specs.declared.names.Name.{Name}
-use Rattle.tmw_show.specs.Explaining.{reason_of, shown_names, shown_told}
+use Rattle.tmw_show.specs.Explaining.{reason_of}
 use Rattle.tmw_show.specs.declared.command.word.Word.{Word}
-use Rattle.tmw_show.specs.Sentences.{clauses_text}
+use Rattle.tmw_show.specs.Sentences.{clauses_text, told_words}
 use Rattle.tmw_show.specs.declared.command.shown.Shown.{Shown}
 use Rattle.tmw_show.specs.declared.command.told.Told.{Told}
 
@@ -89,9 +88,9 @@ needed_json (Part marks reason) = codes ",\"needed\":\"" ++ (flat_map (λ mark. 
 needed_json _ = []
 
 -- and the reason, if one is told
-abbrev pub why_json : List Name → List Word → Option Reason → List ℕ
-why_json names told None = []
-why_json names told (Some reason) = codes ",\"why\":\"" ++ (clauses_text names told reason ++ codes "\"")
+abbrev pub why_json : List Word → Option Reason → List ℕ
+why_json told None = []
+why_json told (Some reason) = codes ",\"why\":\"" ++ (clauses_text told reason ++ codes "\"")
 
 -- what is shown, as one JSON object and a line feed
 abbrev pub json_text : Criterion → Shown → List ℕ
@@ -100,8 +99,7 @@ json_text criterion shown =
     ++ (window_json shown.registers (members shown.showing.states) shown.showing.events.items
     ++ (mark_json (told_of criterion shown)
     ++ (needed_json shown.needed
-    ++ (why_json (shown_names shown.needed shown.showing.events.items)
-    (shown_told shown.showing.from shown.needed shown.showing.events.items) (reason_of shown.needed)
+    ++ (why_json (told_words shown.showing.from shown.showing.events.items (reason_of shown.needed)) (reason_of shown.needed)
     ++ codes "}\n"))))
 
 -- the page

@@ -25,10 +25,11 @@ use Rattle.tmw_show.specs.declared.command.form.Form.TheVariants.{Drawing, Trace
 use Rattle.tmw_show.specs.declared.command.options.ShowOptions.{ShowOptions}
 use Rattle.tmw_show.specs.declared.command.shown.Shown.{Shown}
 use Rattle.tmw_show.specs.Drawing.{states_text, window_text}
-use Rattle.tmw_show.specs.Explaining.{IsNeededOf, marks_of, needed_text, reason_of, shown_names, shown_told}
+use Rattle.tmw_show.specs.Explaining.{IsNeededOf, marks_of, needed_text, reason_of}
 use Rattle.tmw_show.specs.Page.{page_text, told_of}
-use Rattle.tmw_show.specs.Sentences.{reason_text}
+use Rattle.tmw_show.specs.Sentences.{reason_text, told_words}
 use Rattle.tmw_show.specs.TracesText.{traces_text}
+use Rattle.tmw_show.specs.Values.{long_values}
 
 -- The bytes are the text of a trace, and this is what is shown of its history.
 pub record IsShownOf (options : ShowOptions) (bytes : List ℕ) (shown : Shown) : Type 0 where
@@ -51,16 +52,16 @@ AnswersShow options Ended bytes (Err fault) = AnswersTextFault (HasTextFault tra
 abbrev pub shown_events : Shown → List Event
 shown_events shown = kept_of (marks_of shown.needed shown.showing.events.items) shown.showing.events.items
 
--- What is written in this form: the report's line, the states from which the last window begins, its events, and the reason why these
--- are violated, where it is told; or the events alone, as traces; or a page that draws them.
+-- What is written in this form: the report's line, the states from which the last window begins, those of its events that are shown, and
+-- the reason why the window is violated, where it is told; or the events alone, as traces; or a page that draws them.
 abbrev pub drawn_text : Criterion → Shown → List ℕ
 drawn_text criterion shown =
     report_by criterion shown.showing.fed shown.showing.verdict
     ++ (states_text shown.registers (members shown.showing.states)
     ++ (needed_text shown.needed shown.showing.events.items
     ++ (window_text (told_of criterion shown) shown.showing.from (marks_of shown.needed shown.showing.events.items) shown.showing.events.items
-    ++ reason_text (shown_names shown.needed shown.showing.events.items)
-    (shown_told shown.showing.from shown.needed shown.showing.events.items) (reason_of shown.needed))))
+    ++ reason_text (long_values (shown_events shown)) (told_words shown.showing.from shown.showing.events.items (reason_of shown.needed))
+    (reason_of shown.needed))))
 
 abbrev pub shown_text : Criterion → Form → Shown → List ℕ
 shown_text criterion Drawing shown = drawn_text criterion shown

@@ -5,6 +5,7 @@ mod answer;
 mod event_text;
 mod form;
 mod law;
+mod legend;
 mod names;
 mod needed;
 mod numbers;
@@ -20,6 +21,7 @@ mod states;
 mod text;
 mod told;
 mod traces;
+mod values;
 mod window;
 mod word;
 

@@ -15,7 +15,8 @@ pub fn law_traces()
 }
 
 /// Proves that `show --why` shows of a violated run, whose last window has at most 1,000 events, a part that is violated
-/// by itself, from which no transaction and no call with its answer can be taken out on its own.
+/// by itself, from which no transaction and no call with its answer can be taken out, alone or with the reads of its
+/// values.
 pub fn law_why()
     ensures { WhyLaw }
 {

@@ -1,27 +1,17 @@
 ghost use Rattle.std.specs.Prelude.{◌≡◌, ◌==◌, ◌++◌, OnOk, find};
-ghost use Rattle.tmw_show.specs.Names.{label_at, label_by, name_at, name_text};
+ghost use Rattle.tmw_show.specs.Names.{label_at, label_by, name_text};
 
-use crate::command::numbers::push_number;
+use itoa::Buffer;
 use std::alloc::AllocError;
 use tmw_part::Name;
 
-/// Adds the name of the transaction of this number.
-pub fn push_name(text: &mut Vec<u8>, number: u64) -> Result<(), AllocError>
-    ensures { OnOk result (text.new.items ≡ text.old.items ++ name_text number) }
+/// Adds the name of the transaction at this place among those of the window.
+pub fn push_name(text: &mut Vec<u8>, place: usize) -> Result<(), AllocError>
+    ensures { OnOk result (text.new.items ≡ text.old.items ++ name_text place) }
 {
     text.push(b'T')?;
-    push_number(text, number)?;
+    text.extend_from_slice(Buffer::new().format(place as u128 + 1).as_bytes())?;
     Ok(())
-}
-
-/// Adds the name of the transaction at this place of what is shown, if there is one.
-pub fn push_name_at(text: &mut Vec<u8>, names: &[Name], place: usize) -> Result<(), AllocError>
-    ensures { OnOk result (text.new.items ≡ text.old.items ++ name_at names.now place) }
-{
-    match names.get(place) {
-        Some(name) => push_name(text, name.number),
-        None => Ok(()),
-    }
 }
 
 /// Finds the name of the transaction whose first event that is shown has this place in the window.
@@ -43,7 +33,7 @@ pub fn push_label(text: &mut Vec<u8>, names: &[Name], place: usize) -> Result<()
 {
     match find_name(names, place) {
         Some(name) => {
-            push_name(text, name.number)?;
+            push_name(text, name.transaction)?;
             text.push(b' ')?;
         }
         None => text.extend_from_slice(b"   ")?,

@@ -13,7 +13,7 @@ pub enum Needed {
     Unasked,
     /// All: the window isn't violated.
     NotViolated,
-    /// Those that have the mark, which are violated by themselves, and why, if a reason was found.
+    /// Those that have the mark, which are violated by themselves, and why the window is, if a reason was found.
     Part {
         marks: Vec<bool>,
         reason: Option<Reason>,

@@ -1,11 +1,11 @@
 //! The sentence that tells where a value comes from that no serial order explains.
-ghost use Rattle.std.specs.Prelude.{◌≡◌, ◌+◌, ◌<◌, ◌^◌, ◌++◌, IfOk, IfSome, OnOk, length, slice_get};
-ghost use Rattle.tmw_show.specs.Sentences.{fate_words, number_of, origin_words, put_words, read_from, told_by};
+ghost use Rattle.std.specs.Prelude.{◌≡◌, ◌+◌, ◌<◌, ◌^◌, ◌++◌, IfOk, IfSome, OnOk, length};
+ghost use Rattle.tmw_show.specs.Sentences.{fate_words, origin_words, put_words, read_from, told_by};
 
 use crate::command::word::{Phrase, Word};
 use std::alloc::{AllocError, Global};
 use tmw_events::{Event, Ix};
-use tmw_part::{Contradiction, Fate, Name, Origin, find_origin};
+use tmw_part::{Contradiction, Fate, Origin, find_origin};
 
 /// What became of what a transaction put there.
 fn fate_words(alloc: Global, fate: Fate) -> Result<Vec<Word>, AllocError>
@@ -38,7 +38,7 @@ fn origin_words(
         push_put(&mut words, register, value)?;
         return Ok(words);
     };
-    words.push(Word::Name(origin.number))?;
+    words.push(Word::Transaction(origin.writer))?;
     words.push(Word::Saying(Phrase::Put))?;
     push_put(&mut words, register, value)?;
     words.push(Word::Saying(Phrase::AtEvent))?;
@@ -51,37 +51,28 @@ fn origin_words(
 fn push_put(words: &mut Vec<Word>, register: Ix, value: u64) -> Result<(), AllocError>
     ensures { OnOk result (words.new.items ≡ words.old.items ++ put_words value register.number) }
 {
-    words.push(Word::Number(value))?;
+    words.push(Word::Value(value))?;
     words.push(Word::Saying(Phrase::IntoRegister))?;
     words.push(Word::Number(register.get() as u64))?;
     Ok(())
 }
 
-/// The number of the transaction at this place of what is shown, or 0 if there is none.
-fn number_of(names: &[Name], place: usize) -> u64
-    ensures { result ≡ number_of (slice_get names.now place) }
-{
-    match names.get(place) {
-        Some(name) => name.number,
-        None => 0,
-    }
-}
-
-/// Where the value comes from that the transaction at this place of what is shown read.
+/// Where the value comes from that the transaction at this place of the window read while its own calls made the
+/// register this.
 fn read_from(
     alloc: Global,
     from: u64,
-    names: &[Name],
     events: &[Event],
     reader: usize,
     register: Ix,
     value: u64,
+    expected: Option<u64>,
 ) -> Result<Vec<Word>, AllocError>
     requires { from + length events.now < 2 ^ 64 }
     ensures { IfOk result (λ words. words.items
-        ≡ read_from from names.now events.now reader register.number value) }
+        ≡ read_from from events.now reader register.number value expected) }
 {
-    let origin = find_origin(alloc, events, register, value, number_of(names, reader))?;
+    let origin = find_origin(alloc, events, register, value, expected, reader)?;
     origin_words(alloc, from, register, value, origin)
 }
 
@@ -90,12 +81,11 @@ fn read_from(
 pub fn told_by(
     alloc: Global,
     from: u64,
-    names: &[Name],
     events: &[Event],
     end: &Contradiction,
 ) -> Result<Vec<Word>, AllocError>
     requires { from + length events.now < 2 ^ 64 }
-    ensures { IfOk result (λ words. words.items ≡ told_by from names.now events.now end.now) }
+    ensures { IfOk result (λ words. words.items ≡ told_by from events.now end.now) }
 {
     match *end {
         Contradiction::Cycle(_place) => Ok(Vec::new(alloc)),
@@ -103,12 +93,12 @@ pub fn told_by(
             reader,
             register,
             value,
-        } => read_from(alloc, from, names, events, reader, register, value),
+        } => read_from(alloc, from, events, reader, register, value, None),
         Contradiction::Unlike {
             reader,
             register,
-            expected: _expected,
+            expected,
             read,
-        } => read_from(alloc, from, names, events, reader, register, read),
+        } => read_from(alloc, from, events, reader, register, read, Some(expected)),
     }
 }

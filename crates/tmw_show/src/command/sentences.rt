@@ -1,128 +1,113 @@
-//! The sentences that tell why a part is violated.
+//! The sentences that tell why a window is violated.
 ghost use Rattle.std.specs.List.{flat_map};
 ghost use Rattle.std.specs.Prelude.{◌≡◌, ◌++◌, IfOk, OnOk, Some};
 ghost use Rattle.tmw_show.specs.Sentences.{changed_first_words, clause_text, clauses_text, cycle_words, end_words, no_source_words, phrase_text, read_first_words, read_words, real_time_words, reason_text, sentence_line, so_words, source_words, step_words, unlike_words, word_text};
 
-use crate::command::names::{push_name, push_name_at};
+use crate::command::names::push_name;
 use crate::command::numbers::push_number;
 use crate::command::part::{Part, push_each};
+use crate::command::values::push_value;
 use crate::command::word::{Phrase, Word};
 use std::alloc::{AllocError, Global};
 use tmw_events::Ix;
-use tmw_part::{Contradiction, Name, Reason, Source, Step};
+use tmw_part::{Contradiction, Reason, Source, Step};
 
 /// Adds a line for each step of the reason, a line of what is told, if that has a word, and one for what the steps come
-/// to. Transactions have these names.
+/// to. These values have names.
 pub fn push_reason(
     text: &mut Vec<u8>,
-    names: &[Name],
+    values: &[u64],
     told: &[Word],
     reason: &Reason,
 ) -> Result<(), AllocError>
     ensures { OnOk result
-        (text.new.items ≡ text.old.items ++ reason_text names.now told.now (Some reason.now)) }
+        (text.new.items ≡ text.old.items ++ reason_text values.now told.now (Some reason.now)) }
 {
-    push_each(text, &StepLine { names }, &reason.steps)?;
-    push_sentence(text, names, told)?;
+    push_each(text, &StepLine { values }, &reason.steps)?;
+    push_sentence(text, values, told)?;
     let words = end_words(*text.allocator(), &reason.end)?;
-    push_sentence(text, names, &words)
+    push_sentence(text, values, &words)
 }
 
-/// Adds the same sentences in one line, each but the last with a semicolon.
-pub fn push_clauses(
-    text: &mut Vec<u8>,
-    names: &[Name],
-    told: &[Word],
-    reason: &Reason,
-) -> Result<(), AllocError>
+/// Adds the sentences of a reason in one line, each but the last with a semicolon, and each value in digits.
+pub fn push_clauses(text: &mut Vec<u8>, told: &[Word], reason: &Reason) -> Result<(), AllocError>
     ensures { OnOk result
-        (text.new.items ≡ text.old.items ++ clauses_text names.now told.now reason.now) }
+        (text.new.items ≡ text.old.items ++ clauses_text told.now reason.now) }
 {
-    push_each(text, &StepClause { names }, &reason.steps)?;
-    push_clause(text, names, told)?;
+    push_each(text, &StepClause, &reason.steps)?;
+    push_clause(text, told)?;
     let words = end_words(*text.allocator(), &reason.end)?;
-    push_words(text, names, &words)?;
+    push_each(text, &Spoken { values: &[] }, &words)?;
     Ok(())
 }
 
-/// Adds the words of a sentence, where the transactions have these names.
-fn push_words(text: &mut Vec<u8>, names: &[Name], words: &[Word]) -> Result<(), AllocError>
-    ensures { OnOk result (text.new.items ≡ text.old.items
-        ++ flat_map (word_text names.now) words.now) }
-{
-    push_each(text, &Spoken { names }, words)
-}
-
-/// The clause of a step, where the transactions have these names.
+/// The clause of a step.
 #[derive(Drop)]
-struct StepClause<'a> {
-    names: &'a [Name],
-}
+struct StepClause;
 
-impl Part<Step> for StepClause<'_> {
-    ghost part = { λ own step. clause_text own.names.now (step_words step) };
+impl Part<Step> for StepClause {
+    ghost part = { λ own step. clause_text (step_words step) };
 
     fn push(&self, text: &mut Vec<u8>, step: &Step) -> Result<(), AllocError> {
         let words = step_words(*text.allocator(), step)?;
-        push_clause(text, self.names, &words)
+        push_clause(text, &words)
     }
 }
 
 /// Adds a sentence and a semicolon, unless it has no word.
-fn push_clause(text: &mut Vec<u8>, names: &[Name], words: &[Word]) -> Result<(), AllocError>
-    ensures { OnOk result (text.new.items
-        ≡ text.old.items ++ clause_text names.now words.now) }
+fn push_clause(text: &mut Vec<u8>, words: &[Word]) -> Result<(), AllocError>
+    ensures { OnOk result (text.new.items ≡ text.old.items ++ clause_text words.now) }
 {
     if words.is_empty() {
         return Ok(());
     }
-    push_words(text, names, words)?;
+    push_each(text, &Spoken { values: &[] }, words)?;
     text.extend_from_slice(b"; ")?;
     Ok(())
 }
 
-/// The line of a step, where the transactions have these names.
+/// The line of a step, where these values have names.
 #[derive(Drop)]
 struct StepLine<'a> {
-    names: &'a [Name],
+    values: &'a [u64],
 }
 
 impl Part<Step> for StepLine<'_> {
-    ghost part = { λ own step. sentence_line own.names.now (step_words step) };
+    ghost part = { λ own step. sentence_line own.values.now (step_words step) };
 
     fn push(&self, text: &mut Vec<u8>, step: &Step) -> Result<(), AllocError> {
         let words = step_words(*text.allocator(), step)?;
-        push_sentence(text, self.names, &words)
+        push_sentence(text, self.values, &words)
     }
 }
 
 /// Adds a sentence as a line, unless it has no word.
-fn push_sentence(text: &mut Vec<u8>, names: &[Name], words: &[Word]) -> Result<(), AllocError>
+fn push_sentence(text: &mut Vec<u8>, values: &[u64], words: &[Word]) -> Result<(), AllocError>
     ensures { OnOk result (text.new.items
-        ≡ text.old.items ++ sentence_line names.now words.now) }
+        ≡ text.old.items ++ sentence_line values.now words.now) }
 {
     if words.is_empty() {
         return Ok(());
     }
     text.extend_from_slice(b"    why    ")?;
-    push_words(text, names, words)?;
+    push_each(text, &Spoken { values }, words)?;
     text.push(b'\n')?;
     Ok(())
 }
 
-/// The text of a word, where the transactions have these names.
+/// The text of a word, where these values have names.
 #[derive(Drop)]
 struct Spoken<'a> {
-    names: &'a [Name],
+    values: &'a [u64],
 }
 
 impl Part<Word> for Spoken<'_> {
-    ghost part = { λ own word. word_text own.names.now word };
+    ghost part = { λ own word. word_text own.values.now word };
 
     fn push(&self, text: &mut Vec<u8>, word: &Word) -> Result<(), AllocError> {
         match *word {
-            Word::Transaction(place) => push_name_at(text, self.names, place)?,
-            Word::Name(number) => push_name(text, number)?,
+            Word::Transaction(place) => push_name(text, place)?,
+            Word::Value(value) => push_value(text, self.values, value)?,
             Word::Number(number) => push_number(text, number)?,
             Word::Saying(phrase) => text.extend_from_slice(phrase_text(phrase).as_bytes())?,
         }
@@ -142,14 +127,12 @@ fn phrase_text(phrase: Phrase) -> &'static str
         Phrase::Which => ", which ",
         Phrase::LeftThere => " left there",
         Phrase::Where => ", where ",
-        Phrase::LeftAnother => " left another value",
-        Phrase::LeftElse => " left another value in register ",
-        Phrase::Than => " than ",
-        Phrase::ReadIt => " read",
+        Phrase::Left => " left ",
+        Phrase::InRegister => " in register ",
         Phrase::So => ": ",
         Phrase::Before => " before ",
         Phrase::NobodyLeft => ", which neither the start nor another commit left",
-        Phrase::HadToFind => ", where it had to find ",
+        Phrase::OwnCalls => ", where its own earlier calls make it ",
         Phrase::Cycle => " would come before itself",
         Phrase::Put => " put ",
         Phrase::IntoRegister => " into register ",
@@ -184,7 +167,7 @@ fn read_words(
     let mut words = Vec::new(alloc);
     words.push(Word::Transaction(reader))?;
     words.push(Word::Saying(Phrase::Read))?;
-    words.push(Word::Number(value))?;
+    words.push(Word::Value(value))?;
     words.push(Word::Saying(Phrase::FromRegister))?;
     words.push(Word::Number(register.get() as u64))?;
     Ok(words)
@@ -197,8 +180,16 @@ fn step_words(alloc: Global, step: &Step) -> Result<Vec<Word>, AllocError>
     match *step {
         Step::RealTime { one, other } => real_time_words(alloc, one, other),
         Step::From(source) => source_words(alloc, &source),
-        Step::ReadFirst { source, rival } => read_first_words(alloc, &source, rival),
-        Step::ChangedFirst { rival, source } => changed_first_words(alloc, rival, &source),
+        Step::ReadFirst {
+            source,
+            rival,
+            left,
+        } => read_first_words(alloc, &source, rival, left),
+        Step::ChangedFirst {
+            rival,
+            left,
+            source,
+        } => changed_first_words(alloc, rival, left, &source),
         Step::Through { .. } => Ok(Vec::new(alloc)),
     }
 }
@@ -232,13 +223,19 @@ fn source_words(alloc: Global, source: &Source) -> Result<Vec<Word>, AllocError>
 }
 
 /// That a value was read before the rival changed it.
-fn read_first_words(alloc: Global, source: &Source, rival: usize) -> Result<Vec<Word>, AllocError>
-    ensures { IfOk result (λ words. words.items ≡ read_first_words source.now rival) }
+fn read_first_words(
+    alloc: Global,
+    source: &Source,
+    rival: usize,
+    left: u64,
+) -> Result<Vec<Word>, AllocError>
+    ensures { IfOk result (λ words. words.items ≡ read_first_words source.now rival left) }
 {
     let mut words = read_words(alloc, source.reader, source.value, source.register)?;
     words.push(Word::Saying(Phrase::Where))?;
     words.push(Word::Transaction(rival))?;
-    words.push(Word::Saying(Phrase::LeftAnother))?;
+    words.push(Word::Saying(Phrase::Left))?;
+    words.push(Word::Value(left))?;
     push_so(&mut words, source.reader, rival)?;
     Ok(words)
 }
@@ -247,17 +244,21 @@ fn read_first_words(alloc: Global, source: &Source, rival: usize) -> Result<Vec<
 fn changed_first_words(
     alloc: Global,
     rival: usize,
+    left: u64,
     source: &Source,
 ) -> Result<Vec<Word>, AllocError>
-    ensures { IfOk result (λ words. words.items ≡ changed_first_words rival source.now) }
+    ensures { IfOk result (λ words. words.items ≡ changed_first_words rival left source.now) }
 {
     let mut words = Vec::new(alloc);
     words.push(Word::Transaction(rival))?;
-    words.push(Word::Saying(Phrase::LeftElse))?;
+    words.push(Word::Saying(Phrase::Left))?;
+    words.push(Word::Value(left))?;
+    words.push(Word::Saying(Phrase::InRegister))?;
     words.push(Word::Number(source.register.get() as u64))?;
-    words.push(Word::Saying(Phrase::Than))?;
+    words.push(Word::Saying(Phrase::Where))?;
     words.push(Word::Transaction(source.reader))?;
-    words.push(Word::Saying(Phrase::ReadIt))?;
+    words.push(Word::Saying(Phrase::Read))?;
+    words.push(Word::Value(source.value))?;
     if let Some(writer) = source.writer {
         push_so(&mut words, rival, writer)?;
     }
@@ -308,7 +309,7 @@ fn no_source_words(
     Ok(words)
 }
 
-/// That the reader had to find another value.
+/// That the reader's own earlier calls make the register hold another value.
 fn unlike_words(
     alloc: Global,
     reader: usize,
@@ -319,7 +320,7 @@ fn unlike_words(
     ensures { IfOk result (λ words. words.items ≡ unlike_words reader read register.number expected) }
 {
     let mut words = read_words(alloc, reader, read, register)?;
-    words.push(Word::Saying(Phrase::HadToFind))?;
-    words.push(Word::Number(expected))?;
+    words.push(Word::Saying(Phrase::OwnCalls))?;
+    words.push(Word::Value(expected))?;
     Ok(words)
 }

@@ -5,7 +5,7 @@ use crate::command::needed::Needed;
 use std::alloc::{AllocError, Global};
 use tmw_defs::{Criterion, Verdict};
 use tmw_events::Registers;
-use tmw_part::{find_part, find_reason, kept_of};
+use tmw_part::{find_part, find_reason};
 use tmw_window::Showing;
 
 /// What is shown of a trace whose run has so many registers.
@@ -21,7 +21,7 @@ impl Shown {
     ghost use Rattle.tmw_show.specs.Explaining.{IsShownFor};
 
     /// Makes what is shown of a run that was judged by this criterion. If `why` is set, a part of a violated window is
-    /// found that is violated by itself, and a reason for that. It fails only after a failed allocation.
+    /// found that is violated by itself, and a reason why the window is. It fails only after a failed allocation.
     pub fn new(
         alloc: Global,
         criterion: Criterion,
@@ -62,8 +62,8 @@ fn needed_of(
                 &showing.states,
                 &showing.events,
             )?;
-            let kept = kept_of(alloc, &marks, &showing.events)?;
-            let reason = find_reason(criterion, alloc, showing.states.states(), &kept)?;
+            let states = showing.states.states();
+            let reason = find_reason(criterion, alloc, states, &showing.events, &marks)?;
             Ok(Needed::Part { marks, reason })
         }
         _ => Ok(Needed::NotViolated),

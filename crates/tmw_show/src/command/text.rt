@@ -15,11 +15,12 @@ use crate::command::shown::Shown;
 use crate::command::states::StateLine;
 use crate::command::told::Told;
 use crate::command::traces::push_traces;
+use crate::command::values::long_values;
 use crate::command::window::push_window;
 use std::alloc::{AllocError, Global};
 use tmw_defs::Criterion;
 use tmw_events::Event;
-use tmw_part::{Name, kept_of, names_of};
+use tmw_part::kept_of;
 use tmw_report::report_by;
 
 /// Makes the text of what is shown by this criterion, in this form. It fails only after a failed allocation.
@@ -61,45 +62,39 @@ fn drawn_text(alloc: Global, criterion: Criterion, shown: &Shown) -> Result<Vec<
         broken: showing.broken,
     };
     let marks = marks_of(alloc, &shown.needed, &showing.events)?;
-    let names = names_of(alloc, &marks, &showing.events)?;
-    push_window(
-        &mut text,
-        told,
-        showing.from,
-        &names,
-        &marks,
-        &showing.events,
-    )?;
+    push_window(&mut text, told, showing.from, &marks, &showing.events)?;
+    let kept = kept_of(alloc, &marks, &showing.events)?;
+    let values = long_values(alloc, &kept)?;
     push_reason_of(
         &mut text,
         showing.from,
-        &names,
+        &values,
         &showing.events,
         &shown.needed,
     )?;
     Ok(text)
 }
 
-/// Adds the reason that is told, if one is, of a window before which so many events stand.
+/// Adds the reason that is told, if one is, of a window before which so many events stand. These values have names.
 fn push_reason_of(
     text: &mut Vec<u8>,
     from: u64,
-    names: &[Name],
+    values: &[u64],
     events: &[Event],
     needed: &Needed,
 ) -> Result<(), AllocError>
     requires { from + length events.now < 2 ^ 64 }
     ensures { let reason = reason_of needed.now in
-        let told = told_words from names.now events.now reason in
-        OnOk result (text.new.items ≡ text.old.items ++ reason_text names.now told reason) }
+        let told = told_words from events.now reason in
+        OnOk result (text.new.items ≡ text.old.items ++ reason_text values.now told reason) }
 {
     match needed {
         Needed::Part {
             reason: Some(reason),
             ..
         } => {
-            let told = told_by(*text.allocator(), from, names, events, &reason.end)?;
-            push_reason(text, names, &told, reason)
+            let told = told_by(*text.allocator(), from, events, &reason.end)?;
+            push_reason(text, values, &told, reason)
         }
         _ => Ok(()),
     }

@@ -1,42 +1,48 @@
 ghost use Rattle.std.specs.Prelude.{◌≡◌, ◌+◌, ◌<◌, ◌≤◌, ◌^◌, ◌++◌, OnOk, length};
 ghost use Rattle.tmw_lines.specs.Text.{line};
-ghost use Rattle.tmw_part.specs.Names.{names_of};
 ghost use Rattle.tmw_show.specs.Drawing.{beside, event_row, heads_text, last_thread, rows_text, told_row, window_text};
 
-use crate::command::event_text::push_kind;
+use crate::command::legend::Legend;
 use crate::command::names::push_label;
 use crate::command::numbers::push_blanks;
 use crate::command::told::{Told, told_of};
+use crate::command::values::{long_values, push_names, push_shown};
 use itoa::Buffer;
 use std::alloc::AllocError;
 use tmw_events::Event;
-use tmw_part::{Name, kept_of};
+use tmw_part::{kept_of, names_of};
 
 /// The heads of eight columns.
 const ALL_HEADS: &[u8] =
     b"    event  thread 0       thread 1       thread 2       thread 3       thread 4       thread 5       thread 6       thread 7";
 
-/// Adds the line of the heads, and a line for each event that has the mark, in a column for each thread, behind its
-/// transaction's name if that begins with it. The first event has the number that follows `from`.
+/// Adds the line of the heads, and a line for each event that has the mark, in a column for each thread, after its
+/// transaction's name if that begins with it. The first event has the number that follows `from`. Then comes a line for
+/// each short name of a value.
 pub fn push_window(
     text: &mut Vec<u8>,
     told: Told,
     from: u64,
-    names: &[Name],
     marks: &[bool],
     events: &[Event],
 ) -> Result<(), AllocError>
-    requires numbers { from + length events.now < 2 ^ 64 }
-    requires names { names.now ≡ names_of marks.now events.now }
+    requires { from + length events.now < 2 ^ 64 }
     ensures { OnOk result
         (text.new.items ≡ text.old.items ++ window_text told from marks.now events.now) }
 {
-    let kept = kept_of(*text.allocator(), marks, events)?;
+    let alloc = *text.allocator();
+    let kept = kept_of(alloc, marks, events)?;
+    let names = names_of(alloc, marks, events)?;
+    let values = long_values(alloc, &kept)?;
+    let legend = Legend {
+        names: &names,
+        values: &values,
+    };
     let heads = heads_of(last_thread(&kept));
     text.extend_from_slice(heads)?;
     text.push(b'\n')?;
-    push_rows(text, told, heads.len(), names, from, marks, events)?;
-    Ok(())
+    push_rows(text, told, heads.len(), legend, from, marks, events)?;
+    push_names(text, &values)
 }
 
 /// The heads of the columns up to this thread's.
@@ -64,7 +70,7 @@ fn push_rows(
     text: &mut Vec<u8>,
     told: Told,
     width: usize,
-    names: &[Name],
+    legend: Legend,
     from: u64,
     marks: &[bool],
     events: &[Event],
@@ -72,7 +78,7 @@ fn push_rows(
     requires { from + length events.now < 2 ^ 64 }
     ensures { OnOk result
         (text.new.items ≡ text.old.items
-        ++ rows_text told width names.now from 0 marks.now events.now) }
+        ++ rows_text told width legend.entry.names.now legend.entry.values.now from 0 marks.now events.now) }
 {
     let mut place = 0;
     let mut rest_marks = marks;
@@ -86,7 +92,7 @@ fn push_rows(
             push_line(
                 text,
                 width,
-                names,
+                legend,
                 place,
                 number,
                 *event,
@@ -104,7 +110,7 @@ fn push_rows(
 fn push_line(
     text: &mut Vec<u8>,
     width: usize,
-    names: &[Name],
+    legend: Legend,
     place: usize,
     number: u64,
     event: Event,
@@ -112,10 +118,11 @@ fn push_line(
 ) -> Result<(), AllocError>
     ensures { OnOk result
         (text.new.items ≡ text.old.items
-        ++ line (told_row width (event_row names.now place number event) told.now)) }
+        ++ line (told_row width
+        (event_row legend.entry.names.now legend.entry.values.now place number event) told.now)) }
 {
     let before = text.len();
-    push_row(text, names, place, number, event)?;
+    push_row(text, legend, place, number, event)?;
     let gap = width.saturating_sub(text.len() - before);
     push_beside(text, gap, told)?;
     text.push(b'\n')?;
@@ -126,22 +133,21 @@ fn push_line(
 /// place.
 fn push_row(
     text: &mut Vec<u8>,
-    names: &[Name],
+    legend: Legend,
     place: usize,
     number: u64,
     event: Event,
 ) -> Result<(), AllocError>
-    ensures { OnOk result
-        (text.new.items ≡ text.old.items ++ event_row names.now place number event) }
+    ensures { OnOk result (text.new.items
+        ≡ text.old.items ++ event_row legend.entry.names.now legend.entry.values.now place number event) }
 {
     let mut buffer = Buffer::new();
     let digits = buffer.format(number).as_bytes();
     push_blanks(text, 9usize.saturating_sub(digits.len()))?;
     text.extend_from_slice(digits)?;
     push_blanks(text, 2 + 15 * event.thread.get() as usize)?;
-    push_label(text, names, place)?;
-    push_kind(text, &event)?;
-    Ok(())
+    push_label(text, legend.names, place)?;
+    push_shown(text, legend.values, &event)
 }
 
 /// Adds what is printed beside an event, after so many blanks and two more.

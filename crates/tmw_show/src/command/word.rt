@@ -1,11 +1,10 @@
-/// A word of a sentence that tells why a part is violated.
+/// A word of a sentence that tells why a window is violated.
 #[derive(Clone, Copy, PartialEq, Eq, Debug)]
 pub enum Word {
-    /// The transaction at this place of what is shown.
+    /// The transaction at this place among those of the window.
     Transaction(usize),
-    /// The transaction of this number.
-    Name(u64),
-    /// A value, or the number of a register.
+    Value(u64),
+    /// The number of a register or of an event.
     Number(u64),
     Saying(Phrase),
 }
@@ -20,14 +19,12 @@ pub enum Phrase {
     Which,
     LeftThere,
     Where,
-    LeftAnother,
-    LeftElse,
-    Than,
-    ReadIt,
+    Left,
+    InRegister,
     So,
     Before,
     NobodyLeft,
-    HadToFind,
+    OwnCalls,
     Cycle,
     Put,
     IntoRegister,

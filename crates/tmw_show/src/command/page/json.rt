@@ -4,7 +4,7 @@ ghost use Rattle.tmw_show.specs.Sentences.{told_words};
 ghost use Rattle.tmw_show.specs.Page.{about_json, criterion_json, digit, event_json, json_text, mark_json, needed_json, numbers_json, settled_at, state_json, why_json, window_json};
 
 use crate::command::event_text::push_event;
-use crate::command::needed::{Needed, marks_of};
+use crate::command::needed::Needed;
 use crate::command::numbers::{push_number, push_values};
 use crate::command::origins::told_by;
 use crate::command::part::{Part, push_each, push_list};
@@ -15,7 +15,6 @@ use std::alloc::{AllocError, Global};
 use tmw_cuts::State;
 use tmw_defs::{Criterion, Verdict};
 use tmw_events::{Event, Registers};
-use tmw_part::{Name, names_of};
 use tmw_report::report_by;
 
 /// Adds what is shown by this criterion as one JSON object: the members of the report, the criterion, how many registers
@@ -47,9 +46,7 @@ pub fn push_json(
     };
     push_mark(text, told)?;
     push_needed(text, &shown.needed)?;
-    let marks = marks_of(alloc, &shown.needed, &showing.events)?;
-    let names = names_of(alloc, &marks, &showing.events)?;
-    push_why(text, showing.from, &names, &showing.events, &shown.needed)?;
+    push_why(text, showing.from, &showing.events, &shown.needed)?;
     text.extend_from_slice(b"}\n")?;
     Ok(())
 }
@@ -181,23 +178,22 @@ fn push_needed(text: &mut Vec<u8>, needed: &Needed) -> Result<(), AllocError>
 fn push_why(
     text: &mut Vec<u8>,
     from: u64,
-    names: &[Name],
     events: &[Event],
     needed: &Needed,
 ) -> Result<(), AllocError>
     requires { from + length events.now < 2 ^ 64 }
     ensures { let reason = reason_of needed.now in
-        let told = told_words from names.now events.now reason in
-        OnOk result (text.new.items ≡ text.old.items ++ why_json names.now told reason) }
+        let told = told_words from events.now reason in
+        OnOk result (text.new.items ≡ text.old.items ++ why_json told reason) }
 {
     if let Needed::Part {
         reason: Some(reason),
         ..
     } = needed
     {
-        let told = told_by(*text.allocator(), from, names, events, &reason.end)?;
+        let told = told_by(*text.allocator(), from, events, &reason.end)?;
         text.extend_from_slice(b",\"why\":\"")?;
-        push_clauses(text, names, &told, reason)?;
+        push_clauses(text, &told, reason)?;
         text.push(b'"')?;
     }
     Ok(())

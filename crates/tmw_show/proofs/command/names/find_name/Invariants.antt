@@ -1,4 +1,4 @@
-use Rattle.std.proofs.Common.{◌≡◌, ◌==◌, drop, find}
+use Rattle.tmw_show.proofs.Shared.{drop, find, ◌==◌, ◌≡◌}
 use Rattle.tmw_show.proofs.command.names.find_name.Given as goal
 
 abbrev pub invariant-loop-name : goal.invariant-loop-name

@@ -1,5 +1,5 @@
 -- Each part follows the one before it.
-use Rattle.std.proofs.Common.{decimal, codes}
+use Rattle.tmw_show.proofs.Shared.{codes, decimal}
 use Rattle.tmw_show.proofs.Appends.{four}
 use Rattle.tmw_show.proofs.command.needed.push_counts.Goals as goal
 

@@ -1,7 +1,5 @@
 -- One blank more.
-use Rattle.std.proofs.Common.{rules, ◌≡◌, [], ◌∷◌, ◌++◌, ap, ◌∙◌, append_assoc}
-use Rattle.std.proofs.lemmas.List.{replicate-append-replicate}
-use Rattle.tmw_show.specs.Drawing.{blanks}
+use Rattle.tmw_show.proofs.Shared.{[], ap, append_assoc, blanks, replicate-append-replicate, rules, ◌++◌, ◌∙◌, ◌∷◌, ◌≡◌}
 use Rattle.tmw_show.proofs.command.numbers.push_blanks.Goals as goal
 
 pub loop-place-preserved : goal.loop-place-preserved

@@ -1,5 +1,4 @@
-use Rattle.std.proofs.Common.{◌≡◌, ◌++◌}
-use Rattle.tmw_show.specs.Drawing.{blanks}
+use Rattle.tmw_show.proofs.Shared.{blanks, ◌++◌, ◌≡◌}
 use Rattle.tmw_show.proofs.command.numbers.push_blanks.Given as goal
 
 abbrev pub invariant-loop-place : goal.invariant-loop-place

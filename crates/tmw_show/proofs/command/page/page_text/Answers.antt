@@ -1,6 +1,5 @@
 -- Each part follows the one before it, and nothing precedes the first.
-use Rattle.std.proofs.Common.{[], ◌++◌, ap, ◌∙◌}
-use Rattle.tmw_show.specs.Page.{json_text}
+use Rattle.tmw_show.proofs.Shared.{[], ap, json_text, ◌++◌, ◌∙◌}
 use Rattle.tmw_show.specs.declared.command.page.parts.TheConstants.{HEAD, TAIL}
 use Rattle.tmw_show.proofs.Appends.{three}
 use Rattle.tmw_show.proofs.command.page.page_text.Goals as goal

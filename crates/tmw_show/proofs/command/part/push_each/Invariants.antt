@@ -1,5 +1,4 @@
-use Rattle.std.proofs.Common.{◌≡◌, ◌++◌, take}
-use Rattle.std.specs.List.{flat_map}
+use Rattle.tmw_show.proofs.Shared.{flat_map, take, ◌++◌, ◌≡◌}
 use Rattle.tmw_show.proofs.command.part.push_each.Given as goal
 
 abbrev pub invariant-loop-item : goal.invariant-loop-item

@@ -1,10 +1,8 @@
 -- What was told is the first line and what was read behind it.
-use Rattle.std.proofs.Common.{[], ◌++◌, refl}
+use Rattle.tmw_show.proofs.Shared.{[], refl, rules_for, trace_grammar, ◌++◌}
 use Rattle.tmw_lines.specs.declared.text_fault.TextFault.TheVariants.{Memory}
 use Rattle.tmw_lines.proofs.TextsRead.{soon-behind, text_fault-first, text_fault-read}
 use Rattle.tmw_streams.proofs.ToldBytes.{Tells-more}
-use Rattle.tmw_trace.specs.Text.{trace_grammar}
-use Rattle.tmw_monitor.specs.Fitting.{rules_for}
 use Rattle.tmw_window.specs.Feeding.{TakeEvents, LackAnEvent}
 use Rattle.tmw_window.specs.declared.last_window.LastWindow.{LastWindow}
 use Rattle.tmw_report.proofs.Quotes.{quoted-first, quoted-read}

@@ -1,9 +1,8 @@
 -- A text for which there is no memory is answered by that fault: what was told is a trace's text.
-use Rattle.std.proofs.Common.{Ok, Err, inl, inr, refl}
-use Rattle.tmw_lines.specs.declared.text_fault.TextFault.TheVariants.{Memory as WantsMemory}
-use Rattle.tmw_report.specs.declared.fault.Fault.TheVariants.{Memory}
+use Rattle.tmw_show.proofs.Shared.{Err, Memory, Ok, inl, inr, refl}
 use Rattle.tmw_show.proofs.Explained.{trace-soon}
 use Rattle.tmw_show.proofs.Shows.{shown-within}
+use Rattle.tmw_lines.specs.declared.text_fault.TextFault.TheVariants.{Memory as WantsMemory}
 use Rattle.tmw_show.proofs.command.run.run_show.Goals as goal
 
 pub answer_shown-requires : goal.answer_shown-requires

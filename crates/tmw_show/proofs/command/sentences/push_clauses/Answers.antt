@@ -1,14 +1,12 @@
 -- The last sentence follows the others.
-use Rattle.std.specs.List.{flat_map}
-use Rattle.tmw_show.specs.Sentences.{clause_text, end_words, step_words, word_text}
+use Rattle.tmw_show.proofs.Shared.{[], clause_text, end_words, flat_map, step_words, word_text}
 use Rattle.tmw_show.proofs.Appends.{three}
 use Rattle.tmw_show.proofs.command.sentences.push_clauses.Goals as goal
 
 pub returns : goal.returns
 returns c =
-    let names = c.args.names.now in
     let reason = c.args.reason.now in
-    three c.args.text.now.items (flat_map (λ step. clause_text names (step_words step)) reason.steps.items) (clause_text names c.args.told.now)
+    three c.args.text.now.items (flat_map (λ step. clause_text (step_words step)) reason.steps.items) (clause_text c.args.told.now)
     (rw c.deref.ensures.value at c.in_ok-push_each.ensures) c.in_ok-push_clause.ensures
-    (flat_map (word_text names) (end_words reason.end))
-    (rw (c.deref-2.ensures.value, c.in_ok-words.ensures) at c.in_ok-push_words.ensures)
+    (flat_map (word_text []) (end_words reason.end))
+    (rw (c.deref-2.ensures.value, c.in_ok-words.ensures) at c.in_ok-push_each-2.ensures)

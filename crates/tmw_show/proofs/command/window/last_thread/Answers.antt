@@ -1,8 +1,5 @@
 -- The greatest so far, and that of the events that are left.
-use Rattle.std.proofs.Common.{rules, ◌≡◌, ◌+◌, ◌<◌, ℕ, List, [], ◌∷◌, length, max, drop, get_or, drop-cons, add-one, ap, sym, ◌∙◌, arith}
-use Rattle.std.proofs.lemmas.List.{drop_all}
-use Rattle.tmw_events.specs.declared.event.Event.{Event}
-use Rattle.tmw_show.specs.Drawing.{last_thread}
+use Rattle.tmw_show.proofs.Shared.{Event, List, [], add-one, ap, arith, drop, drop-cons, drop_all, get_or, last_thread, length, max, rules, sym, ℕ, ◌+◌, ◌<◌, ◌∙◌, ◌∷◌, ◌≡◌}
 use Rattle.tmw_show.proofs.command.window.last_thread.Goals as goal
 
 greater : (a b n : ℕ) → max (max a b) n ≡ max a (max b n)

@@ -1,5 +1,4 @@
-use Rattle.std.proofs.Common.{◌≡◌, ◌<◌, max, drop}
-use Rattle.tmw_show.specs.Drawing.{last_thread}
+use Rattle.tmw_show.proofs.Shared.{drop, last_thread, max, ◌<◌, ◌≡◌}
 use Rattle.tmw_show.proofs.command.window.last_thread.Given as goal
 
 abbrev pub invariant-loop-event : goal.invariant-loop-event

@@ -1,20 +1,18 @@
 -- Each part follows the one before it.
-use Rattle.std.proofs.Common.{codes}
-use Rattle.tmw_cuts.specs.Members.{members}
-use Rattle.tmw_show.specs.Explaining.{reason_of, shown_names, shown_told}
-use Rattle.tmw_show.specs.Page.{about_json, mark_json, needed_json, told_of, why_json, window_json}
+use Rattle.tmw_show.proofs.Shared.{about_json, codes, mark_json, members, needed_json, reason_of, told_of, told_words, why_json, window_json}
 use Rattle.tmw_show.proofs.Appends.{six}
 use Rattle.tmw_show.proofs.command.page.json.push_json.Goals as goal
 
 pub returns : goal.returns
 returns c =
     let shown = c.args.shown.now in
+    let events = shown.showing.events.items in
+    let reason = reason_of shown.needed in
     let window = rw (c.states.ensures.members, c.deref.ensures.value) at c.in_ok-push_window.ensures in
-    let why =
-    rw (c.deref-5.ensures.value, c.in_ok-names.ensures, c.deref-3.ensures.value, c.deref-4.ensures.value, c.in_ok-marks.ensures, c.deref-2.ensures.value, c.deref-6.ensures.value)
-    at c.in_ok-push_why.ensures in
+    let why = rw c.deref-2.ensures.value at c.in_ok-push_why.ensures in
     six c.args.text.now.items (about_json c.args.criterion shown)
-    (window_json shown.registers (members shown.showing.states) shown.showing.events.items) (mark_json (told_of c.args.criterion shown))
-    (needed_json shown.needed) (why_json (shown_names shown.needed shown.showing.events.items) (shown_told shown.showing.from shown.needed shown.showing.events.items) (reason_of shown.needed)) c.in_ok-push_about.ensures window c.in_ok-push_mark.ensures
+    (window_json shown.registers (members shown.showing.states) events) (mark_json (told_of c.args.criterion shown))
+    (needed_json shown.needed) (why_json (told_words shown.showing.from events reason) reason)
+    c.in_ok-push_about.ensures window c.in_ok-push_mark.ensures
     c.in_ok-push_needed.ensures why (codes "}\n")
     c.in_ok-extend_from_slice.ensures.items

@@ -1,6 +1,5 @@
 -- Each part follows the one before it.
-use Rattle.std.proofs.Common.{◌+◌, ◌∷◌, [], ◌++◌, decimal, codes, ap, ◌∙◌}
-use Rattle.tmw_show.specs.Page.{criterion_json}
+use Rattle.tmw_show.proofs.Shared.{[], ap, codes, criterion_json, decimal, ◌++◌, ◌+◌, ◌∙◌, ◌∷◌}
 use Rattle.tmw_show.proofs.Appends.{four}
 use Rattle.tmw_show.proofs.command.page.json.push_numbers.Goals as goal
 

@@ -1,6 +1,5 @@
 -- Each part follows the one before it.
-use Rattle.std.proofs.Common.{codes}
-use Rattle.tmw_show.specs.Page.{event_json, list_json, state_json}
+use Rattle.tmw_show.proofs.Shared.{codes, event_json, list_json, state_json}
 use Rattle.tmw_show.proofs.Appends.{five}
 use Rattle.tmw_show.proofs.command.page.json.push_window.Goals as goal
 

@@ -1,5 +1,5 @@
 use Rattle.tmw_part.proofs.Shared.{length, next_of, ◌≡◌}
-use Rattle.tmw_part.proofs.origin.next_of.Given as goal
+use Rattle.tmw_part.proofs.readers.next_of.Given as goal
 
 abbrev pub invariant-loop-rest : goal.invariant-loop-rest
 invariant-loop-rest l = next_of l.thread.number l.rest ≡ next_of l.thread.number l.events

@@ -1,0 +1,42 @@
+-- What the proofs of this crate take from the libraries, from the crates below and from its specs.
+pub use Rattle.std.proofs.Common.{All, Bool, Err, IsTrue, List, Ok, Result, [], add-one, ap, append-nil, append_assoc, arith, codes, decimal, drop, drop-cons, false, find, inl, inr, length, map, max, refl, rules, subst, sym, take-append-drop, true, ℕ, ◌++◌, ◌+◌, ◌-◌, ◌<◌, ◌==◌, ◌^◌, ◌∙◌, ◌∷◌, ◌≡◌, ◌≢◌, ◌≤◌}
+pub use Rattle.std.proofs.lemmas.List.{drop_all, length-drop, length-take, replicate-append-replicate}
+pub use Rattle.std.specs.List.{AllByRecursion, Contains, flat_map, list_all}
+pub use Rattle.std.specs.Prelude.{IfErr, IfOk, get_or, take}
+pub use Rattle.tmw_cuts.specs.Members.{members}
+pub use Rattle.tmw_defs.specs.Criteria.{IsFinalBy}
+pub use Rattle.tmw_defs.specs.History.{is_well_formed, transactions}
+pub use Rattle.tmw_defs.specs.Opaque.{State}
+pub use Rattle.tmw_defs.specs.Part.{HasOrderBy}
+pub use Rattle.tmw_defs.specs.Verdict.{IsVerdict, IsViolated, Rules}
+pub use Rattle.tmw_defs.specs.declared.criterion.Criterion.{Criterion}
+pub use Rattle.tmw_defs.specs.declared.criterion.Criterion.TheVariants.{Opacity, Strict}
+pub use Rattle.tmw_defs.specs.declared.verdict.Verdict.{Verdict}
+pub use Rattle.tmw_events.specs.Text.{FitsKind}
+pub use Rattle.tmw_events.specs.declared.event.Event.{Event}
+pub use Rattle.tmw_events.specs.declared.registers.Registers.{Registers}
+pub use Rattle.tmw_lines.specs.declared.text_fault.TextFault.TheVariants.{BadHeader, BadLine, Cut, Io, TooLong}
+pub use Rattle.tmw_monitor.specs.Fitting.{rules_for}
+pub use Rattle.tmw_monitor.specs.declared.bounds.Bounds.{Bounds}
+pub use Rattle.tmw_part.specs.Finding.{FindsPart, IsMinimalPart, IsSearched}
+pub use Rattle.tmw_report.specs.declared.fault.Fault.TheVariants.{Memory}
+pub use Rattle.tmw_trace.specs.Text.{AreEvents, trace_grammar, trace_text}
+pub use Rattle.tmw_trace.specs.declared.header.Header.{Header}
+pub use Rattle.tmw_trace.specs.declared.version.Version.{Version}
+pub use Rattle.tmw_trace.specs.declared.version.Version.TheVariants.{One, Two}
+pub use Rattle.tmw_window.specs.Showing.{IsShowing}
+pub use Rattle.tmw_window.specs.Shown.{IsShown, shown_length}
+pub use Rattle.tmw_window.specs.StatesLaw.{FitsRegisters, StatesLaw}
+pub use Rattle.tmw_window.specs.WindowLaw.{IsJudgedAlike, WindowLaw, at_end}
+pub use Rattle.tmw_window.specs.declared.showing.Showing.{Showing}
+pub use Rattle.tmw_show.specs.Drawing.{blanks, last_thread, rows_text}
+pub use Rattle.tmw_show.specs.Explaining.{IsNeededOf, IsShownFor, IsViolation, marks_of, reason_of}
+pub use Rattle.tmw_show.specs.Page.{about_json, criterion_json, event_json, json_text, list_json, mark_json, needed_json, state_json, told_of, why_json, window_json}
+pub use Rattle.tmw_show.specs.Running.{AnswersShow, IsShownOf, shown_events}
+pub use Rattle.tmw_show.specs.Sentences.{clause_text, end_words, step_words, told_words, word_text}
+pub use Rattle.tmw_show.specs.TracesLaw.{AreJudgedLike, IsContradictory, IsHeaderFor, TellOf, TracesLaw, rules_from}
+pub use Rattle.tmw_show.specs.Values.{long_values, names_from, values_after}
+pub use Rattle.tmw_show.specs.declared.command.needed.Needed.{Needed}
+pub use Rattle.tmw_show.specs.declared.command.needed.Needed.TheVariants.{NotViolated, Part, Unasked}
+pub use Rattle.tmw_show.specs.declared.command.options.ShowOptions.{ShowOptions}
+pub use Rattle.tmw_show.specs.declared.command.shown.Shown.{Shown}

@@ -1,0 +1,61 @@
+-- Short names for long values: v1, v2 .. in the order in which they appear among the events that are shown.
+use Rattle.std.specs.Prelude.{ℕ, ◌+◌, ◌==◌, ◌||◌, Bool, nat_lt, List, [], ◌∷◌, ◌++◌, codes, position, Option, Some, None, if◌then◌else◌}
+use Rattle.std.specs.List.{list_any}
+use Rattle.std.specs.Fmt.{decimal}
+use Rattle.tmw_events.specs.Text.{digit, kind_text}
+use Rattle.tmw_events.specs.declared.event.Event.{Event}
+use Rattle.tmw_events.specs.declared.event.Kind.{Kind}
+use Rattle.tmw_events.specs.declared.event.Kind.TheVariants.{N, V, W}
+use Rattle.tmw_lines.specs.Text.{line}
+
+-- A value of at most nine digits is short.
+abbrev pub is_short : ℕ → Bool
+is_short value = nat_lt value 1000000000
+
+-- the value is one of these
+abbrev pub has_name : List ℕ → ℕ → Bool
+has_name values value = list_any (λ other. other == value) values
+
+-- These values and the next one, if it is not short and not among them.
+abbrev pub with_value : List ℕ → ℕ → List ℕ
+with_value values value = if is_short value || has_name values value then values else values ++ value ∷ []
+
+-- and the one that the next event writes, adds or answers
+abbrev pub with_kind : List ℕ → Kind → List ℕ
+with_kind values (W register value) = with_value values value
+with_kind values (N register value) = with_value values value
+with_kind values (V value) = with_value values value
+with_kind values _ = values
+
+-- The long values of these events, each once, after those before.
+abbrev pub values_after : List ℕ → List Event → List ℕ
+values_after values [] = values
+values_after values (event ∷ events) = values_after (with_kind values event.kind) events
+
+abbrev pub long_values : List Event → List ℕ
+long_values events = values_after [] events
+
+-- the name of the long value at this place
+abbrev pub short_name : ℕ → List ℕ
+short_name place = codes "v" ++ decimal (place + 1)
+
+abbrev pub named : ℕ → Option ℕ → List ℕ
+named value None = decimal value
+named value (Some place) = short_name place
+
+-- a value: by its name, if it has one
+abbrev pub value_text : List ℕ → ℕ → List ℕ
+value_text values value = named value (position (λ other. other == value) values)
+
+-- an event's kind, with its value by its name
+abbrev pub shown_kind : List ℕ → Kind → List ℕ
+shown_kind values (W register value) = codes "W " ++ digit register ∷ 32 ∷ value_text values value
+shown_kind values (N register value) = codes "N " ++ digit register ∷ 32 ∷ value_text values value
+shown_kind values (V value) = codes "V " ++ value_text values value
+shown_kind values kind = kind_text kind
+
+-- a line for each of these names, of which the first is of this place
+abbrev pub names_from : ℕ → List ℕ → List ℕ
+names_from place [] = []
+names_from place (value ∷ values) =
+    line (codes "    value  " ++ (short_name place ++ (codes " is " ++ decimal value))) ++ names_from (place + 1) values

@@ -1,0 +1,8 @@
+use tmw_part::Name;
+
+/// What a drawing calls transactions and long values.
+#[derive(Clone, Copy)]
+pub struct Legend<'a> {
+    pub names: &'a [Name],
+    pub values: &'a [u64],
+}
