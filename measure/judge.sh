@@ -1,5 +1,5 @@
 #!/usr/bin/env bash
-# Times `tmwatch judge` on six kinds of run, by opacity and by strict serializability, beside `cat` and `wc -l` of the same trace.
+# Times `tmwatch judge` on seven kinds of run, by opacity and by strict serializability, beside `cat` and `wc -l` of the same trace.
 #
 #   measure/judge.sh [EVENTS]
 #
@@ -51,7 +51,7 @@ print_line() {
         }'
 }
 
-for profile in ${PROFILES:-serial calm wide long blind bench}; do
+for profile in ${PROFILES:-serial calm wide long blind bench outcomes}; do
     "$traces" "$profile" "${SEED:-1}" "$events" >"$folder/trace"
     count=$(($(wc -l <"$folder/trace") - 1))
     # (through a pipe, since `cat` and `wc` may skip what they read or write where they can)

@@ -15,21 +15,23 @@
 /* What runs: from `least` to `most` threads at a time, from `fewest` to `greatest` operations a transaction, over so many registers;
  * of ten operations so many read, and the others write one of so many values. With `bench`, as in the bench for C, a thread runs two
  * transactions, by up to three steps a turn. Of ten operations two add and the others read; half of what was read is then written. One
- * transaction of eight asks to abort. */
+ * transaction of eight asks to abort. With `outcomes`, blind writers of the first five registers leave 64 outcomes before that, and the
+ * run has the next registers. */
 struct profile {
     const char *name;
     unsigned least, most, fewest, greatest, registers, reads, values;
-    bool bench;
+    bool bench, outcomes;
 };
 
 /* The last two numbers of wide and of blind keep the outcomes at a cut below 64. */
 static const struct profile profiles[] = {
-    {"serial", 1, 1, 1, 4, 8, 5, 1000000, false},
-    {"calm", 2, 4, 1, 4, 8, 5, 1000000, false},
-    {"wide", 8, 8, 2, 4, 8, 8, 1000000, false},
-    {"long", 2, 4, 64, 64, 8, 8, 1000000, false},
-    {"blind", 8, 8, 1, 2, 3, 0, 3, false},
-    {"bench", 4, 4, 3, 3, 3, 10, 1000000, true},
+    {"serial", 1, 1, 1, 4, 8, 5, 1000000, false, false},
+    {"calm", 2, 4, 1, 4, 8, 5, 1000000, false, false},
+    {"wide", 8, 8, 2, 4, 8, 8, 1000000, false, false},
+    {"long", 2, 4, 64, 64, 8, 8, 1000000, false, false},
+    {"blind", 8, 8, 1, 2, 3, 0, 3, false, false},
+    {"bench", 4, 4, 3, 3, 3, 10, 1000000, true, false},
+    {"outcomes", 4, 4, 3, 3, 3, 10, 1000000, true, true},
 };
 
 enum step { CALLS, IS_ANSWERED, ASKS, COMMITS, HAS_ENDED };
@@ -105,7 +107,7 @@ static void go_on(struct transaction *t, unsigned thread, const struct profile *
     events++;
     switch (t->step) {
     case CALLS:
-        if (!t->updates) t->reg = draw(p->registers);
+        if (!t->updates) t->reg = (p->outcomes ? 5 : 0) + draw(p->registers);
         t->reads = !t->updates && draw(10) < p->reads;
         t->adds = p->bench && t->reads && draw(10) < 2;
         t->updates = p->bench && t->reads && !t->adds && draw(2);
@@ -148,17 +150,25 @@ static void run_round(const struct profile *p) {
     }
 }
 
+/* So many blind writers of the register, which all overlap: any of them may be the last. */
+static void write_blindly(unsigned reg, unsigned writers) {
+    for (unsigned k = 0; k < writers; k++) printf("%u W %u %u\n%u K\n%u T\n", k, reg, k + 1, k, k);
+    for (unsigned k = 0; k < writers; k++) printf("%u C\n", k);
+    events += 4 * writers;
+}
+
 int main(int count, char **words) {
     const struct profile *p = NULL;
     for (size_t k = 0; count == 4 && k < sizeof profiles / sizeof *profiles; k++)
         if (!strcmp(profiles[k].name, words[1])) p = &profiles[k];
     if (!p) {
-        fprintf(stderr, "usage: traces serial|calm|wide|long|blind|bench SEED EVENTS\n");
+        fprintf(stderr, "usage: traces serial|calm|wide|long|blind|bench|outcomes SEED EVENTS\n");
         return 2;
     }
     state = strtoull(words[2], NULL, 10) * 2654435769u + 88172645463325252u;
     uint64_t most = strtoull(words[3], NULL, 10);
     puts(p->bench ? "opacity-trace 2 8 0 0 0 0 0 0 0 0" : "opacity-trace 1 8");
+    for (unsigned r = 0; p->outcomes && r < 5; r++) write_blindly(r, r ? 2 : 4);
     while (events < most) run_round(p);
     return ferror(stdout) || fflush(stdout) ? 1 : 0;
 }
