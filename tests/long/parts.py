@@ -127,14 +127,14 @@ def origin_of(end, names, window):
         return None
     reader, value, register, expected = names[found[1]], int(found[2]), int(found[3]), found[4] and int(found[4])
     number = {event: n for n, t in enumerate(transactions(window), 1) for event in t.events}
-    read, known = None, None
+    read, known, reading = None, None, None
     for call in calls(window):
         other, answer, left = operation(call) or (None, None, None)
         if call[0] in reader.events and other == register:
             if read is None and answer == value and expected in (None, known):
-                read = call[1].number
+                read, reading = call[1].number, call
             known = answer if left is None else left
-    puts = [call for call in calls(window) if left_by(call) == (register, value) and call[0].number < read]
+    puts = [call for call in calls(window) if left_by(call) == (register, value) and call[0].number < read and call != reading]
     if not puts:
         return f"no earlier event of this window puts {value} into register {register}"
     call = max(puts, key=lambda call: call[0].number)

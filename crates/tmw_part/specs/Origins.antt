@@ -1,5 +1,5 @@
 -- Who in a window wrote a value that a transaction read of a register, and what became of that write.
-use Rattle.std.specs.Prelude.{◌==◌, ◌&&◌, ◌+◌, ◌%◌, ◌^◌, ℕ, Bool, true, false, nat_lt, List, [], ◌∷◌, Option, Some, None, if◌then◌else◌}
+use Rattle.std.specs.Prelude.{◌==◌, ◌&&◌, ◌+◌, ◌%◌, ◌^◌, ℕ, Bool, true, false, not, nat_lt, List, [], ◌∷◌, Option, Some, None, if◌then◌else◌}
 use Rattle.tmw_events.specs.declared.event.Event.{Event}
 use Rattle.tmw_events.specs.declared.event.Kind.{Kind}
 use Rattle.tmw_events.specs.declared.event.Kind.TheVariants.{R, W, N, V, K}
@@ -67,12 +67,17 @@ origin_at window r v reader place e = record {
   fate = fate_of r v (owner window e.thread.number place place == reader) (txn_at window (owner window e.thread.number place place));
 }
 
--- The last of these events that does so and comes before that place. The first of them has this place.
+-- The call at this place, before these events, puts the value into the register; it comes before that answer, which is not its own.
+abbrev pub puts_before : ℕ → ℕ → ℕ → ℕ → Event → List Event → Bool
+puts_before r v upto place e events =
+    nat_lt place upto && (not ((call_of place e events).upto == upto) && puts r v e.kind (next_of e.thread.number events))
+
+-- The last of these events that does so. The first of them has this place.
 abbrev pub origin_from : List Txn → ℕ → ℕ → ℕ → ℕ → ℕ → List Event → Option Origin
 origin_from window r v reader upto place [] = None
 origin_from window r v reader upto place (e ∷ events) =
     or_before (origin_from window r v reader upto (place + 1) events)
-    (if nat_lt place upto && puts r v e.kind (next_of e.thread.number events) then Some (origin_at window r v reader place e) else None)
+    (if puts_before r v upto place e events then Some (origin_at window r v reader place e) else None)
 
 -- Of the window's events the last that puts the value into the register before the reader, the transaction at this place, is first
 -- answered it, or first while its own calls make the register `expected`.

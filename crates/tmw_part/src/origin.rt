@@ -1,5 +1,5 @@
-ghost use Rattle.std.specs.Prelude.{◌≡◌, ◌≤◌, ◌<◌, IfOk, IfSome, length};
-ghost use Rattle.tmw_part.specs.Origins.{answered_from, fate_by, fate_of, is_as_expected, known_past, origin_at, origin_of, reads};
+ghost use Rattle.std.specs.Prelude.{◌≡◌, ◌+◌, ◌<◌, ◌^◌, IfOk, IfSome, length};
+ghost use Rattle.tmw_part.specs.Origins.{answered_from, fate_by, fate_of, is_as_expected, known_past, origin_at, origin_of, puts_before, reads};
 ghost use Rattle.tmw_part.specs.Shown.{txn_of, txns_of};
 
 use crate::deeds::{is_some_of, left_by};
@@ -19,7 +19,7 @@ pub enum Fate {
     GivenUp,
     /// It had not asked to commit.
     Unasked,
-    /// It put or left another value there, or is the reader itself.
+    /// It left another value there at last, or is the reader itself.
     Overwritten,
     /// It left the value there, and committed or asked to.
     Stays,
@@ -139,6 +139,24 @@ fn origin_at(
     }
 }
 
+/// Whether the call at this place, before these events, puts the value into the register before that answer, which is not
+/// its own.
+fn puts_before(
+    register: Ix,
+    value: u64,
+    upto: usize,
+    place: usize,
+    event: &Event,
+    events: &[Event],
+) -> bool
+    requires { place + 1 + length events.now < 2 ^ 64 }
+    ensures { result ≡ puts_before register.number value upto place event.now events.now }
+{
+    place < upto
+        && call_of(place, *event, events).upto != upto
+        && puts(register, value, event.kind, next_of(event.thread, events))
+}
+
 /// Finds the last event of a window that puts the value into the register before the reader, the transaction at this
 /// place, is first answered it, or first while its own calls make the register the expected value.
 pub fn find_origin(
@@ -159,7 +177,7 @@ pub fn find_origin(
     let mut rest = events;
     let upto = answered_at(&window, register, value, expected, reader, events);
     while let [event, more @ ..] = rest {
-        if place < upto && puts(register, value, event.kind, next_of(event.thread, more)) {
+        if puts_before(register, value, upto, place, event, more) {
             found = Some(origin_at(&window, register, value, reader, place, event));
         }
         place += 1;

@@ -132,7 +132,8 @@ origin_words from register value (Some origin) =
     Transaction origin.writer ∷ Saying Put
     ∷ (put_words value register ++ (Saying AtEvent ∷ Number (from + (origin.place + 1)) ∷ fate_words origin.fate))
 
--- So of the value that the transaction at this place of the window read while its own calls made the register `expected`.
+-- So of the value that the transaction at this place of the window read; if a value is `expected`, while its own calls made the register
+-- that.
 abbrev pub read_from : ℕ → List Event → ℕ → ℕ → ℕ → Option ℕ → List Word
 read_from from window reader register value expected =
     origin_words from register value (origin_of window register value expected reader)

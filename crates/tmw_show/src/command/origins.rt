@@ -57,8 +57,8 @@ fn push_put(words: &mut Vec<Word>, register: Ix, value: u64) -> Result<(), Alloc
     Ok(())
 }
 
-/// Where the value comes from that the transaction at this place of the window read while its own calls made the
-/// register this.
+/// Where the value comes from that the transaction at this place of the window read; if a value is expected, while its
+/// own calls made the register that.
 fn read_from(
     alloc: Global,
     from: u64,
