@@ -156,14 +156,28 @@ def random_part(rng, window, broken):
     return part
 
 
+def long_values(part):
+    """The values of more than nine digits that these events have, each once, in their order: they have short names."""
+    return list(dict.fromkeys(event.kind[-1] for event in part if event.kind[0] in "WNV" and event.kind[-1] >= 10**9))
+
+
+def shown(kind, values):
+    """An event's kind as it is drawn."""
+    named = kind[0] in "WNV" and kind[-1] in values
+    return words([*kind[:-1], f"v{values.index(kind[-1]) + 1}"]) if named else words(kind)
+
+
 def drawing_of(states, part, window, mark):
     """What `show --why` draws of a part of a window, up to the comma and from the heads on."""
+    values = long_values(part)
     told = [*[f"    state  {words(state)}" for state in states], f"    part   {len(part)} of {len(window)} events"]
     heads = f"    event  {'       '.join(f'thread {thread}' for thread in range(max(event.thread for event in part) + 1))}"
     own = {event: f"T{number} " for number, t in enumerate(transactions(window), 1) for event in t.events}
     begun = {u.events[0] for u in transactions(part)}
-    rows = [f"{event.number:9d}{' ' * (2 + 15 * event.thread)}{own[event] if event in begun else '   '}{words(event.kind)}" for event in part]
-    return [*told, heads, *rows[:-1], f"{rows[-1].ljust(len(heads))}  {mark}"]
+    names = {event: own[event] if event in begun else "   " for event in part}
+    rows = [f"{event.number:9d}{' ' * (2 + 15 * event.thread)}{names[event]}{shown(event.kind, values)}" for event in part]
+    lines = [f"    value  v{number} is {value}" for number, value in enumerate(values, 1)]
+    return [*told, heads, *rows[:-1], f"{rows[-1].ljust(len(heads))}  {mark}", *lines]
 
 
 def compare(program, criterion, start, events):
@@ -184,8 +198,9 @@ def compare(program, criterion, start, events):
     assert not has_order(criterion, states, window), "the window has an order"
     assert has_order(criterion, states, window[:-1]), "the window is violated before its end"
     drawn = [line.partition(",")[0] if line.startswith("    part") else line for line in lines if not line.startswith("    why")]
+    part = tuple(events[int(row[:9]) - 1] for row in drawn[len(states) + 2 :] if not row.startswith("    value"))
     why = [line.removeprefix("    why    ") for line in lines if line.startswith("    why")]
-    part = tuple(events[int(row[:9]) - 1] for row in drawn[len(states) + 2 :])
+    why = [re.sub(r"\bv(\d+)", lambda name: str(long_values(part)[int(name[1]) - 1]), line) for line in why]
     assert drawn == drawing_of(states, part, window, mark), "another drawing"
     assert part == tuple(event for event in window if event in part), "events out of order, or not of the window"
     assert is_part(part, window), "no part"
