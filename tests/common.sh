@@ -40,6 +40,8 @@ ends() {
         echo "$name: $({ [ -z "${last:-}" ] || tail -n 1 "$folder/output"; } | grep . || echo passed)"
     else
         echo "$name: FAILED, status $status"
+        # (which rows of a script, if its end doesn't show them)
+        head -n -40 "$folder/output" | grep ': FAILED, status' || true
         tail -n 40 "$folder/output"
     fi
 }
