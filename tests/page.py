@@ -137,6 +137,9 @@ def wanted(trace, text):
     rows = {int(number) for number in re.findall(r'^ *(\d+)  ', text, re.M)}
     is_part = re.search(r'^    part   \d', text, re.M)
     why = [line.split(None, 1)[1] for line in lines if line.startswith('    why    ')]
+    names = dict(re.fullmatch(r'    value  (v\d+) is (\d+)', line).groups() for line in lines if line.startswith('    value  '))
+    # (the page has digits)
+    why = [re.sub(r'\bv\d+', lambda name: names[name[0]], line) for line in why]
     return {'why': '; '.join(why) or None, 'needed': ''.join('01'[number in rows] for number in range(cut + 1, end + 1)) if is_part else None,
             'report': report, 'line': lines[0], 'start': max(cut + 1, end - MOST + 1), 'cut': cut, 'end': end, 'transactions': transactions,
             'events': events[cut:end], 'states': [line.split()[1:] for line in lines if line.startswith('    state')],
