@@ -12,7 +12,7 @@ with_first_both true b c d same = same
 with_first_both false b c d same = refl
 
 -- the operations after others are answered what those leave
-reads_hold-append : (s : State) (one two : List Op)
+pub reads_hold-append : (s : State) (one two : List Op)
     → reads_hold s (one ++ two) ≡ (reads_hold s one && reads_hold (after_writes s one) two)
 reads_hold-append s [] two = refl
 reads_hold-append s (Read q w ∷ one) two = with_first (slice_index s q.number == w) _ _ _ (reads_hold-append s one two)

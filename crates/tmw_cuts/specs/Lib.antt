@@ -1,8 +1,9 @@
+pub mod Descriptors
 pub mod Effects
-pub mod Marking
 pub mod Members
 pub mod Registers
 pub mod Replaying
 pub mod Standing
+pub mod Turns
 pub mod Views
 pub mod Written

@@ -1,11 +1,21 @@
 -- Which events a window stands for: it shows their transactions, in the order of their first events.
-use Rattle.std.specs.Prelude.{◌≡◌, ◌+◌, ◌*◌, ◌<◌, ℕ, List, [], ◌∷◌, length, map, position, slice_index, nat_lt, Option, Some, None, if◌then◌else◌}
+use Rattle.std.specs.Prelude.{◌≡◌, ◌+◌, ◌*◌, ◌<◌, ◌++◌, ℕ, List, [], ◌∷◌, length, map, take, slice_index_or, Ok, false, true, IsTrue, Bool, Option, option_map}
 use Rattle.tmw_events.specs.declared.event.Event.{Event}
-use Rattle.tmw_defs.specs.History.{Txn, operations, status_of, transactions}
+use Rattle.tmw_events.specs.declared.event.Kind.{Kind}
+use Rattle.tmw_defs.specs.Cuts.{is_cut}
+use Rattle.tmw_defs.specs.History.{Txn, operations, status_of, transactions, is_well_formed}
 use Rattle.tmw_defs.specs.Opaque.{precedes}
+use Rattle.tmw_wellformed.specs.Faults.{lacks_register}
 use Rattle.tmw_wellformed.specs.Pending.{call_of}
+use Rattle.tmw_cuts.specs.declared.turn.Move.{Move}
+use Rattle.tmw_cuts.specs.declared.turn.Move.TheVariants.{Begin, End}
+use Rattle.tmw_cuts.specs.declared.turn.Turn.{Turn}
+use Rattle.tmw_cuts.specs.declared.turn.Turn.TheVariants.{Between}
+use Rattle.tmw_cuts.specs.declared.txn.Txn as cuts
 use Rattle.tmw_cuts.specs.declared.window.Window.{Window}
-use Rattle.tmw_cuts.specs.Views.{View, view, bit, is_open_for, completed_mask}
+use Rattle.tmw_cuts.specs.Descriptors.{Descriptor}
+use Rattle.tmw_cuts.specs.Turns.{Found, after_call, find_open, found_in, kept_in}
+use Rattle.tmw_cuts.specs.Views.{View, view, bit, completed_mask}
 
 -- The number whose bit j says that transaction j of these precedes this one in real time.
 abbrev pub before_of : List Txn → Txn → ℕ
@@ -13,7 +23,14 @@ before_of [] u = 0
 before_of (t ∷ ts) u = bit (precedes t u) + 2 * before_of ts u
 
 abbrev pub view_of : List Txn → Txn → View
-view_of ts t = record {
+view_of ts t = record { ops = operations t.text; status = status_of t.text; before = before_of ts t }
+
+-- What is to be shown of these events.
+abbrev pub views_of : List Event → List View
+views_of events = map (view_of (transactions events)) (transactions events)
+
+abbrev pub descriptor_of : List Txn → Txn → Descriptor
+descriptor_of ts t = record {
   thread = t.thread;
   call = call_of t.text;
   ops = operations t.text;
@@ -21,36 +38,65 @@ view_of ts t = record {
   before = before_of ts t;
 }
 
--- What is to be shown of these events.
-abbrev pub views_of : List Event → List View
-views_of events = map (view_of (transactions events)) (transactions events)
+-- What these events tell of their transactions.
+abbrev pub descriptors_of : List Event → List Descriptor
+descriptors_of events = map (descriptor_of (transactions events)) (transactions events)
+
+-- The transactions that the window has.
+abbrev pub txns_of : Window → List cuts.Txn
+txns_of window = take window.count window.slots
 
 -- What the window shows.
 abbrev pub views : Window → List View
-views window = map view window.txns.items
+views window = map view (txns_of window)
 
 -- How many transactions it shows.
 abbrev pub count_of : Window → ℕ
 count_of window = length (views window)
 
--- A place below eight is that of a transaction.
-abbrev pub shown : ℕ → Option ℕ
-shown place = if nat_lt place 8 then Some place else None
-
--- The place of the transaction that the thread has open, by what is noted of each thread.
-abbrev pub open_at : List ℕ → ℕ → Option ℕ
-open_at places thread = shown (slice_index places thread)
-
--- What it notes of each thread: the place of its open transaction.
-abbrev pub places_of : Window → List ℕ
-places_of window = window.places
+-- Where it has the thread.
+abbrev pub turn_at : Window → ℕ → Turn
+turn_at window thread = slice_index_or window.turns thread Between
 
 -- What it notes of its transactions: those that have completed, as a mask.
 abbrev pub completed_of : Window → ℕ
 completed_of window = window.completed
 
+-- The events are well-formed; the window shows their transactions, has for each thread the place of its open one and its pending call,
+-- and knows which have completed.
 pub record StandsFor (window : Window) (events : List Event) : Type 0 where
+  pub formed : IsTrue (is_well_formed window.registers.number events)
+  pub turns : (thread : ℕ) → thread < 8 → found_in (turn_at window thread) ≡ find_open thread (descriptors_of events)
   pub shows : views window ≡ views_of events
-  -- what it notes of each thread, and of those that have completed, is so
-  pub opens : (thread : ℕ) → thread < 8 → open_at (places_of window) thread ≡ position (is_open_for thread) (views_of events)
   pub masks : completed_of window ≡ completed_mask (views_of events)
+
+-- This is what the event is to its thread, and the run has the register that it names.
+pub record IsNext (window : Window) (event : Event) (move : Move) : Type 0 where
+  pub has : lacks_register window.registers.number event.kind ≡ false
+  pub moves : after_call (kept_in (turn_at window event.thread.number)) event.kind ≡ Ok move
+
+-- How many transactions an event begins.
+abbrev pub begun_by : Move → ℕ
+begun_by Begin = 1
+begun_by _ = 0
+
+-- It ends one.
+abbrev pub is_end : Move → Bool
+is_end (End p) = true
+is_end _ = false
+
+-- The window stands for the events with this one too; there is one transaction more if it begins one, and no cut unless it ends one.
+pub record Takes (window : Window) (events : List Event) (event : Event) (move : Move) : Type 0 where
+  pub stands : StandsFor window (events ++ event ∷ [])
+  pub begun : length (transactions (events ++ event ∷ [])) ≡ length (transactions events) + begun_by move
+  pub uncut : is_end move ≡ false → is_cut (events ++ event ∷ []) ≡ false
+
+-- The calls of a thread's open transaction that have no answer: none, or one, or that it has no open transaction.
+abbrev pub calls_in : Found → Option (Option Kind)
+calls_in found = option_map (λ f. f.1) found
+
+-- The history, of a run with so many registers, is well-formed, and each thread's turn has the pending call of its open transaction.
+pub record Follows (registers : ℕ) (history : List Event) (window : Window) : Type 0 where
+  pub number : window.registers.number ≡ registers
+  pub formed : IsTrue (is_well_formed registers history)
+  pub calls : (thread : ℕ) → thread < 8 → calls_in (found_in (turn_at window thread)) ≡ calls_in (find_open thread (descriptors_of history))

@@ -53,6 +53,16 @@ impl Effect {
         }
     }
 
+    /// Forgets the operations.
+    #[inline(always)]
+    pub(crate) fn clear(&mut self)
+        ensures { IsEffectOf self.new [] }
+    {
+        self.needed = 0;
+        self.left = 0;
+        self.agrees = true;
+    }
+
     /// Takes an answer of the register in: the operations before, or else the state, have to give that value. Which of them is chosen
     /// without a jump, since no processor foresees it.
     #[inline(always)]

@@ -1,5 +1,5 @@
 ghost use Rattle.std.specs.Prelude.{◌≡◌, [], ◌∷◌, MatchOption, Some};
-ghost use Rattle.tmw_defs.specs.History.{is_over, operation, status_after};
+ghost use Rattle.tmw_defs.specs.History.{operation, status_after};
 
 use tmw_defs::{Op, Status};
 use tmw_events::Kind;
@@ -27,12 +27,4 @@ pub fn status_after(last: Kind) -> Status
         Kind::T => Status::Pending,
         Kind::R(_) | Kind::V(_) | Kind::W(_, _) | Kind::K | Kind::X | Kind::N(_, _) => Status::Live,
     }
-}
-
-/// Tells whether a transaction is over with an event of this kind.
-#[inline(always)]
-pub fn ends(last: Kind) -> bool
-    ensures { result ≡ is_over (status_after (Some last)) }
-{
-    matches!(last, Kind::C | Kind::A)
 }

@@ -3,18 +3,18 @@
 
 mod effect;
 mod kinds;
-mod mark;
 mod mask;
 mod operations;
 mod states;
+mod turn;
 mod txn;
 mod window;
 
 pub use effect::Effect;
 pub use kinds::{operation, status_after};
-pub use mark::Mark;
 pub use mask::lowest;
 pub use operations::Operations;
 pub use states::{State, States};
+pub use turn::{Move, Turn};
 pub use txn::Txn;
 pub use window::Window;

@@ -1,7 +1,5 @@
-ghost use Rattle.std.specs.Prelude.{◌≡◌, ◌<◌, ◌++◌, None, IsTrue, IsFalse, length};
-ghost use Rattle.std.specs.List.{list_all};
-ghost use Rattle.tmw_events.specs.declared.event.Kind.TheVariants.{V};
-ghost use Rattle.tmw_defs.specs.History.{is_over};
+ghost use Rattle.std.specs.Prelude.{◌≡◌, ◌<◌, [], ◌∷◌, ◌++◌, IsTrue, length};
+ghost use Rattle.std.specs.Option.{option_to_list};
 ghost use Rattle.tmw_defs.specs.Opaque.{State, reads_hold, after_writes};
 ghost use Rattle.tmw_cuts.specs.Effects.{IsEffectOf, IsEffectOf-prop, leaves_none};
 ghost use Rattle.tmw_cuts.specs.Registers.{IsMaskOf};
@@ -9,11 +7,11 @@ ghost use Rattle.tmw_cuts.specs.Replaying.{Replays};
 ghost use Rattle.tmw_cuts.specs.Written.{writes, needs};
 
 use crate::effect::Effect;
-use crate::kinds::{operation, status_after};
+use crate::kinds::status_after;
 use crate::operations::Operations;
 use crate::states::State;
-use tmw_defs::Status;
-use tmw_events::{Event, Ix, Kind};
+use tmw_defs::{Op, Status};
+use tmw_events::Kind;
 
 /// A transaction of a window.
 #[derive(Debug, Drop)]
@@ -23,60 +21,47 @@ pub struct Txn {
     pub status: Status,
     /// Bit j says that transaction j of the window had completed before this one's first event.
     pub before: u8,
-    thread: Ix,
-    call: Option<Kind>,
     /// What its operations need and leave.
     effect: Effect,
     pub ghost sums: { IsEffectOf effect ops.items } by { IsEffectOf-prop effect ops.items },
 }
 
 impl Txn {
-    ghost use Rattle.tmw_cuts.specs.Views.{view, effect_of, new_view, next_view, awaits_commit_of, answered_ops};
+    ghost use Rattle.tmw_cuts.specs.Views.{effect_of, new_view, next_view, view};
 
-    /// Makes a transaction that begins with this event, where those in the mask have completed.
-    #[inline(always)]
-    pub(crate) fn new(event: Event, before: u8) -> Txn
-        ensures { view result ≡ new_view event.thread.number event.kind before }
+    /// Makes one that begins with an event of this kind, where those in the mask have completed.
+    pub(crate) fn new(kind: Kind, before: u8) -> Txn
+        ensures { view result ≡ new_view kind before }
     {
         Txn {
             ops: Operations::new(),
-            status: status_after(event.kind),
+            status: status_after(kind),
             before,
-            thread: event.thread,
-            call: Some(event.kind),
             effect: Effect::new(),
         }
     }
 
-    /// Tells whether it has committed or aborted.
-    pub(crate) fn is_over(&self) -> bool
-        ensures { result ≡ is_over self.now.status }
+    /// Begins another with an event of this kind, where those in the mask have completed.
+    #[inline(always)]
+    pub(crate) fn begin(&mut self, kind: Kind, before: u8)
+        ensures { view self.new ≡ new_view kind before }
     {
-        matches!(self.status, Status::Committed | Status::Aborted)
+        self.ops = Operations::new();
+        self.status = status_after(kind);
+        self.before = before;
+        self.effect.clear();
     }
 
-    /// Takes its next event.
+    /// Takes its next event, which makes this operation if it makes one.
     #[inline(always)]
-    pub(crate) fn add(&mut self, kind: Kind)
-        ensures { view self.new ≡ next_view kind (view self.old) }
+    pub(crate) fn add(&mut self, kind: Kind, op: Option<Op>)
+        ensures { view self.new ≡ next_view kind (option_to_list op) (view self.old) }
     {
-        if let Some(call) = self.call {
-            if let Some(op) = operation(call, kind) {
-                self.ops = self.ops.then(&Some(op));
-                self.effect.add(op);
-            }
-            self.call = None;
-        } else {
-            self.call = Some(kind);
+        if let Some(op) = op {
+            self.ops = self.ops.then(&Some(op));
+            self.effect.add(op);
         }
         self.status = status_after(kind);
-    }
-
-    /// Tells whether it is the thread's, and commit-pending.
-    pub(crate) fn awaits_commit(&self, thread: Ix) -> bool
-        ensures { result ≡ awaits_commit_of thread.number (view self.now) }
-    {
-        self.thread == thread && self.status == Status::Pending
     }
 
     /// Returns what its operations need and leave.
@@ -104,18 +89,18 @@ impl Txn {
         self.effect.after(state)
     }
 
-    /// Tells whether each of its operations was answered what the registers held then, its pending call too if that
-    /// is answered this value. The result counts only if each was without that call.
+    /// Tells whether each of its operations was answered what the registers held then, this one after them too. The result counts only
+    /// if each was without it.
     #[inline(always)]
-    pub fn fits_answer(&self, state: &State, value: u64) -> bool
+    pub fn fits_more(&self, state: &State, op: Op) -> bool
         ensures { IsTrue (reads_hold state.now self.now.ops.items)
-            → result ≡ reads_hold state.now
-            (self.now.ops.items ++ answered_ops (view self.now).call (V value)) }
+            → result ≡ reads_hold state.now (self.now.ops.items ++ op ∷ []) }
     {
-        match self.call {
-            Some(Kind::R(register)) => self.effect.value_after(state, register) == value,
-            Some(Kind::N(register, _)) => self.effect.value_after(state, register) == value,
-            _ => true,
+        match op {
+            Op::Read(register, value) | Op::Add(register, _, value) => {
+                self.effect.value_after(state, register) == value
+            }
+            Op::Write(_, _) => true,
         }
     }
 
@@ -151,20 +136,7 @@ impl Txn {
             ops: self.ops.then(&None),
             status: self.status,
             before: self.before,
-            thread: self.thread,
-            call: self.call,
             effect: self.effect,
         }
-    }
-}
-
-impl Default for Txn {
-    /// One that fills a place where no transaction is.
-    fn default() -> Txn {
-        let event = Event {
-            thread: Ix { number: 0 },
-            kind: Kind::X,
-        };
-        Txn::new(event, 0)
     }
 }

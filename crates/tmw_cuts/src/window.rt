@@ -1,51 +1,88 @@
-ghost use Rattle.std.specs.Prelude.{◌≡◌, ◌*◌, ◌%◌, ◌^◌, ◌<◌, ◌≤◌, [], ◌∷◌, ◌++◌, List, Some, IfSome, IsTrue, true, length, map, position, slice_set, bit_or, min, if◌then◌else◌};
-ghost use Rattle.std.specs.List.{list_all, list_any};
-ghost use Rattle.tmw_defs.specs.History.{is_over};
-ghost use Rattle.tmw_cuts.specs.Views.{view, is_open_for, awaits_commit_of, completed_mask};
+ghost use Rattle.std.specs.Prelude.{Some, slice_get, ◌≡◌, ◌*◌, ◌%◌, ◌^◌, ◌+◌, ◌<◌, ◌≤◌, [], ◌∷◌, ◌++◌, ℕ, List, IfOk, IfErr, OnOk, OnErr, IsTrue, take, length, map};
+ghost use Rattle.std.specs.Option.{option_to_list};
+ghost use Rattle.tmw_wellformed.specs.Faults.{lacks_register};
+ghost use Rattle.tmw_cuts.specs.Turns.{change};
+ghost use Rattle.tmw_cuts.specs.Views.{next_view, view};
 
-use crate::kinds::ends;
-use crate::mark::Mark;
-use crate::mask::completed_mask;
+use crate::turn::{Move, Turn, asking};
 use crate::txn::Txn;
-use arrayvec::ArrayVec;
-use tmw_defs::Criterion;
+use tmw_defs::{Criterion, Op, Status};
 use tmw_events::{Event, Ix, Kind, Registers};
-use tmw_wellformed::Note;
+use tmw_wellformed::{Malformed, Note};
 
-/// The transactions of the events since the last cut, which are at most eight. It holds no event, and no operation.
+/// The transactions of the events since the last cut, which are at most eight, and where each thread is. It holds no event, and no
+/// operation.
 #[derive(Debug, Drop)]
 pub struct Window {
     /// The registers of the run.
     pub registers: Registers,
-    txns: ArrayVec<Txn, 8>,
-    /// The place of the transaction that each thread has open, or 8.
-    places: [u8; 8],
+    turns: [Turn; 8],
+    /// The places of the transactions.
+    slots: [Txn; 8],
+    /// How many of them are used.
+    count: u8,
     /// Those that have committed or aborted, as a mask.
     completed: u8,
+    pub ghost few: { count ≤ 8 },
+    pub ghost eight: { length slots ≡ 8 },
 }
 
-/// Tells whether each of these transactions has committed or aborted.
-fn are_over(txns: &[Txn]) -> bool
-    ensures { result ≡ list_all (λ txn. is_over txn.status) txns.now }
+/// Fills the places before there is a transaction.
+fn no_txns() -> [Txn; 8]
+    ensures { length result ≡ 8 }
 {
-    txns.iter().all(|txn| txn.is_over())
+    [
+        Txn::new(Kind::X, 0),
+        Txn::new(Kind::X, 0),
+        Txn::new(Kind::X, 0),
+        Txn::new(Kind::X, 0),
+        Txn::new(Kind::X, 0),
+        Txn::new(Kind::X, 0),
+        Txn::new(Kind::X, 0),
+        Txn::new(Kind::X, 0),
+    ]
 }
 
-/// Whether the thread has a transaction that is commit-pending.
-fn any_awaits_commit(txns: &[Txn], thread: Ix) -> bool
-    ensures { result ≡ list_any (λ txn. awaits_commit_of thread.number (view txn)) txns.now }
+/// Makes transactions that show the same.
+fn copy_txns(slots: &[Txn; 8]) -> [Txn; 8]
+    ensures shown { map view result ≡ map view slots.now }
+    ensures eight { length result ≡ 8 }
 {
-    txns.iter().any(|txn| txn.awaits_commit(thread))
+    let mut copied = no_txns();
+    for place in 0..8usize {
+        copied[place] = slots[place].copy();
+    }
+    copied
 }
 
-/// Puts a transaction in its place again.
-fn put_back(txns: &mut ArrayVec<Txn, 8>, held: (usize, Txn))
-    ensures { held.0 < length txns.old.items
-        → txns.new.items ≡ slice_set txns.old.items held.0 held.1 }
+/// Gives the transaction at the place its next event, which makes the operation if it makes one.
+#[inline(always)]
+fn put(slots: &mut [Txn; 8], place: Ix, kind: Kind, op: Option<Op>)
+    ensures shown { (count : ℕ) → count ≤ 8 → map view (take count slots.new)
+        ≡ change place.number (next_view kind (option_to_list op)) (map view (take count slots.old)) }
+    ensures eight { length slots.new ≡ 8 }
 {
-    let (place, txn) = held;
-    if place < txns.len() {
-        txns[place] = txn;
+    slots[place.get() as usize].add(kind, op);
+}
+
+/// The mask of this place.
+#[inline(always)]
+fn bit_of(place: Ix) -> u8
+    ensures { result ≡ 1 * 2 ^ place.number % 2 ^ 8 }
+{
+    1 << place.get()
+}
+
+/// Whether the event is a call on a register that the run does not have.
+#[inline(always)]
+fn lacks_register(registers: Registers, kind: Kind) -> bool
+    ensures { result ≡ lacks_register registers.number kind }
+{
+    match kind {
+        Kind::R(register) | Kind::W(register, _) | Kind::N(register, _) => {
+            register.get() >= registers.get()
+        }
+        Kind::V(_) | Kind::K | Kind::T | Kind::C | Kind::X | Kind::A => false,
     }
 }
 
@@ -53,11 +90,11 @@ impl Window {
     ghost use Rattle.tmw_events.specs.declared.event.Event.{Event};
     ghost use Rattle.tmw_defs.specs.Criteria.{is_quiet_by};
     ghost use Rattle.tmw_defs.specs.Cuts.{is_cut};
-    ghost use Rattle.tmw_defs.specs.History.{transactions};
+    ghost use Rattle.tmw_defs.specs.Quiet.{awaits_commit};
+    ghost use Rattle.tmw_defs.specs.History.{is_well_formed, transactions};
+    ghost use Rattle.tmw_wellformed.specs.Faults.{Refuses};
     ghost use Rattle.tmw_wellformed.specs.Notes.{Notes};
-    ghost use Rattle.tmw_wellformed.specs.declared.note.Note.{Note};
-    ghost use Rattle.tmw_cuts.specs.Marking.{Marks, thread_of};
-    ghost use Rattle.tmw_cuts.specs.Standing.{StandsFor, views, views_of, count_of};
+    ghost use Rattle.tmw_cuts.specs.Standing.{Follows, IsNext, StandsFor, Takes, begun_by, count_of, turn_at, views, views_of};
 
     /// Makes the window of no event.
     pub fn open(registers: Registers) -> Window
@@ -66,164 +103,130 @@ impl Window {
     {
         Window {
             registers,
-            txns: ArrayVec::new(),
-            places: [8; 8],
+            turns: [Turn::Between; 8],
+            slots: no_txns(),
+            count: 0,
             completed: 0,
         }
     }
 
     /// Returns how many transactions it has.
+    #[inline(always)]
     pub fn count(&self) -> u8
         ensures shown { result ≡ count_of self.now }
         ensures stands { (events : List Event) → StandsFor self.now events
             → result ≡ length (transactions events) }
     {
-        self.txns.len() as u8
+        self.count
     }
 
     /// Tells whether each transaction has committed or aborted.
+    #[inline(always)]
     pub fn is_cut(&self) -> bool
         ensures { (events : List Event) → StandsFor self.now events → result ≡ is_cut events }
     {
-        are_over(self.txns.as_slice())
+        u32::from(self.completed) + 1 == 1 << self.count
     }
 
     /// Returns the transactions, in the order of their first events.
+    #[inline(always)]
     pub fn transactions(&self) -> &[Txn]
         ensures shown { map view result.now ≡ views self.now }
         ensures stands { (events : List Event) → StandsFor self.now events
             → map view result.now ≡ views_of events }
         ensures few { length result.now ≤ 8 }
     {
-        self.txns.as_slice()
+        &self.slots[..self.count as usize]
+    }
+
+    /// Returns the transaction at the place. The result counts only if there is one.
+    #[inline(always)]
+    pub fn slot(&self, place: Ix) -> &Txn
+        ensures { place.number < count_of self.now
+            → slice_get (views self.now) place.number ≡ Some (view result.now) }
+    {
+        &self.slots[place.get() as usize]
+    }
+
+    /// Returns where the thread is.
+    #[inline(always)]
+    pub fn turn_of(&self, thread: Ix) -> Turn
+        ensures { result ≡ turn_at self.now thread.number }
+    {
+        self.turns[thread.get() as usize]
+    }
+
+    /// Returns what the next event is to its thread, if the events stay well-formed with it. A refusal names the first of the faults
+    /// that the event has.
+    #[inline(always)]
+    pub fn next(&self, event: Event) -> Result<Move, Malformed>
+        ensures ok { IfOk result (IsNext self.now event) }
+        ensures err { IfErr result (λ fault. (registers : ℕ) (history : List Event)
+            → Follows registers history self.now → Refuses registers history event fault) }
+    {
+        if lacks_register(self.registers, event.kind) {
+            return Err(Malformed::Register);
+        }
+        self.turn_of(event.thread).next(event.kind)
+    }
+
+    /// Takes the next event, which is this to its thread.
+    #[inline(always)]
+    pub fn take(&mut self, event: Event, step: Move)
+        requires room { count_of self.old + begun_by step ≤ 8 }
+        ensures takes { (events : List Event) → StandsFor self.old events
+            → IsNext self.old event step → Takes self.new events event step }
+        ensures registers { self.new.registers ≡ self.old.registers }
+    {
+        let thread = event.thread.get() as usize;
+        match step {
+            Move::Begin => {
+                let place = Ix { number: self.count };
+                self.slots[place.get() as usize].begin(event.kind, self.completed);
+                self.count += 1;
+                self.turns[thread] = asking(place, event.kind);
+            }
+            Move::Ask(place) => {
+                put(&mut self.slots, place, event.kind, None);
+                self.turns[thread] = asking(place, event.kind);
+            }
+            Move::Answer(place, op) => {
+                put(&mut self.slots, place, event.kind, Some(op));
+                self.turns[thread] = Turn::Within(place);
+            }
+            Move::End(place) => {
+                put(&mut self.slots, place, event.kind, None);
+                self.turns[thread] = Turn::Between;
+                self.completed |= bit_of(place);
+            }
+        }
     }
 
     /// Takes the next event of a well-formed history. The note says whether it begins a transaction.
-    #[inline(always)]
     pub fn push(&mut self, event: Event, note: Note)
         requires room { IsTrue note.begins → count_of self.old < 8 }
-        ensures stands { (events : List Event) → StandsFor self.old events → Notes events event note
-            → StandsFor self.new (events ++ event ∷ []) }
-        ensures registers { self.new.registers ≡ self.old.registers }
-    {
-        if note.begins {
-            self.push_new(event);
-        } else if let Some(place) = self.open_place(event.thread) {
-            self.push_at(place, event);
-        }
-    }
-
-    /// Takes the next event of a well-formed history, which begins a transaction.
-    #[inline(always)]
-    pub fn push_new(&mut self, event: Event)
-        requires room { count_of self.old < 8 }
-        ensures stands { (events : List Event) (note : Note) → note.begins ≡ true
-            → StandsFor self.old events → Notes events event note
-            → StandsFor self.new (events ++ event ∷ []) }
-        ensures registers { self.new.registers ≡ self.old.registers }
-    {
-        let place = self.txns.len();
-        self.txns.push(Txn::new(event, self.completed));
-        self.note(event.thread, place, ends(event.kind));
-    }
-
-    /// Takes the next event of a well-formed history, that of the transaction at this place, which is open for its
-    /// thread.
-    #[inline(always)]
-    pub fn push_at(&mut self, place: usize, event: Event)
-        requires within { place < count_of self.old }
         ensures stands { (events : List Event) → StandsFor self.old events
-            → position (is_open_for event.thread.number) (views_of events) ≡ Some place
-            → StandsFor self.new (events ++ event ∷ []) }
+            → IsTrue (is_well_formed self.old.registers.number (events ++ event ∷ []))
+            → Notes events event note → StandsFor self.new (events ++ event ∷ []) }
         ensures registers { self.new.registers ≡ self.old.registers }
     {
-        self.txns[place].add(event.kind);
-        self.note(event.thread, place, ends(event.kind));
-    }
-
-    /// Notes the thread's open transaction, which is at this place, or that it is over.
-    #[inline(always)]
-    fn note(&mut self, thread: Ix, place: usize, over: bool)
-        requires { place < 8 }
-        ensures places { self.new.places
-            ≡ slice_set self.old.places thread.number (if over then 8 else place) }
-        ensures completed { self.new.completed
-            ≡ (if over then bit_or self.old.completed (1 * 2 ^ place % 2 ^ 8)
-            else self.old.completed) }
-        ensures others { (self.new.txns ≡ self.old.txns)
-            × (self.new.registers ≡ self.old.registers) }
-    {
-        let thread = thread.get() as usize;
-        if over {
-            self.completed |= 1 << place;
-            self.places[thread] = 8;
-        } else {
-            self.places[thread] = place as u8;
+        let Ok(step) = self.next(event) else {
+            return;
+        };
+        if note.begins || !matches!(step, Move::Begin) {
+            self.take(event, step);
         }
     }
 
-    /// Returns the place of the transaction to which the thread's next event belongs, if the thread has one that has
-    /// not ended.
-    #[inline(always)]
-    pub fn open_place(&self, thread: Ix) -> Option<usize>
-        ensures within { IfSome result (λ place. place < count_of self.now) }
-        ensures stands { (events : List Event) → StandsFor self.now events
-            → result ≡ position (is_open_for thread.number) (views_of events) }
+    /// Whether the thread has a transaction that is commit-pending.
+    fn awaits_commit(&self, thread: Ix) -> bool
+        ensures { (events : List Event) → StandsFor self.now events
+            → result ≡ awaits_commit (transactions events) thread.number }
     {
-        let place = self.places[thread.get() as usize] as usize;
-        if place < self.txns.len() {
-            Some(place)
-        } else {
-            None
+        match self.turn_of(thread).place() {
+            Some(place) => matches!(self.slot(place).status, Status::Pending),
+            None => false,
         }
-    }
-
-    /// Notes what the next event of the thread will change, so that it can be taken back.
-    pub fn mark(&self, thread: Ix) -> Mark
-        ensures thread { thread_of result ≡ thread }
-        ensures marks { (events : List Event) → StandsFor self.now events
-            → Marks result (views_of events) }
-    {
-        match self.open_place(thread) {
-            Some(place) => Mark {
-                thread,
-                held: Some((place, self.txns[place].copy())),
-            },
-            None => Mark { thread, held: None },
-        }
-    }
-
-    /// Takes back the last event, before which the mark was made.
-    pub fn take_back(&mut self, mark: Mark)
-        ensures stands { (events : List Event) (event : Event) → event.thread ≡ thread_of mark
-            → Marks mark (views_of events) → StandsFor self.old (events ++ event ∷ [])
-            → StandsFor self.new events }
-        ensures registers { self.new.registers ≡ self.old.registers }
-    {
-        let Mark { thread, held } = mark;
-        match held {
-            Some(held) => {
-                let place = held.0;
-                put_back(&mut self.txns, held);
-                self.note_again(thread, place);
-            }
-            None => {
-                let _begun = self.txns.pop();
-                self.note_again(thread, 8);
-            }
-        }
-    }
-
-    /// Notes the place of the thread's open transaction, or 8, and those that have completed.
-    fn note_again(&mut self, thread: Ix, place: usize)
-        ensures places { self.new.places ≡ slice_set self.old.places thread.number (min place 8) }
-        ensures completed { self.new.completed ≡ completed_mask (views self.old) }
-        ensures few { length (views self.old) ≤ 8 }
-        ensures others { (self.new.txns ≡ self.old.txns)
-            × (self.new.registers ≡ self.old.registers) }
-    {
-        self.places[thread.get() as usize] = place.min(8) as u8;
-        self.completed = completed_mask(self.txns.as_slice());
     }
 
     /// Tells whether the event can't break the criterion. Such an event answers no commit request; by opacity it is
@@ -236,7 +239,7 @@ impl Window {
         match event.kind {
             Kind::V(_) => criterion == Criterion::Strict,
             Kind::C => false,
-            Kind::A => !any_awaits_commit(self.txns.as_slice(), event.thread),
+            Kind::A => !self.awaits_commit(event.thread),
             _ => true,
         }
     }
@@ -246,9 +249,41 @@ impl Window {
         ensures stands { StandsFor self.new [] }
         ensures registers { self.new.registers ≡ self.old.registers }
     {
-        self.txns.clear();
-        self.places = [8; 8];
+        self.turns = [Turn::Between; 8];
+        self.count = 0;
         self.completed = 0;
+    }
+
+    /// Forgets the transactions, but not where the threads are.
+    pub fn forget(&mut self)
+        ensures none { views self.new ≡ [] }
+        ensures follows { (registers : ℕ) (history : List Event)
+            → Follows registers history self.old → Follows registers history self.new }
+    {
+        self.count = 0;
+        self.completed = 0;
+    }
+
+    /// Goes on to where the threads are after the next event, whatever transactions there are, if the history stays well-formed with
+    /// it. A refusal changes nothing, and names the first of the faults that the event has.
+    #[inline(always)]
+    pub fn follow(&mut self, event: Event) -> Result<(), Malformed>
+        ensures ok { OnOk result ((registers : ℕ) (history : List Event)
+            → Follows registers history self.old
+            → Follows registers (history ++ event ∷ []) self.new) }
+        ensures err { IfErr result (λ fault. (registers : ℕ) (history : List Event)
+            → Follows registers history self.old → Refuses registers history event fault) }
+        ensures kept { OnErr result (self.new ≡ self.old) }
+        ensures shown { views self.new ≡ views self.old }
+    {
+        let step = self.next(event)?;
+        self.turns[event.thread.get() as usize] = match step {
+            Move::Begin => asking(Ix { number: 0 }, event.kind),
+            Move::Ask(place) => asking(place, event.kind),
+            Move::Answer(place, _) => Turn::Within(place),
+            Move::End(_) => Turn::Between,
+        };
+        Ok(())
     }
 
     /// Makes a window that stands for the same events.
@@ -258,14 +293,11 @@ impl Window {
             → StandsFor result events }
         ensures registers { result.registers ≡ self.now.registers }
     {
-        let mut txns = ArrayVec::new();
-        for txn in self.txns.as_slice() {
-            txns.push(txn.copy());
-        }
         Window {
             registers: self.registers,
-            txns,
-            places: self.places,
+            turns: self.turns,
+            slots: copy_txns(&self.slots),
+            count: self.count,
             completed: self.completed,
         }
     }

@@ -4,7 +4,7 @@ use Rattle.tmw_wellformed.proofs.TextSteps.{goes_on, is_text-push, pending_asks}
 use Rattle.tmw_wellformed.proofs.HistorySteps.{text_of}
 
 -- a call is no answer, and does not end its transaction
-answers_asked : (c k : Kind) → asks k ≡ true → answers c k ≡ false
+pub answers_asked : (c k : Kind) → asks k ≡ true → answers c k ≡ false
 answers_asked (R r) (V v) h = cc
 answers_asked (R r) A h = cc
 answers_asked (W r v) K h = cc
@@ -16,13 +16,13 @@ answers_asked T A h = cc
 answers_asked X A h = cc
 answers_asked _ _ h = refl
 
-ends_asked : (k : Kind) → asks k ≡ true → ends k ≡ false
+pub ends_asked : (k : Kind) → asks k ≡ true → ends k ≡ false
 ends_asked C h = cc
 ends_asked A h = cc
 ends_asked _ h = refl
 
 -- where the run has the register that an event names, the event is a call or an answer
-is_call_asked : (registers : ℕ) (k : Kind) → asks k ≡ true → lacks_register registers k ≡ false → is_call registers k ≡ true
+pub is_call_asked : (registers : ℕ) (k : Kind) → asks k ≡ true → lacks_register registers k ≡ false → is_call registers k ≡ true
 is_call_asked registers (R r) h has = not-false _ has
 is_call_asked registers (W r v) h has = not-false _ has
 is_call_asked registers (N r d) h has = not-false _ has
@@ -32,7 +32,7 @@ is_call_asked registers C h has = cc
 is_call_asked registers A h has = cc
 is_call_asked registers _ h has = refl
 
-is_call_answer : (registers : ℕ) (k : Kind) → asks k ≡ false → is_call registers k ≡ false
+pub is_call_answer : (registers : ℕ) (k : Kind) → asks k ≡ false → is_call registers k ≡ false
 is_call_answer registers (R r) h = cc
 is_call_answer registers (W r v) h = cc
 is_call_answer registers (N r d) h = cc

@@ -1,5 +1,6 @@
 -- A tracker that a history fits, one event further.
-use Rattle.tmw_wellformed.proofs.Shared.{Between, Bool, Err, Event, IsTrue, List, Malformed, None, Ok, Option, Phase, Refuses, Register, Some, TakesAs, Tracker, Txn, [], add_event, and_parts, ap, arith, both_ways, cases_Bool, cases_eq, count_by, ends, eq-eqb, eqb-true, false, inl, inr, is_ended, is_live, is_some, is_text, is_well_formed, lacks_register, length, list_all, live_count, live_of, ne_eqb, next_phase, not, not-true, pending_call, phase_of, refl, slice_get, slice_index_or, slice_set, subst, suc, sum_by-set, sym, texts_law, transactions, transactions-push, true, zero, ℕ, ◌&&◌, ◌++◌, ◌+◌, ◌<◌, ◌==◌, ◌↔◌, ◌∙◌, ◌∷◌, ◌≡◌, ◌≤◌}
+use Rattle.tmw_wellformed.proofs.Shared.{Between, Err, Event, IsTrue, List, Malformed, None, Ok, Option, Phase, Refuses, Register, Some, Txn, [], add_event, and_parts, ap, arith, both_ways, cases_Bool, cases_eq, count_by, ends, false, inl, inr, is_ended, is_live, is_some, is_text, is_well_formed, lacks_register, length, list_all, live_count, live_of, ne_eqb, next_phase, not, not-true, pending_call, phase_of, refl, slice_get, slice_index_or, slice_set, suc, sum_by-set, sym, texts_law, transactions, transactions-push, true, zero, ℕ, ◌&&◌, ◌++◌, ◌+◌, ◌<◌, ◌==◌, ◌↔◌, ◌∙◌, ◌∷◌, ◌≡◌}
+use Rattle.tmw_wellformed.specs.declared.tracker.Tracker.{Tracker}
 use Rattle.std.proofs.lemmas.Option.{get_or_from_slice_get, slice_get_within}
 use Rattle.tmw_wellformed.specs.declared.note.Note.{Note}
 use Rattle.tmw_wellformed.specs.declared.phases.Phases.{Phases}
@@ -154,7 +155,7 @@ notes-push registers history e old note tracks begins ends =
     }
 
 -- the event is refused
-refuses-from : (registers : ℕ) (history : List Event) (e : Event) (fault : Malformed) → IsTrue (is_well_formed registers history)
+pub refuses-from : (registers : ℕ) (history : List Event) (e : Event) (fault : Malformed) → IsTrue (is_well_formed registers history)
     → Rejects registers (pending_call e.thread.number history) e.kind fault → Refuses registers history e fault
 refuses-from registers history e fault formed rejects = record {
   ill_formed = is_well_formed-push registers history e formed ∙ rejects.stops;
@@ -184,36 +185,3 @@ is_cut-zero_live registers history tracker tracks = (
   λ none. all_ended (transactions history) (sym tracks.live ∙ none),
   λ ended. tracks.live ∙ count_by-all_ended (transactions history) ended,
 )
-
--- the event is taken, and begins or ends a transaction as told
-pub takes_as-push : (registers : ℕ) (history : List Event) (e : Event) (old new : Tracker) (was next : Phase) (cut : Bool) → Tracks registers history old
-    → lacks_register old.registers.number e.kind ≡ false
-    → was ≡ slice_index_or old.phases.by_thread e.thread.number Between
-    → next_phase was e.kind ≡ Ok next
-    → new.registers ≡ old.registers → new.phases.by_thread ≡ slice_set old.phases.by_thread e.thread.number next
-    → ((new.phases.live + flag (is_live was) ≡ old.phases.live + flag (is_live next)) → flag (is_live was) ≤ old.phases.live → (new.phases.live == 0) ≡ cut)
-    → TakesAs registers history e (not (is_live was)) cut new
-takes_as-push registers history e old new was next cut tracks has at is same_registers one_phase live =
-    let thread = e.thread.number in
-    let within = slice_get_within old.phases.by_thread thread _ (tracks.phases thread e.thread.below) in
-    let note : Note = record { begins = not (is_live was); ends = end_of e.kind } in
-    let after = tracks-push registers history e old new next tracks has (subst (λ (p : Phase). next_phase p e.kind ≡ Ok next) at is) same_registers one_phase in
-    let counted = live-set old.phases new.phases thread next within one_phase in
-    let without = sum_by-set (λ p. flag (is_live p)) old.phases.by_thread thread Between Between within in
-    let same : flag (is_live was) ≡ flag (is_live (slice_index_or old.phases.by_thread thread Between)) = ap (λ (p : Phase). flag (is_live p)) at in
-    let tells = is_cut-zero_live registers (history ++ e ∷ []) new after in
-    let counted_cut : (new.phases.live == 0) ≡ cut = live (omega (arith, counted, same)) (omega (arith, without, same, old.phases.counted)) in
-    record {
-      tracks = after;
-      note = note;
-      first = refl;
-      notes = notes-push registers history e old note tracks (ap (λ (p : Phase). not (is_live p)) at) refl;
-      ended =
-          elim (cases_Bool (new.phases.live == 0)) [
-            | inl none ↦ tells.0 (eqb-true new.phases.live 0 none) ∙ sym none ∙ counted_cut
-            | inr some ↦ elim (cases_Bool (is_cut (history ++ e ∷ []))) [
-              | inl ends_all ↦ let bad : true ≡ false = sym (eq-eqb new.phases.live 0 (tells.1 ends_all)) ∙ some in absurd (cc)
-              | inr uncut ↦ uncut ∙ sym some ∙ counted_cut
-            ]
-          ];
-    }

@@ -3,4 +3,3 @@ pub mod Faults
 pub mod Notes
 pub mod Phase
 pub mod Tracks
-pub mod GoingOn

@@ -1,13 +1,10 @@
-ghost use Rattle.std.specs.Prelude.{◌≡◌, ℕ, List, [], ◌∷◌, ◌++◌, ◌↔◌, IfOk, IfErr, IfSome, OnErr, Ok, IsTrue, IsFalse, true, false, slice_index_or, Some};
+ghost use Rattle.std.specs.Prelude.{◌≡◌, ℕ, List, [], ◌∷◌, ◌++◌, ◌↔◌, IfOk, IfErr, OnErr, IsTrue, Some};
 ghost use Rattle.tmw_events.specs.declared.event.Event.{Event};
 ghost use Rattle.tmw_events.specs.declared.event.Kind.TheVariants.{X};
 ghost use Rattle.tmw_defs.specs.Cuts.{is_cut};
 ghost use Rattle.tmw_wellformed.specs.Pending.{live_count, pending_call};
 ghost use Rattle.tmw_wellformed.specs.Notes.{Notes};
 ghost use Rattle.tmw_wellformed.specs.Faults.{lacks_register, Refuses};
-ghost use Rattle.tmw_wellformed.specs.GoingOn.{TakesAs};
-ghost use Rattle.tmw_wellformed.specs.Phase.{next_phase};
-ghost use Rattle.tmw_wellformed.specs.declared.phase.Phase.TheVariants.{Between};
 ghost use Rattle.tmw_wellformed.specs.Tracks.{Tracks};
 
 use crate::malformed::Malformed;
@@ -62,62 +59,6 @@ impl Tracker {
         })
     }
 
-    /// Takes the next event if it begins a transaction. Else it returns `false` and changes nothing, and `step` says
-    /// more. This and the two below take most events, in few steps.
-    #[inline(always)]
-    pub fn begin(&mut self, event: Event) -> bool
-        ensures takes { IsTrue result → (registers : ℕ) (history : List Event)
-            → Tracks registers history self.old
-            → TakesAs registers history event true false self.new }
-        ensures kept { IsFalse result → self.new ≡ self.old }
-    {
-        let Some((was, next)) = self.phases_of(event) else {
-            return false;
-        };
-        if was.is_live() || !next.is_live() {
-            return false;
-        }
-        self.phases.set(event.thread, next);
-        true
-    }
-
-    /// Takes the next event if it goes on with a live transaction, and some transaction is live with it too. Else it
-    /// returns `false` and changes nothing.
-    #[inline(always)]
-    pub fn go_on(&mut self, event: Event) -> bool
-        ensures takes { IsTrue result → (registers : ℕ) (history : List Event)
-            → Tracks registers history self.old
-            → TakesAs registers history event false false self.new }
-        ensures kept { IsFalse result → self.new ≡ self.old }
-    {
-        let Some((was, next)) = self.phases_of(event) else {
-            return false;
-        };
-        if !was.is_live() || !next.is_live() && self.live() == 1 {
-            return false;
-        }
-        self.phases.set(event.thread, next);
-        true
-    }
-
-    /// Takes the next event if it ends the only live transaction. Else it returns `false` and changes nothing.
-    #[inline(always)]
-    pub fn end_last(&mut self, event: Event) -> bool
-        ensures takes { IsTrue result → (registers : ℕ) (history : List Event)
-            → Tracks registers history self.old
-            → TakesAs registers history event false true self.new }
-        ensures kept { IsFalse result → self.new ≡ self.old }
-    {
-        let Some((was, next)) = self.phases_of(event) else {
-            return false;
-        };
-        if !was.is_live() || next.is_live() || self.live() != 1 {
-            return false;
-        }
-        self.phases.set(event.thread, next);
-        true
-    }
-
     /// Tells whether the thread's pending call is an abort request.
     #[inline(always)]
     pub fn asks_abort(&self, thread: Ix) -> bool
@@ -125,24 +66,6 @@ impl Tracker {
             → IsTrue result ↔ (pending_call thread.number history ≡ Some X) }
     {
         self.phases.get(thread) == Phase::Aborting
-    }
-
-    /// The phase of the event's thread, and the one to which the event leads, where the history stays well-formed with it.
-    #[inline(always)]
-    fn phases_of(&self, event: Event) -> Option<(Phase, Phase)>
-        ensures { IfSome result (λ phases. IsFalse
-            (lacks_register self.now.registers.number event.kind)
-            × (phases.0 ≡ slice_index_or self.now.phases.by_thread event.thread.number Between)
-            × (next_phase phases.0 event.kind ≡ Ok phases.1)) }
-    {
-        if lacks_register(self.registers, event.kind) {
-            return None;
-        }
-        let was = self.phases.get(event.thread);
-        match was.next(event.kind) {
-            Ok(next) => Some((was, next)),
-            Err(_) => None,
-        }
     }
 
     /// Returns how many registers the run has.

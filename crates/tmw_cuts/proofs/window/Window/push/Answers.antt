@@ -1,14 +1,18 @@
--- The note tells whether a transaction is open for the event.
-use Rattle.tmw_cuts.proofs.Shared.{is_open_for, not_from_false, refl, sym, views_of, ◌∙◌}
-use Rattle.tmw_cuts.proofs.Found.{position_some}
-use Rattle.tmw_cuts.proofs.Pushes.{begins_none_open}
+-- An event that begins a transaction is noted so.
+use Rattle.tmw_cuts.proofs.Shared.{ap, false, length, sym, transactions, true, [], ◌++◌, ◌+◌, ◌∙◌, ◌∷◌, ◌≡◌}
+use Rattle.tmw_cuts.specs.Standing.{begun_by}
+use Rattle.tmw_cuts.proofs.Standings.{grows}
+use Rattle.tmw_cuts.proofs.window.Window.push.Goals.{in-Begin, in_default-matches}
 use Rattle.tmw_cuts.proofs.window.Window.push.Goals as goal
 
-pub returns-then-note-clause-stands : goal.returns-then-note-clause-stands
-returns-then-note-clause-stands c events stands notes = c.push_new.ensures.stands events c.args.note c.if-note.true stands notes
-
-pub returns-in_default-clause-stands : goal.returns-in_default-clause-stands
-returns-in_default-clause-stands c events stands notes =
-    absurd (position_some (is_open_for c.args.event.thread.number) (views_of events)
-    (begins_none_open events c.args.event c.args.note (views_of events) refl notes ∙ not_from_false _ c.if-note.false)
-    (sym c.in_default.is ∙ c.open_place.ensures.stands events stands))
+pub returns-else-not-matches-clause-stands : goal.returns-else-not-matches-clause-stands
+returns-else-not-matches-clause-stands c events stands formed notes =
+    elim c.match-matches.branch [
+      | in-Begin w ↦
+          let more : length (transactions (events ++ c.args.event ∷ [])) ≡ length (transactions events) + 1
+          = grows events c.args.event c.args.self.now c.in-Ok.step stands c.in-Ok.ensures.ok
+          ∙ ap (λ move. length (transactions events) + begun_by move) w.in-Begin.is in
+          let bad : true ≡ false = sym (notes.begins.1 more) ∙ c.if-note.false in
+          absurd (cc)
+      | in_default-matches w ↦ let bad : true ≡ false = sym c.if-not-matches.false ∙ w.matches-is in absurd (cc)
+    ]

@@ -1,0 +1,109 @@
+-- Which events a thread's pending call lets go on, and what the others are refused for.
+use Rattle.tmw_cuts.proofs.Shared.{Bool, None, Ok, Err, Option, Some, [], cases_Bool, false, inl, inr, is_over, operation, option_map, refl, status_after, true, ℕ, ◌∷◌, ◌≡◌}
+use Rattle.tmw_events.specs.declared.event.Kind.{Kind}
+use Rattle.tmw_events.specs.declared.event.Kind.TheVariants.{R, V, W, K, T, C, X, A, N}
+use Rattle.tmw_events.specs.declared.ix.Ix.{Ix}
+use Rattle.tmw_defs.specs.declared.op.Op.{Op}
+use Rattle.tmw_defs.specs.History.{answers}
+use Rattle.tmw_wellformed.specs.declared.malformed.Malformed.{Malformed}
+use Rattle.tmw_wellformed.specs.declared.malformed.Malformed.TheVariants.{Busy, Idle, Mismatch}
+use Rattle.tmw_wellformed.specs.Faults.{asks, lacks_register}
+use Rattle.tmw_wellformed.proofs.TextSteps.{goes_on}
+use Rattle.tmw_wellformed.proofs.Deciding.{Rejects, answers_asked, is_call_answer, is_call_asked}
+use Rattle.tmw_cuts.specs.declared.turn.Move.{Move}
+use Rattle.tmw_cuts.specs.declared.turn.Move.TheVariants.{Begin, Ask, Answer, End}
+use Rattle.tmw_cuts.specs.Turns.{after_call, call_in, move_of, numbered}
+
+abbrev pub ends_at : Kind → Bool
+ends_at k = is_over (status_after (Some k))
+
+pub asked_on : (k : Kind) → asks k ≡ true → ends_at k ≡ false
+asked_on C h = cc
+asked_on A h = cc
+asked_on _ h = refl
+
+-- an answer that makes an operation does not end its transaction; each other does
+answer_ends : (c k : Kind) → answers c k ≡ true → (op : Op) → operation c k ≡ op ∷ [] → ends_at k ≡ false
+answer_ends (R r) (V v) h op is = refl
+answer_ends (W r v) K h op is = refl
+answer_ends (N r d) (V v) h op is = refl
+answer_ends _ _ h op is = cc
+
+-- What a move says of the event.
+abbrev pub Means : Option (Ix × Option Kind) → Kind → Move → Type 0
+Means f k Begin = (f ≡ None) × (asks k ≡ true)
+Means f k (Ask p) = (f ≡ Some (p, None)) × (asks k ≡ true)
+Means f k (Answer p op) = (c : Kind) × ((f ≡ Some (p, Some c)) × ((operation c k ≡ op ∷ []) × (ends_at k ≡ false)))
+Means f k (End p) = (c : Kind) × ((f ≡ Some (p, Some c)) × ((operation c k ≡ []) × (ends_at k ≡ true)))
+
+pub record Is (registers : ℕ) (f : Option (Ix × Option Kind)) (k : Kind) (m : Move) : Type 0 where
+  pub goes : goes_on registers (call_in (option_map numbered f)) k ≡ true
+  pub is : Means f k m
+
+means_move : (p : Ix) (c k : Kind) → answers c k ≡ true → Means (Some (p, Some c)) k (move_of p (operation c k))
+means_move p (R r) (V v) h = (R r, (refl, (refl, refl)))
+means_move p (R r) A h = (R r, (refl, (refl, refl)))
+means_move p (W r v) K h = (W r v, (refl, (refl, refl)))
+means_move p (W r v) A h = (W r v, (refl, (refl, refl)))
+means_move p (N r d) (V v) h = (N r d, (refl, (refl, refl)))
+means_move p (N r d) A h = (N r d, (refl, (refl, refl)))
+means_move p T C h = (T, (refl, (refl, refl)))
+means_move p T A h = (T, (refl, (refl, refl)))
+means_move p X A h = (X, (refl, (refl, refl)))
+means_move p _ _ h = cc
+
+pub accepts : (registers : ℕ) (f : Option (Ix × Option Kind)) (k : Kind) (m : Move) → lacks_register registers k ≡ false → after_call f k ≡ Ok m
+    → Is registers f k m
+accepts registers None k m has is =
+    elim (cases_Bool (asks k)) [
+      | inl call ↦
+          let to : Ok Begin ≡ Ok m = rw call at is in
+          let same : Begin ≡ m = cc in
+          rw (← same) (record { goes = is_call_asked registers k call has; is = (refl, call) })
+      | inr answer ↦ let to = rw answer at is in cc
+    ]
+accepts registers (Some (p, None)) k m has is =
+    elim (cases_Bool (asks k)) [
+      | inl call ↦
+          let to : Ok (Ask p) ≡ Ok m = rw call at is in
+          let same : Ask p ≡ m = cc in
+          rw (← same) (record { goes = is_call_asked registers k call has; is = (refl, call) })
+      | inr answer ↦ let to = rw answer at is in cc
+    ]
+accepts registers (Some (p, Some c)) k m has is =
+    elim (cases_Bool (asks k)) [
+      | inl call ↦ let to = rw call at is in cc
+      | inr answer ↦ elim (cases_Bool (answers c k)) [
+        | inl fits ↦
+            let to : Ok (move_of p (operation c k)) ≡ Ok m = rw (answer, fits) at is in
+            let same : move_of p (operation c k) ≡ m = cc in
+            rw (← same) (record { goes = fits; is = means_move p c k fits })
+        | inr misses ↦ let to = rw (answer, misses) at is in cc
+      ]
+    ]
+
+idle : (registers : ℕ) (k : Kind) (fault : Malformed) → lacks_register registers k ≡ false → asks k ≡ false → Idle ≡ fault
+    → Rejects registers None k fault
+idle registers k fault has answer same =
+    rw (← same) (record { stops = is_call_answer registers k answer; here = rw answer refl; first = rw (has, answer) refl })
+
+pub rejects : (registers : ℕ) (f : Option (Ix × Option Kind)) (k : Kind) (fault : Malformed) → lacks_register registers k ≡ false → after_call f k ≡ Err fault
+    → Rejects registers (call_in (option_map numbered f)) k fault
+rejects registers None k fault has is =
+    elim (cases_Bool (asks k)) [ inl call ↦ let to = rw call at is in cc | inr answer ↦ let to = rw answer at is in idle registers k fault has answer (let same : Idle ≡ fault = cc in same) ]
+rejects registers (Some (p, None)) k fault has is =
+    elim (cases_Bool (asks k)) [ inl call ↦ let to = rw call at is in cc | inr answer ↦ let to = rw answer at is in idle registers k fault has answer (let same : Idle ≡ fault = cc in same) ]
+rejects registers (Some (p, Some c)) k fault has is =
+    elim (cases_Bool (asks k)) [
+      | inl call ↦
+          let to = rw call at is in
+          let same : Busy ≡ fault = cc in
+          rw (← same) (record { stops = answers_asked c k call; here = rw call refl; first = rw has refl })
+      | inr answer ↦ elim (cases_Bool (answers c k)) [
+        | inl fits ↦ let to = rw (answer, fits) at is in cc
+        | inr misses ↦
+            let to = rw (answer, misses) at is in
+            let same : Mismatch ≡ fault = cc in
+            rw (← same) (record { stops = misses; here = rw (answer, misses) refl; first = rw (has, answer) refl })
+      ]
+    ]

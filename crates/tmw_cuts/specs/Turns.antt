@@ -1,0 +1,89 @@
+-- What a turn tells of a thread: the place of its open transaction and its pending call.
+use Rattle.std.specs.Prelude.{ℕ, zero, suc, List, [], ◌∷◌, ◌++◌, Option, Some, None, option_map, Result, Ok, Err, if◌then◌else◌}
+use Rattle.tmw_events.specs.declared.event.Kind.{Kind}
+use Rattle.tmw_events.specs.declared.event.Kind.TheVariants.{R, W, T, X, N}
+use Rattle.tmw_events.specs.declared.ix.Ix.{Ix}
+use Rattle.tmw_defs.specs.declared.op.Op.{Op}
+use Rattle.tmw_defs.specs.History.{answers, is_over, status_after, operation}
+use Rattle.tmw_wellformed.specs.declared.malformed.Malformed.{Malformed}
+use Rattle.tmw_wellformed.specs.declared.malformed.Malformed.TheVariants.{Busy, Idle, Mismatch}
+use Rattle.tmw_wellformed.specs.Faults.{asks}
+use Rattle.tmw_wellformed.specs.Pending.{next_call}
+use Rattle.tmw_cuts.specs.Descriptors.{Descriptor, answered_ops, is_open_for}
+use Rattle.tmw_cuts.specs.Views.{View, new_view, next_view}
+use Rattle.tmw_cuts.specs.declared.turn.Turn.{Turn}
+use Rattle.tmw_cuts.specs.declared.turn.Turn.TheVariants.{Between, Within, Reading, Adding, Writing, Committing, Aborting}
+use Rattle.tmw_cuts.specs.declared.turn.Move.{Move}
+use Rattle.tmw_cuts.specs.declared.turn.Move.TheVariants.{Begin, Ask, Answer, End}
+
+-- The place of a thread's open transaction, and the call of it that has no answer.
+abbrev pub Found : Type 0
+Found = Option (ℕ × Option Kind)
+
+-- The same as the turn has it, whose place is below eight.
+abbrev pub kept_in : Turn → Option (Ix × Option Kind)
+kept_in Between = None
+kept_in (Within p) = Some (p, None)
+kept_in (Reading p r) = Some (p, Some (R r))
+kept_in (Adding p r d) = Some (p, Some (N r d))
+kept_in (Writing p r v) = Some (p, Some (W r v))
+kept_in (Committing p) = Some (p, Some T)
+kept_in (Aborting p) = Some (p, Some X)
+
+abbrev pub numbered : Ix × Option Kind → ℕ × Option Kind
+numbered k = (k.0.number, k.1)
+
+abbrev pub found_in : Turn → Found
+found_in turn = option_map numbered (kept_in turn)
+
+abbrev pub further : ℕ × Option Kind → ℕ × Option Kind
+further f = (suc f.0, f.1)
+
+-- What these transactions tell of the thread.
+abbrev pub find_open : ℕ → List Descriptor → Found
+find_open thread [] = None
+find_open thread (d ∷ ds) = if is_open_for thread d then Some (0, d.call) else option_map further (find_open thread ds)
+
+abbrev pub call_in : Found → Option Kind
+call_in None = None
+call_in (Some f) = f.1
+
+-- An answer that makes an operation, or else ends the transaction.
+abbrev pub move_of : Ix → List Op → Move
+move_of p [] = End p
+move_of p (op ∷ ops) = Answer p op
+
+-- What the event is to the thread, or what is wrong with it. Registers are left out of account.
+abbrev pub after_call : Option (Ix × Option Kind) → Kind → Result Move Malformed
+after_call None k = if asks k then Ok Begin else Err Idle
+after_call (Some (p, None)) k = if asks k then Ok (Ask p) else Err Idle
+after_call (Some (p, Some c)) k =
+    if asks k then Err Busy else if answers c k then Ok (move_of p (operation c k)) else Err Mismatch
+
+-- What is found of its thread after the event, where there were so many transactions.
+abbrev pub found_after : Found → ℕ → Kind → Found
+found_after None n k = if is_over (status_after (Some k)) then None else Some (n, Some k)
+found_after (Some f) n k = if is_over (status_after (Some k)) then None else Some (f.0, next_call f.1 k)
+
+-- The list with one of its members changed.
+abbrev pub change : {A : Type 0} → ℕ → (A → A) → List A → List A
+change i f [] = []
+change zero f (x ∷ xs) = f x ∷ xs
+change (suc i) f (x ∷ xs) = x ∷ change i f xs
+
+-- What is shown after the event, where the transactions in the mask have completed before it.
+abbrev pub views_after : Found → Kind → ℕ → List View → List View
+views_after None k before vs = vs ++ new_view k before ∷ []
+views_after (Some f) k before vs = change f.0 (next_view k (answered_ops f.1 k)) vs
+
+-- The place of the transaction to which the event belongs, if that was there before.
+abbrev pub place_of : Move → Option Ix
+place_of Begin = None
+place_of (Ask p) = Some p
+place_of (Answer p op) = Some p
+place_of (End p) = Some p
+
+-- The operations that it makes.
+abbrev pub ops_of : Move → List Op
+ops_of (Answer p op) = op ∷ []
+ops_of _ = []

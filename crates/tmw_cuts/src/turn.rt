@@ -1,0 +1,113 @@
+//! Where a thread is between its events, and what its next event is.
+ghost use Rattle.std.specs.Prelude.{◌≡◌, Some, IsTrue, option_map};
+ghost use Rattle.tmw_wellformed.specs.Faults.{asks};
+ghost use Rattle.tmw_cuts.specs.Turns.{after_call, found_in, kept_in};
+
+use tmw_defs::Op;
+use tmw_events::{Ix, Kind};
+use tmw_wellformed::Malformed;
+
+/// Where a thread is: the place of its open transaction in the window, and its pending call.
+#[derive(Clone, Copy, PartialEq, Eq, Debug)]
+pub enum Turn {
+    /// It has no open transaction.
+    Between,
+    /// It has the one at the place, and no pending call.
+    Within(Ix),
+    /// A read of the register is pending.
+    Reading(Ix, Ix),
+    /// An add of the value to the register is pending.
+    Adding(Ix, Ix, u64),
+    /// A write of the value to the register is pending.
+    Writing(Ix, Ix, u64),
+    /// A commit request is pending.
+    Committing(Ix),
+    /// An abort request is pending.
+    Aborting(Ix),
+}
+
+/// What an event is to its thread.
+#[derive(Clone, Copy, PartialEq, Eq, Debug)]
+pub enum Move {
+    /// It begins a transaction.
+    Begin,
+    /// It is a call of the transaction at the place.
+    Ask(Ix),
+    /// It answers a call of the transaction at the place, which makes this operation.
+    Answer(Ix, Op),
+    /// It ends the transaction at the place.
+    End(Ix),
+}
+
+impl Turn {
+    /// Returns the place of the thread's open transaction, if it has one.
+    #[inline(always)]
+    pub fn place(self) -> Option<Ix>
+        ensures { result ≡ option_map (λ kept. kept.0) (kept_in self) }
+    {
+        match self {
+            Turn::Between => None,
+            Turn::Within(place)
+            | Turn::Reading(place, _)
+            | Turn::Adding(place, _, _)
+            | Turn::Writing(place, _, _)
+            | Turn::Committing(place)
+            | Turn::Aborting(place) => Some(place),
+        }
+    }
+
+    /// Returns what an event of this kind is to the thread, or its fault. Whether a call's register is one of the run's is
+    /// tested elsewhere.
+    #[inline(always)]
+    pub fn next(self, kind: Kind) -> Result<Move, Malformed>
+        ensures { result ≡ after_call (kept_in self) kind }
+    {
+        match (self, kind) {
+            (Turn::Between, Kind::R(_) | Kind::N(_, _) | Kind::W(_, _) | Kind::T | Kind::X) => Ok(
+                Move::Begin,
+            ),
+            (Turn::Within(place), Kind::R(_) | Kind::N(_, _) | Kind::W(_, _) | Kind::T | Kind::X) =>
+                Ok(Move::Ask(place)),
+            (Turn::Between | Turn::Within(_), _) => Err(Malformed::Idle),
+            (_, Kind::R(_) | Kind::N(_, _) | Kind::W(_, _) | Kind::T | Kind::X) => Err(
+                Malformed::Busy,
+            ),
+            (Turn::Reading(place, register), Kind::V(value)) => Ok(Move::Answer(
+                place,
+                Op::Read(register, value),
+            )),
+            (Turn::Adding(place, register, added), Kind::V(value)) => {
+                Ok(Move::Answer(place, Op::Add(register, added, value)))
+            }
+            (Turn::Writing(place, register, value), Kind::K) => Ok(Move::Answer(
+                place,
+                Op::Write(register, value),
+            )),
+            (Turn::Committing(place), Kind::C) => Ok(Move::End(place)),
+            (
+                Turn::Reading(place, _)
+                | Turn::Adding(place, _, _)
+                | Turn::Writing(place, _, _)
+                | Turn::Committing(place)
+                | Turn::Aborting(place),
+                Kind::A,
+            ) => Ok(Move::End(place)),
+            _ => Err(Malformed::Mismatch),
+        }
+    }
+}
+
+/// The turn in which the call of the transaction at the place is pending.
+#[inline(always)]
+pub(crate) fn asking(place: Ix, call: Kind) -> Turn
+    ensures { IsTrue (asks call) → found_in result ≡ Some (place.number, Some call) }
+{
+    match call {
+        Kind::R(register) => Turn::Reading(place, register),
+        Kind::N(register, added) => Turn::Adding(place, register, added),
+        Kind::W(register, value) => Turn::Writing(place, register, value),
+        Kind::T => Turn::Committing(place),
+        Kind::X => Turn::Aborting(place),
+        _ => Turn::Within(place),
+    }
+}
