@@ -1,5 +1,5 @@
 -- A list of transactions with one changed.
-use Rattle.tmw_cuts.proofs.Shared.{List, Txn, View, [], ap, arith, get_or, length, map, refl, slice_set, suc, sym, take, view, zero, ℕ, ◌<◌, ◌∙◌, ◌∷◌, ◌≡◌, ◌≤◌}
+use Rattle.tmw_cuts.proofs.Shared.{Some, slice_get, List, Txn, View, [], ap, arith, get_or, length, map, refl, slice_set, suc, sym, take, view, zero, ℕ, ◌<◌, ◌∙◌, ◌∷◌, ◌≡◌, ◌≤◌}
 use Rattle.std.proofs.Math.Seq.{take-set-lt}
 use Rattle.std.proofs.lemmas.List.{length-take-le}
 use Rattle.tmw_cuts.specs.Turns.{change}
@@ -43,3 +43,15 @@ pub length-change : {A : Type 0} (f : A → A) (xs : List A) (i : ℕ) → lengt
 length-change f [] i = refl
 length-change f (x ∷ xs) zero = refl
 length-change f (x ∷ xs) (suc i) = ap suc (length-change f xs i)
+
+pub slice_get-change_here : {A : Type 0} (f : A → A) (xs : List A) (i : ℕ) (x : A) → slice_get xs i ≡ Some x → slice_get (change i f xs) i ≡ Some (f x)
+slice_get-change_here f [] i x at = cc
+slice_get-change_here f (y ∷ xs) zero x at = let same : y ≡ x = cc in ap (λ z. Some (f z)) same
+slice_get-change_here f (y ∷ xs) (suc i) x at = slice_get-change_here f xs i x at
+
+pub slice_get-change_other : {A : Type 0} (f : A → A) (xs : List A) (i j : ℕ) → (j ≡ i → ⊥) → slice_get (change i f xs) j ≡ slice_get xs j
+slice_get-change_other f [] i j other = refl
+slice_get-change_other f (x ∷ xs) zero zero other = absurd (other refl)
+slice_get-change_other f (x ∷ xs) zero (suc j) other = refl
+slice_get-change_other f (x ∷ xs) (suc i) zero other = refl
+slice_get-change_other f (x ∷ xs) (suc i) (suc j) other = slice_get-change_other f xs i j (λ same. other (ap suc same))

@@ -175,6 +175,29 @@ found_within t (d ∷ ds) f is =
         let low : i.0 < length ds = within i refl in
         rw (← same) (omega (arith, low))
 
+-- and is not over
+pub found_lives : (t : ℕ) (ds : List Descriptor) (f : ℕ × Option Kind) (v : View) → find_open t ds ≡ Some f
+    → slice_get (map view_in ds) f.0 ≡ Some v → is_over v.status ≡ false
+found_lives t [] f v is at = cc
+found_lives t (d ∷ ds) f v is at =
+    elim (cases_Bool (is_open_for t d)) [
+      | inl here ↦
+          let same : Some (0, d.call) ≡ Some f = sym (find_here t d ds here) ∙ is in
+          let zero_is : (0, d.call) ≡ f = cc in
+          let first : Some (view_in d) ≡ Some v = rw (← zero_is) at at in
+          let view_is : view_in d ≡ v = cc in
+          ap (λ (x : View). is_over x.status) (sym view_is) ∙ not-true _ (and_parts (d.thread == t) _ here).1
+      | inr past ↦ behind (find_open t ds) (sym (find_past t d ds past) ∙ is) (λ h found there. found_lives t ds h v found there) refl
+    ]
+  where
+    behind : (g : Found) → option_map further g ≡ Some f
+        → ((h : ℕ × Option Kind) → find_open t ds ≡ Some h → slice_get (map view_in ds) h.0 ≡ Some v → is_over v.status ≡ false)
+        → g ≡ find_open t ds → is_over v.status ≡ false
+    behind None shifted there same = cc
+    behind (Some h) shifted there same =
+        let f_is : further h ≡ f = cc in
+        there h (sym same) (rw (← f_is) at at)
+
 -- the mask is full exactly where each has completed
 full_mask : (ds : List Descriptor) → (completed_in ds + 1 == 2 ^ length ds) ≡ list_all (λ d. is_over d.status) ds
 full_mask [] = refl
@@ -202,14 +225,17 @@ cut_mask events w stands =
     ∙ ap (λ n. w.completed + 1 == 2 ^ n) (sym (kept_length events w stands))
 
 -- the shift of as many places loses no bit
+shift_small : (n : ℕ) → n ≤ 8 → 1 * 2 ^ n % 2 ^ 32 ≡ 2 ^ n
+shift_small n few =
+    let single : 1 * 2 ^ n ≡ 2 ^ n = omega arith in
+    let most : 2 ^ n ≤ 2 ^ 8 = pow_mono {i = n} {j = 8} few in
+    let small : 2 ^ n < 2 ^ 32 = omega (arith, most) in
+    ap (λ (m : ℕ). m % 2 ^ 32) single ∙ mod-eq_of_lt small
+
 pub cut_shift : (events : List Event) (w : Window) → StandsFor w events → length (txns_of w) ≡ w.count → w.count ≤ 8
     → (w.completed + 1 == 1 * 2 ^ w.count % 2 ^ 32) ≡ is_cut events
 cut_shift events w stands len few =
-    let single : 1 * 2 ^ w.count ≡ 2 ^ w.count = omega arith in
-    let most : 2 ^ w.count ≤ 2 ^ 8 = pow_mono {i = w.count} {j = 8} few in
-    let small : 2 ^ w.count < 2 ^ 32 = omega (arith, most) in
-    ap (λ (m : ℕ). w.completed + 1 == m)
-    (ap (λ (m : ℕ). m % 2 ^ 32) single ∙ mod-eq_of_lt small ∙ ap (λ m. 2 ^ m) (sym len)) ∙ sym (cut_mask events w stands)
+    ap (λ (m : ℕ). w.completed + 1 == m) (shift_small w.count few ∙ ap (λ m. 2 ^ m) (sym len)) ∙ sym (cut_mask events w stands)
 
 -- what the move says of the event
 pub moves : (e : Event) (w : Window) (move : Move) → IsNext w e move → Is w.registers.number (kept_in (turn_at w e.thread.number)) e.kind move
@@ -317,6 +343,26 @@ ends_its events e old new p stands is long same turns shows masks =
       begun = grows events e old (End p) stands is;
       uncut = λ bad. cc;
     }
+
+-- the events are at a cut with one that ends a transaction where the mask is full with its place
+pub cut_with : (events : List Event) (e : Event) (w : Window) (p : Ix) → StandsFor w events → IsNext w e (End p) → length (txns_of w) ≡ w.count
+    → w.count ≤ 8 → (bit_or w.completed (1 * 2 ^ p.number % 2 ^ 8) + 1 == 1 * 2 ^ w.count % 2 ^ 32) ≡ is_cut (events ++ e ∷ [])
+cut_with events e w p stands is len few =
+    let ds = descriptors_of events in
+    let all = descriptors_of (events ++ e ∷ []) in
+    let (c, (kept, (makes, over))) = (moves e w (End p) is).is in
+    let found : find_open e.thread.number ds ≡ Some (p.number, Some c)
+    = sym (stands.turns e.thread.number e.thread.below) ∙ ap (option_map numbered) kept in
+    let place : p.number ≡ position_or_len (is_open_for e.thread.number) ds
+    = sym (ap (λ g. place_in g (length ds)) found) ∙ place-found e.thread.number ds in
+    let told : w.completed ≡ completed_in ds = stands.masks ∙ ap completed_mask (sym (views-told events)) in
+    let mask : bit_or w.completed (1 * 2 ^ p.number % 2 ^ 8) ≡ completed_in all
+    = rw over at (masks-push events e w.completed told p.number place p.below) in
+    let grown = grows events e w (End p) stands is in
+    let size : w.count ≡ length all = omega (arith, len, kept_length events w stands, length-told events, length-told (events ++ e ∷ []), grown) in
+    ap (λ (m : ℕ). bit_or w.completed (1 * 2 ^ p.number % 2 ^ 8) + 1 == m) (shift_small w.count few)
+    ∙ ap (λ m. m + 1 == 2 ^ w.count) mask ∙ ap (λ n. completed_in all + 1 == 2 ^ n) size
+    ∙ full_mask all ∙ is_cut-views (events ++ e ∷ [])
 
 -- the thread awaits the answer of a commit request where the transaction at its place does
 abbrev awaits : (t : ℕ) (d : Descriptor) → Bool

@@ -94,6 +94,7 @@ impl Window {
     ghost use Rattle.tmw_defs.specs.History.{is_well_formed, transactions};
     ghost use Rattle.tmw_wellformed.specs.Faults.{Refuses};
     ghost use Rattle.tmw_wellformed.specs.Notes.{Notes};
+    ghost use Rattle.tmw_cuts.specs.declared.turn.Move.TheVariants.{End};
     ghost use Rattle.tmw_cuts.specs.Standing.{Follows, IsNext, StandsFor, Takes, begun_by, count_of, turn_at, views, views_of};
 
     /// Makes the window of no event.
@@ -126,6 +127,15 @@ impl Window {
         ensures { (events : List Event) → StandsFor self.now events → result ≡ is_cut events }
     {
         u32::from(self.completed) + 1 == 1 << self.count
+    }
+
+    /// Tells whether each transaction has committed or aborted with the next event, which ends the one at the place.
+    #[inline(always)]
+    pub fn is_cut_with(&self, place: Ix) -> bool
+        ensures { (events : List Event) (event : Event) → StandsFor self.now events
+            → IsNext self.now event (End place) → result ≡ is_cut (events ++ event ∷ []) }
+    {
+        u32::from(self.completed | bit_of(place)) + 1 == 1 << self.count
     }
 
     /// Returns the transactions, in the order of their first events.

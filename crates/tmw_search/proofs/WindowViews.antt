@@ -1,6 +1,6 @@
 -- What a window shows of its events is what the search needs of their transactions.
 use Rattle.tmw_search.proofs.Shared.{AllByRecursion, Event, Lies, List, NoneBeforeItself, ShowsTransaction, ShowsTransactions, Some, Txn, [], and_right, ap, arith, before_of, bit, bit_at-before_of, get_or, is_ended, le-ltb, length, lies-transactions, map, option_map, pow-suc, precedes, refl, slice_get, slice_get-map, slice_get_read, suc, transactions, view, view_of, views_of, zero, ℕ, ◌+◌, ◌<◌, ◌^◌, ◌∙◌, ◌∷◌, ◌≡◌, ◌≤◌}
-use Rattle.tmw_cuts.proofs.Pushes.{length-views_of}
+use Rattle.tmw_cuts.proofs.Standings.{length-views_of}
 use Rattle.tmw_cuts.proofs.Masks.{bit-le}
 use Rattle.tmw_cuts.specs.declared.txn.Txn as cuts
 

@@ -2,7 +2,6 @@ pub mod Kept
 pub mod Path
 pub mod Placed
 pub mod Pushed
-pub mod Quiet
-pub mod Replayed
+pub pub mod Replayed
 mod Shared
 pub mod Turning

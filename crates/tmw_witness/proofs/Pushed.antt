@@ -1,11 +1,11 @@
 -- What one event more makes of the views of a window's transactions: one of them turns, or one begins.
-use Rattle.tmw_witness.proofs.Shared.{Bool, List, None, PrecedesNone, Some, TurnsAt, Txn, View, [], and_parts, ap, arith, bit, bit_at, bit_at_above, cases_lt, completed_mask, false, false_from_ne_true, get_or, inl, inr, is_ended, is_open_for, is_over, length, list_any, map, new_view, next_view, not-true, position, pow-suc, precedes, push_views, refl, same_place, slice_get, slice_get-get_or, subst, suc, sym, transactions, true, view_of, views_of, zero, ℕ, ◌++◌, ◌<◌, ◌==◌, ◌^◌, ◌∙◌, ◌∷◌, ◌≡◌, ◌≤◌}
+use Rattle.tmw_witness.proofs.Shared.{slice_get_some, subst, length-map, Begin, Bool, Event, IsNext, Ix, List, Move, None, PrecedesNone, Some, StandsFor, TurnsAt, Txn, View, Window, [], and_parts, ap, arith, bit, bit_at, bit_at_above, cases_lt, change, completed_mask, descriptors_of, false, inl, inr, is_ended, is_over, length, map, new_view, next_view, ops_of, place_of, pow-suc, precedes, refl, same_place, slice_get, suc, sym, transactions, true, view_of, views_after, views_of, zero, ℕ, ◌++◌, ◌+◌, ◌*◌, ◌<◌, ◌≤◌, ◌^◌, ◌∙◌, ◌∷◌, ◌≡◌}
 use Rattle.tmw_cuts.proofs.Bits.{bit_at-before_of}
-use Rattle.std.proofs.lemmas.List.Quantifiers.{position-Some}
-use Rattle.tmw_events.specs.declared.event.Event.{Event}
-use Rattle.tmw_cuts.proofs.Found.{push_views_here, push_views_past, push_views-none, position_some}
+use Rattle.tmw_cuts.proofs.Changes.{length-change, slice_get-change_here, slice_get-change_other}
 use Rattle.tmw_cuts.proofs.Masks.{bit-le}
-use Rattle.tmw_cuts.proofs.Pushes.{views_of-push}
+use Rattle.tmw_cuts.specs.Descriptors.{view_in}
+use Rattle.tmw_cuts.specs.Standing.{count_of, views}
+use Rattle.tmw_cuts.proofs.Standings.{found-begun, found-moved, found_lives, found_within, views_of-push, views-told}
 
 -- the view at a place is that of the transaction there
 view-at : (all ts : List Txn) (i : ℕ) (x : View) → slice_get (map (view_of all) ts) i ≡ Some x
@@ -41,88 +41,37 @@ turns-still events p x at lives = record {
       absurd (let k : true ≡ false = sym (completed-before (transactions events) p x z at i there one) ∙ lives in cc);
 }
 
--- the first that is open for the thread takes the event, and the others stay
-push-here : (e : Event) (before : ℕ) (vs : List View) (i : ℕ) (d : View) → i < length vs → is_open_for e.thread.number (get_or vs i d) ≡ true
-    → ((k : ℕ) → k < i → is_open_for e.thread.number (get_or vs k d) ≡ false)
-    → slice_get (push_views e before vs) i ≡ Some (next_view e.kind (get_or vs i d))
-push-here e before [] i d within here past = absurd (omega arith)
-push-here e before (v ∷ vs) zero d within here past = rw (push_views_here e before v vs here) refl
-push-here e before (v ∷ vs) (suc i) d within here past =
-    rw (push_views_past e before v vs (past 0 (omega arith)))
-    (push-here e before vs i d (omega (arith, within)) here (λ k below. past (suc k) (omega (arith, below))))
-
-push-others : (e : Event) (before : ℕ) (vs : List View) (i j : ℕ) (d : View) → i < length vs
-    → is_open_for e.thread.number (get_or vs i d) ≡ true
-    → ((k : ℕ) → k < i → is_open_for e.thread.number (get_or vs k d) ≡ false) → (j ≡ i → ⊥)
-    → slice_get (push_views e before vs) j ≡ slice_get vs j
-push-others e before [] i j d within here past apart = absurd (omega arith)
-push-others e before (v ∷ vs) zero zero d within here past apart = absurd (apart refl)
-push-others e before (v ∷ vs) zero (suc j) d within here past apart = rw (push_views_here e before v vs here) refl
-push-others e before (v ∷ vs) (suc i) zero d within here past apart = rw (push_views_past e before v vs (past 0 (omega arith))) refl
-push-others e before (v ∷ vs) (suc i) (suc j) d within here past apart =
-    rw (push_views_past e before v vs (past 0 (omega arith)))
-    (push-others e before vs i j d (omega (arith, within)) here (λ k below. past (suc k) (omega (arith, below))) (λ same. apart (ap suc same)))
-
-push-length : (e : Event) (before : ℕ) (vs : List View) (i : ℕ) (d : View) → i < length vs
-    → is_open_for e.thread.number (get_or vs i d) ≡ true
-    → ((k : ℕ) → k < i → is_open_for e.thread.number (get_or vs k d) ≡ false) → length (push_views e before vs) ≡ length vs
-push-length e before [] i d within here past = absurd (omega arith)
-push-length e before (v ∷ vs) zero d within here past = rw (push_views_here e before v vs here) refl
-push-length e before (v ∷ vs) (suc i) d within here past =
-    rw (push_views_past e before v vs (past 0 (omega arith)))
-    (ap suc (push-length e before vs i d (omega (arith, within)) here (λ k below. past (suc k) (omega (arith, below)))))
-
--- so the transaction that was open for the thread turns
-pub turns-pushed : (events : List Event) (e : Event) (p : ℕ) (y : View) → Some p ≡ position (is_open_for e.thread.number) (views_of events)
-    → slice_get (views_of (events ++ e ∷ [])) p ≡ Some y
-    → (x : View) × TurnsAt (views_of events) (views_of (events ++ e ∷ [])) p x y × (y ≡ next_view e.kind x)
-turns-pushed events e p y found at =
+-- the transaction at the move's place turns: it becomes what it is with the event
+pub turns-next : (events : List Event) (e : Event) (w : Window) (move : Move) (p : Ix) (x : View) → StandsFor w events → IsNext w e move
+    → place_of move ≡ Some p → slice_get (views_of events) p.number ≡ Some x
+    → TurnsAt (views_of events) (views_of (events ++ e ∷ [])) p.number x (next_view e.kind (ops_of move) x)
+turns-next events e w move p x stands next at was =
     let vs = views_of events in
-    let pushed = views_of-push events e in
-    let (within, here, past) = position-Some (is_open_for e.thread.number) vs p y (sym found) in
-    let x = get_or vs p y in
-    let was : slice_get vs p ≡ Some x = slice_get-get_or vs p y within in
-    let now = push-here e (completed_mask vs) vs p y within here past in
-    let next : y ≡ next_view e.kind x = (let k = rw pushed at at in let m = now in cc) in
-    let open_still : is_over x.status ≡ false = not-true (is_over x.status) ((and_parts (x.thread == e.thread.number) _ here).1) in
-    let before : y.before ≡ x.before = ap (λ (v : View). v.before) next in
-    let none_before : PrecedesNone vs p = λ i z there one.
-    absurd (let k : true ≡ false = sym (completed-before (transactions events) p x z was i there one) ∙ open_still in cc) in
-    let others : (i : ℕ) → (i ≡ p → ⊥) → slice_get (views_of (events ++ e ∷ [])) i ≡ slice_get vs i =
-    λ i apart. rw pushed (push-others e (completed_mask vs) vs p i y within here past apart) in (
-      x,
-      record {
-        same_length = rw pushed (push-length e (completed_mask vs) vs p y within here past);
-        was = was;
-        here = at;
-        before = before;
-        others = others;
-        alone = λ i z there one. elim (same_place i p) [
-          | inl same ↦
-              let is : y ≡ z = (let k = rw same at there in let m = at in cc) in
-              let bit_is : bit_at x.before p ≡ 1 =
-              sym (ap (λ (n : ℕ). bit_at n p) before) ∙ ap (λ (v : View). bit_at v.before p) is ∙ one in
-              none_before p x was bit_is
-          | inr apart ↦ none_before i z (sym (others i apart) ∙ there) one
-        ];
-      },
-      next,
-    )
-
--- so the one that is open for the thread turns, and becomes it with the event
-pub turns-next : (events : List Event) (e : Event) (p : ℕ) (x : View) → Some p ≡ position (is_open_for e.thread.number) (views_of events)
-    → slice_get (views_of events) p ≡ Some x
-    → TurnsAt (views_of events) (views_of (events ++ e ∷ [])) p x (next_view e.kind x)
-turns-next events e p x found at =
-    let vs = views_of events in
-    let (within, here, past) = position-Some (is_open_for e.thread.number) vs p x (sym found) in
-    let was : slice_get vs p ≡ Some (get_or vs p x) = slice_get-get_or vs p x within in
-    let same : get_or vs p x ≡ x = (let a = was in let b = at in cc) in
-    let now = rw same at (push-here e (completed_mask vs) vs p x within here past) in
-    let there : slice_get (views_of (events ++ e ∷ [])) p ≡ Some (next_view e.kind x) = rw (views_of-push events e) now in
-    let (z, turns, next) = turns-pushed events e p (next_view e.kind x) found there in
-    let is : z ≡ x = (let a = turns.was in let b = at in cc) in
-    subst (λ (v : View). TurnsAt vs (views_of (events ++ e ∷ [])) p v (next_view e.kind x)) {x = z} is turns
+    let told = found-moved events e w move p stands next at in
+    let f = next_view e.kind (ops_of move) in
+    let pushed : views_of (events ++ e ∷ []) ≡ change p.number f vs
+    = views_of-push events e ∙ ap (λ g. views_after g e.kind (completed_mask vs) vs) told.1
+    ∙ ap (λ ops. change p.number (next_view e.kind ops) vs) told.2 in
+    let lives : is_over x.status ≡ false
+    = found_lives e.thread.number (descriptors_of events) _ x told.1 (ap (λ xs. slice_get xs p.number) (views-told events) ∙ was) in
+    let none_before : PrecedesNone vs p.number = λ i z there one.
+    absurd (let k : true ≡ false = sym (completed-before (transactions events) p.number x z was i there one) ∙ lives in cc) in
+    let here : slice_get (views_of (events ++ e ∷ [])) p.number ≡ Some (f x) = rw pushed (slice_get-change_here f vs p.number x was) in
+    let others : (i : ℕ) → (i ≡ p.number → ⊥) → slice_get (views_of (events ++ e ∷ [])) i ≡ slice_get vs i
+    = λ i apart. rw pushed (slice_get-change_other f vs p.number i apart) in
+    record {
+      same_length = rw pushed (length-change f vs p.number);
+      was = was;
+      here = here;
+      before = refl;
+      others = others;
+      alone = λ i z there one. elim (same_place i p.number) [
+        | inl same ↦
+            let is : f x ≡ z = (let k = rw same at there in let m = here in cc) in
+            none_before p.number x was (ap (λ (v : View). bit_at v.before p.number) is ∙ one)
+        | inr apart ↦ none_before i z (sym (others i apart) ∙ there) one
+      ];
+    }
 
 completed_mask-lt : (vs : List View) → completed_mask vs < 2 ^ length vs
 completed_mask-lt [] = omega arith
@@ -131,14 +80,37 @@ completed_mask-lt (v ∷ vs) =
     let rest : completed_mask vs < 2 ^ length vs = completed_mask-lt vs in
     omega (arith, pow-suc 2 (length vs))
 
+-- what is shown at the move's place, of the window before the event and with it
+pub slot-shown : (events : List Event) (e : Event) (w : Window) (move : Move) (p : Ix) (x : View) → StandsFor w events → IsNext w e move
+    → place_of move ≡ Some p → (p.number < count_of w → slice_get (views w) p.number ≡ Some x) → slice_get (views_of events) p.number ≡ Some x
+slot-shown events e w move p x stands next at shown =
+    let told = found-moved events e w move p stands next at in
+    let low = found_within e.thread.number (descriptors_of events) _ told.1 in
+    let size : length (descriptors_of events) ≡ count_of w
+    = sym (length-map (descriptors_of events) view_in) ∙ ap length (views-told events ∙ sym stands.shows) in
+    ap (λ vs. slice_get vs p.number) (sym stands.shows) ∙ shown (omega (arith, low, size))
+
+pub slot-later : (events : List Event) (e : Event) (w new : Window) (move : Move) (p : Ix) (y : View) → StandsFor w events → IsNext w e move
+    → place_of move ≡ Some p → StandsFor new (events ++ e ∷ []) → (p.number < count_of new → slice_get (views new) p.number ≡ Some y)
+    → (x : View) × TurnsAt (views_of events) (views_of (events ++ e ∷ [])) p.number x y × (y ≡ next_view e.kind (ops_of move) x)
+slot-later events e w new move p y stands next at after shown =
+    let told = found-moved events e w move p stands next at in
+    let ds = descriptors_of events in
+    let low = found_within e.thread.number ds _ told.1 in
+    let size : length ds ≡ length (views_of events) = sym (length-map ds view_in) ∙ ap length (views-told events) in
+    let x = slice_get_some (views_of events) p.number (omega (arith, low, size)) in
+    let turns = turns-next events e w move p x.0 stands next at x.1 in
+    let same_size = turns.same_length in
+    let there : slice_get (views_of (events ++ e ∷ [])) p.number ≡ Some y
+    = ap (λ vs. slice_get vs p.number) (sym after.shows) ∙ shown (omega (arith, low, size, same_size, ap length after.shows)) in
+    let is : next_view e.kind (ops_of move) x.0 ≡ y = (let a = turns.here in let b = there in cc) in
+    (x.0, subst (λ (v : View). TurnsAt (views_of events) (views_of (events ++ e ∷ [])) p.number x.0 v) is turns, sym is)
+
 -- where none was open for it, one begins
-pub begun-pushed : (events : List Event) (e : Event) → None ≡ position (is_open_for e.thread.number) (views_of events)
-    → views_of (events ++ e ∷ []) ≡ views_of events ++ new_view e.thread.number e.kind (completed_mask (views_of events)) ∷ []
-begun-pushed events e nowhere =
-    let vs = views_of events in
-    let none : list_any (is_open_for e.thread.number) vs ≡ false =
-    false_from_ne_true (list_any (is_open_for e.thread.number) vs) (λ some. position_some (is_open_for e.thread.number) vs some nowhere) in
-    views_of-push events e ∙ push_views-none e (completed_mask vs) vs none
+pub begun-pushed : (events : List Event) (e : Event) (w : Window) → StandsFor w events → IsNext w e Begin
+    → views_of (events ++ e ∷ []) ≡ views_of events ++ new_view e.kind (completed_mask (views_of events)) ∷ []
+begun-pushed events e w stands next =
+    views_of-push events e ∙ ap (λ g. views_after g e.kind (completed_mask (views_of events)) (views_of events)) (found-begun events e w stands next).0
 
 pub completed-within : (vs : List View) (j : ℕ) → bit_at (completed_mask vs) j ≡ 1 → j < length vs
 completed-within vs j one =

@@ -8,8 +8,14 @@ pub use Rattle.std.proofs.lemmas.Option.{get_or_from_slice_get, slice_get-get_or
 pub use Rattle.std.specs.Int.{bit_at}
 pub use Rattle.std.specs.List.{Contains, list_any}
 pub use Rattle.std.specs.Prelude.{position, slice_get, slice_set}
-pub use Rattle.tmw_cuts.specs.Standing.{view_of, views_of}
-pub use Rattle.tmw_cuts.specs.Views.{View, answered_ops, bit, completed_mask, is_open_for, new_view, next_view, push_views, view}
+pub use Rattle.tmw_cuts.specs.Standing.{IsNext, StandsFor, descriptors_of, view_of, views_of}
+pub use Rattle.tmw_cuts.specs.Turns.{change, find_open, ops_of, place_of, views_after}
+pub use Rattle.tmw_cuts.specs.declared.turn.Move.{Move}
+pub use Rattle.tmw_cuts.specs.declared.turn.Move.TheVariants.{Answer, Ask, Begin, End}
+pub use Rattle.tmw_cuts.specs.declared.window.Window.{Window}
+pub use Rattle.tmw_events.specs.declared.event.Event.{Event}
+pub use Rattle.tmw_events.specs.declared.ix.Ix.{Ix}
+pub use Rattle.tmw_cuts.specs.Views.{View, bit, completed_mask, new_view, next_view, view}
 pub use Rattle.tmw_defs.proofs.QuietProof.{left_out, reads_hold-write}
 pub use Rattle.tmw_defs.proofs.QuietTexts.{AddsAWrite, tells_no_value}
 pub use Rattle.tmw_defs.specs.History.{Txn, is_ended, is_over, operation, status_of, transactions}

@@ -1,12 +1,11 @@
 //! Decides in few steps, before an event is taken, whether the known order is one with it too, as it stands.
-ghost use Rattle.std.specs.Prelude.{◌≡◌, ◌<◌, ◌++◌, [], ◌∷◌, List, Some, IsTrue, position};
+ghost use Rattle.std.specs.Prelude.{◌≡◌, ◌++◌, [], ◌∷◌, List, IsTrue};
 ghost use Rattle.tmw_defs.specs.Opaque.{State, reads_hold, after_writes};
-ghost use Rattle.tmw_events.specs.declared.event.Kind.TheVariants.{V};
-ghost use Rattle.tmw_cuts.specs.Views.{View, view, answered_ops};
 
 use crate::witness::Witness;
-use tmw_cuts::{State, Txn, Window};
-use tmw_events::{Event, Kind};
+use tmw_cuts::{Move, State, Txn, Window};
+use tmw_defs::Op;
+use tmw_events::{Event, Ix, Kind};
 
 /// Whether the transaction writes nothing, so that it leaves the state as it is.
 #[inline(always)]
@@ -19,73 +18,71 @@ fn leaves(item: &Txn, state: &State) -> bool
 }
 
 impl Witness {
-    ghost use Rattle.tmw_witness.specs.Witnessing.{Witnesses, rank_of, state_of};
-    ghost use Rattle.tmw_witness.specs.Turns.{TurnsAt};
+    ghost use Rattle.tmw_witness.specs.Witnessing.{Witnesses, rank_of, committed_of, state_of};
     ghost use Rattle.tmw_events.specs.declared.event.Event.{Event};
-    ghost use Rattle.tmw_cuts.specs.Standing.{StandsFor, count_of, views_of};
-    ghost use Rattle.tmw_cuts.specs.Views.{next_view, is_open_for};
+    ghost use Rattle.tmw_cuts.specs.Standing.{IsNext, StandsFor, views_of};
 
-    /// Whether the reads of the transaction hold at its rank with this answer too, where they hold there so far.
+    /// Whether the transaction is taken as committed.
     #[inline(always)]
-    fn has_value(&self, item: &Txn, place: usize, value: u64) -> bool
-        requires { place < 8 }
-        ensures { IsTrue result
-            → IsTrue (reads_hold (state_of self.now (rank_of self.now place)) item.now.ops.items)
-            → IsTrue (reads_hold (state_of self.now (rank_of self.now place))
-            (item.now.ops.items ++ answered_ops item.now.call (V value))) }
+    fn is_held(&self, place: Ix) -> bool
+        ensures { result ≡ committed_of self.now place.number }
     {
-        match self.states.get(usize::from(self.ranks[place])) {
-            Some(state) => item.fits_answer(state, value),
+        self.committed[place.get() as usize]
+    }
+
+    /// Whether the reads of the transaction hold at its rank with this operation too, where they hold there so far.
+    #[inline(always)]
+    fn has_answer(&self, item: &Txn, place: Ix, op: Op) -> bool
+        ensures { IsTrue result
+            → IsTrue (reads_hold (state_of self.now (rank_of self.now place.number)) item.now.ops.items)
+            → IsTrue (reads_hold (state_of self.now (rank_of self.now place.number))
+            (item.now.ops.items ++ op ∷ [])) }
+    {
+        match self.states.get(usize::from(self.ranks[place.get() as usize])) {
+            Some(state) => item.fits_more(state, op),
             None => false,
         }
     }
 
     /// Whether the transaction writes nothing, and so may be taken as committed as well as left out.
     #[inline(always)]
-    fn leaves_nothing(&self, item: &Txn, place: usize) -> bool
-        requires { place < 8 }
+    fn leaves_nothing(&self, item: &Txn, place: Ix) -> bool
         ensures { IsTrue result
-            → after_writes (state_of self.now (rank_of self.now place)) item.now.ops.items
-            ≡ state_of self.now (rank_of self.now place) }
+            → after_writes (state_of self.now (rank_of self.now place.number)) item.now.ops.items
+            ≡ state_of self.now (rank_of self.now place.number) }
     {
-        match self.states.get(usize::from(self.ranks[place])) {
+        match self.states.get(usize::from(self.ranks[place.get() as usize])) {
             Some(state) => leaves(item, state),
             None => false,
         }
     }
 
-    /// Whether the transaction at this place stands in the order with an event of this kind more as it stands now.
+    /// Tells whether an order is known and, as it stands, is one with the next event too, which is this to its thread. After `false`
+    /// it may still be one.
     #[inline(always)]
-    fn explains_at(&self, item: &Txn, place: usize, kind: Kind) -> bool
-        requires { place < 8 }
-        ensures { IsTrue result → (starts : List State) (xs ys : List View)
-            → TurnsAt xs ys place (view item.now) (next_view kind (view item.now))
-            → Witnesses starts xs self.now → Witnesses starts ys self.now }
-    {
-        match kind {
-            Kind::V(value) => !self.committed[place] && self.has_value(item, place, value),
-            Kind::C => self.committed[place] || self.leaves_nothing(item, place),
-            Kind::R(_) | Kind::W(_, _) | Kind::N(_, _) | Kind::T | Kind::X | Kind::K | Kind::A =>
-                !self.committed[place],
-        }
-    }
-
-    /// Tells whether an order is known and, as it stands, is one with an event more of the transaction at this place, which is
-    /// open for its thread. After `false` it may still be one.
-    #[inline(always)]
-    pub fn explains_open(&self, window: &Window, place: usize, event: Event) -> bool
-        requires { place < count_of window.now }
+    pub fn explains(&self, window: &Window, event: Event, step: Move) -> bool
         ensures known { IsTrue result → IsTrue self.now.known }
         ensures stands { IsTrue result → (starts : List State) (events : List Event)
-            → StandsFor window.now events
-            → Some place ≡ position (is_open_for event.thread.number) (views_of events)
+            → StandsFor window.now events → IsNext window.now event step
             → Witnesses starts (views_of events) self.now
             → Witnesses starts (views_of (events ++ event ∷ [])) self.now }
     {
         if !self.known {
             return false;
         }
-        let item = &window.transactions()[place];
-        self.explains_at(item, place, event.kind)
+        match step {
+            Move::Begin => false,
+            Move::Ask(place) => !self.is_held(place),
+            Move::Answer(place, op) => {
+                !self.is_held(place) && self.has_answer(window.slot(place), place, op)
+            }
+            Move::End(place) => {
+                if matches!(event.kind, Kind::C) {
+                    self.is_held(place) || self.leaves_nothing(window.slot(place), place)
+                } else {
+                    !self.is_held(place)
+                }
+            }
+        }
     }
 }

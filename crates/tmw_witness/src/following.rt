@@ -1,37 +1,37 @@
-ghost use Rattle.std.specs.Prelude.{◌≡◌, ◌+◌, ◌≤◌, ◌<◌, ℕ, [], ◌∷◌, ◌++◌, List, IfSome, IsTrue, IsFalse, length, false, true, Some, None};
-ghost use Rattle.tmw_defs.specs.History.{status_after};
+ghost use Rattle.std.specs.Prelude.{◌≡◌, ◌+◌, ◌≤◌, ◌<◌, ℕ, [], ◌∷◌, ◌++◌, List, IfSome, IsTrue, IsFalse, length, false, true};
 ghost use Rattle.std.specs.Int.{bit_at};
 ghost use Rattle.tmw_defs.specs.Opaque.{State, may_hold, reads_hold, after_writes};
 ghost use Rattle.tmw_defs.specs.declared.status.Status.TheVariants.{Pending, Committed, Aborted};
 ghost use Rattle.tmw_cuts.specs.Views.{View, view, bit};
 
 use crate::witness::Witness;
-use tmw_cuts::{State, Txn, Window};
+use tmw_cuts::{Move, State, Txn, Window};
 use tmw_defs::Status;
-use tmw_events::{Event, Kind};
+use tmw_events::{Event, Ix, Kind};
 
 impl Witness {
     ghost use Rattle.tmw_witness.specs.Witnessing.{Witnesses, rank_of, committed_of, state_of};
     ghost use Rattle.tmw_witness.specs.Turns.{TurnsAt};
     ghost use Rattle.tmw_events.specs.declared.event.Event.{Event};
-    ghost use Rattle.tmw_cuts.specs.Standing.{StandsFor, count_of, views_of};
-    ghost use Rattle.tmw_cuts.specs.Views.{next_view, is_open_for};
-    ghost use Rattle.std.specs.Prelude.{position};
+    ghost use Rattle.tmw_cuts.specs.Standing.{IsNext, StandsFor, views_of};
+    ghost use Rattle.tmw_cuts.specs.declared.turn.Move.TheVariants.{End};
+    ghost use Rattle.tmw_cuts.specs.declared.window.Window.{Window};
 
-    /// Takes in that a transaction begins with an event of this kind, with which there are so many.
+    /// Takes in that a transaction begins, behind so many others.
     #[inline(always)]
-    fn begin(&mut self, count: usize, kind: Kind)
-        ensures { (starts : List State) (xs : List View) (y : View) → length xs + 1 ≡ count
-            → y.ops ≡ [] → y.status ≡ status_after (Some kind)
+    pub fn begin(&mut self, count: u8)
+        ensures { (starts : List State) (xs : List View) (y : View) → length xs ≡ count
+            → y.ops ≡ [] → IsTrue (may_hold y.status false)
             → ((j : ℕ) → bit_at y.before j ≡ 1 → j < length xs) → Witnesses starts xs self.old
             → Witnesses starts (xs ++ y ∷ []) self.new }
     {
-        if matches!(kind, Kind::C) || count == 0 || count > 8 {
+        let place = usize::from(count);
+        if place < 8 {
+            self.ranks[place] = self.top;
+            self.committed[place] = false;
+        } else {
             self.known = false;
-            return;
         }
-        self.ranks[count - 1] = self.top;
-        self.committed[count - 1] = false;
     }
 
     /// The rank above the transaction: the next, where it is taken as committed.
@@ -130,25 +130,25 @@ impl Witness {
         true
     }
 
-    /// If the transaction at this place has asked to commit and this is the answer that it has, takes it as committed at the end of
-    /// the order, if its reads hold there. So an order that is never searched for is that of the commits.
+    /// If the next event commits the transaction at the place, takes that as committed at the end of the order, if its reads hold
+    /// there. So an order that is never searched for is that of the commits.
     #[inline(always)]
-    pub fn hold_pending(&mut self, window: &Window, place: usize, kind: Kind)
-        requires { place < count_of window.now }
+    pub fn hold_pending(&mut self, window: &Window, event: Event, place: Ix)
         ensures known { self.new.known ≡ self.old.known }
         ensures stands { (starts : List State) (events : List Event)
-            → StandsFor window.now events → Witnesses starts (views_of events) self.old
+            → StandsFor window.now events → IsNext window.now event (End place)
+            → Witnesses starts (views_of events) self.old
             → Witnesses starts (views_of events) self.new }
     {
-        if !self.known || !matches!(kind, Kind::C) {
+        if !self.known || !matches!(event.kind, Kind::C) {
             return;
         }
-        let item = &window.transactions()[place];
+        let item = window.slot(place);
         if item.only_reads() {
             return;
         }
         if let Status::Pending = item.status {
-            let _held = self.hold(item, place);
+            let _held = self.hold(item, usize::from(place.get()));
         }
     }
 
@@ -201,55 +201,29 @@ impl Witness {
         }
     }
 
-    /// Takes in that the transaction at the place has an event of this kind more.
+    /// Updates the order for the event that the window has taken last, or marks it unknown. The event was this to its thread.
     #[inline(always)]
-    fn go_on(&mut self, item: &Txn, place: usize, kind: Kind)
-        ensures { (starts : List State) (xs ys : List View) (x : View)
-            → TurnsAt xs ys place x (view item.now) → view item.now ≡ next_view kind x
-            → Witnesses starts xs self.old → Witnesses starts ys self.new }
-    {
-        match kind {
-            Kind::V(_) => self.answer(item, place),
-            Kind::C => self.commit(item, place),
-            Kind::R(_) | Kind::W(_, _) | Kind::N(_, _) | Kind::T | Kind::X | Kind::K | Kind::A =>
-                self.keep(place),
-        }
-    }
-
-    /// Updates the order for the event that the window has taken last, or marks it unknown. The event is that of the
-    /// transaction at this place, which was open for its thread, or the first of another.
-    #[inline(always)]
-    pub fn follow(&mut self, window: &Window, place: Option<usize>, event: Event)
-        ensures { (starts : List State) (events : List Event)
+    pub fn follow(&mut self, window: &Window, event: Event, step: Move)
+        ensures { (starts : List State) (before : Window) (events : List Event)
+            → StandsFor before events → IsNext before event step
             → StandsFor window.now (events ++ event ∷ [])
-            → place ≡ position (is_open_for event.thread.number) (views_of events)
             → Witnesses starts (views_of events) self.old
             → Witnesses starts (views_of (events ++ event ∷ [])) self.new }
     {
         if !self.known {
             return;
         }
-        let Some(place) = place else {
-            self.follow_new(window, event);
-            return;
-        };
-        let items = window.transactions();
-        match items.get(place) {
-            Some(item) => self.go_on(item, place, event.kind),
-            None => self.known = false,
+        match step {
+            Move::Begin => self.begin(window.count().saturating_sub(1)),
+            Move::Ask(place) => self.keep(usize::from(place.get())),
+            Move::Answer(place, _) => self.answer(window.slot(place), usize::from(place.get())),
+            Move::End(place) => {
+                if matches!(event.kind, Kind::C) {
+                    self.commit(window.slot(place), usize::from(place.get()));
+                } else {
+                    self.keep(usize::from(place.get()));
+                }
+            }
         }
-    }
-
-    /// Updates the order for the event that the window has taken last, the first of a transaction, or marks it
-    /// unknown.
-    #[inline(always)]
-    pub fn follow_new(&mut self, window: &Window, event: Event)
-        ensures { (starts : List State) (events : List Event)
-            → StandsFor window.now (events ++ event ∷ [])
-            → None ≡ position (is_open_for event.thread.number) (views_of events)
-            → Witnesses starts (views_of events) self.old
-            → Witnesses starts (views_of (events ++ event ∷ [])) self.new }
-    {
-        self.begin(window.transactions().len(), event.kind);
     }
 }
