@@ -1,8 +1,7 @@
 -- The first event that fits no run, with an event more.
-use Rattle.tmw_monitor.proofs.Shared.{Broken, Event, IsBrokenAt, List, None, Option, Some, TellsTracked, Tracks, [], ap, append_assoc, false, is_some, length, refl, true, ℕ, ◌++◌, ◌+◌, ◌∙◌, ◌∷◌, ◌≡◌}
+use Rattle.tmw_monitor.proofs.Shared.{Broken, Event, IsBrokenAt, List, None, Option, Some, TellsFollowed, Follows, Window, [], ap, append_assoc, false, is_some, length, refl, true, ℕ, ◌++◌, ◌+◌, ◌∙◌, ◌∷◌, ◌≡◌}
 use Rattle.tmw_wellformed.specs.Faults.{Refuses}
 use Rattle.tmw_wellformed.specs.declared.malformed.Malformed.{Malformed}
-use Rattle.tmw_wellformed.specs.declared.tracker.Tracker.{Tracker}
 
 -- it stays the first
 pub broken-stays : (registers : ℕ) (h : List Event) (e : Event) (broken : Broken) → IsBrokenAt registers h broken
@@ -17,25 +16,25 @@ broken-stays registers h e broken was = record {
   refused = was.refused;
 }
 
--- one that the tracker refuses is the first
-pub broken-here : (registers : ℕ) (h : List Event) (e : Event) (at : ℕ) (rule : Malformed) (tracker : Tracker) → at ≡ length h + 1
-    → Tracks registers h tracker → Refuses registers h e rule → IsBrokenAt registers (h ++ e ∷ []) (record { at = at; rule = rule })
-broken-here registers h e at rule tracker place tracks refused = record {
+-- one that is refused is the first
+pub broken-here : (registers : ℕ) (h : List Event) (e : Event) (at : ℕ) (rule : Malformed) (window : Window) → at ≡ length h + 1
+    → Follows registers h window → Refuses registers h e rule → IsBrokenAt registers (h ++ e ∷ []) (record { at = at; rule = rule })
+broken-here registers h e at rule window place follows refused = record {
   before = h;
   event = e;
   rest = [];
   is = refl;
   at = place;
-  formed = tracks.formed;
+  formed = follows.formed;
   refused = refused;
 }
 
-pub tracked-stays : (registers : ℕ) (h : List Event) (e : Event) (tracker : Tracker) (broken : Option Broken) → is_some broken ≡ true
-    → TellsTracked registers h tracker broken → TellsTracked registers (h ++ e ∷ []) tracker broken
-tracked-stays registers h e tracker None is told = absurd (cc)
-tracked-stays registers h e tracker (Some broken) is told = broken-stays registers h e broken told
+pub followed-stays : (registers : ℕ) (h : List Event) (e : Event) (window : Window) (broken : Option Broken) → is_some broken ≡ true
+    → TellsFollowed registers h window broken → TellsFollowed registers (h ++ e ∷ []) window broken
+followed-stays registers h e window None is told = absurd (cc)
+followed-stays registers h e window (Some broken) is told = broken-stays registers h e broken told
 
-pub tracks-still : (registers : ℕ) (h : List Event) (tracker : Tracker) (broken : Option Broken) → is_some broken ≡ false
-    → TellsTracked registers h tracker broken → (broken ≡ None) × Tracks registers h tracker
-tracks-still registers h tracker None is told = (refl, told)
-tracks-still registers h tracker (Some broken) is told = absurd (cc)
+pub follows-still : (registers : ℕ) (h : List Event) (window : Window) (broken : Option Broken) → is_some broken ≡ false
+    → TellsFollowed registers h window broken → (broken ≡ None) × Follows registers h window
+follows-still registers h window None is told = (refl, told)
+follows-still registers h window (Some broken) is told = absurd (cc)

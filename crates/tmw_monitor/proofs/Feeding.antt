@@ -1,5 +1,5 @@
 -- A monitor whose verdict is that nothing is wrong, with what the next event makes of what it keeps.
-use Rattle.tmw_monitor.proofs.Shared.{Broken, Event, Fits, Keeps, KeepsNothing, List, Monitor, None, Open, Option, Rules, Some, TellsTracked, TellsWrong, Verdict, [], ap, arith, so_far, sym, ◌++◌, ◌+◌, ◌∙◌, ◌∷◌, ◌≡◌}
+use Rattle.tmw_monitor.proofs.Shared.{Broken, Event, Fits, Keeps, KeepsNothing, List, Monitor, None, Open, Option, Rules, Some, TellsFollowed, TellsWrong, Verdict, [], ap, arith, so_far, sym, ◌++◌, ◌+◌, ◌∙◌, ◌∷◌, ◌≡◌}
 use Rattle.tmw_monitor.proofs.Final.{verdict-stays}
 use Rattle.tmw_defs.proofs.WindowsProof as windows
 
@@ -22,7 +22,7 @@ fits-next rules h e old kept fits fine told = record {
 -- something is wrong with it
 pub fits-wrong : (rules : Rules) (h : List Event) (e : Event) (old : Monitor) (verdict : Verdict) (kept left : Open) (broken : Option Broken)
     → Fits rules h old → TellsWrong rules (h ++ e ∷ []) kept (Some verdict) → KeepsNothing left
-    → TellsTracked rules.registers (h ++ e ∷ []) left.tracker broken
+    → TellsFollowed rules.registers (h ++ e ∷ []) left.window broken
     → Fits rules (h ++ e ∷ []) (record old { count = old.count + 1; verdict = verdict; kept = left; broken = broken })
 fits-wrong rules h e old verdict kept left broken fits told ended breaks = record {
   criterion = fits.criterion;
@@ -54,7 +54,7 @@ fits-kept rules h old kept fits fine keeps = record {
 -- after a final verdict
 pub fits-final : (rules : Rules) (h : List Event) (e : Event) (old : Monitor) (kept : Open) (broken : Option Broken) → Fits rules h old
     → (old.verdict ≡ so_far old.criterion → ⊥) → KeepsNothing kept
-    → TellsTracked rules.registers (h ++ e ∷ []) kept.tracker broken
+    → TellsFollowed rules.registers (h ++ e ∷ []) kept.window broken
     → Fits rules (h ++ e ∷ []) (record old { count = old.count + 1; kept = kept; broken = broken })
 fits-final rules h e old kept broken fits final ended breaks = record {
   criterion = fits.criterion;

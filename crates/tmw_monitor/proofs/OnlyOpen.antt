@@ -27,7 +27,7 @@ holds_open rules history kept keeps = record {
 holds_none : (kept : Open) → KeepsNothing kept → HoldsNone kept
 holds_none kept nothing = record {
   states = nothing.states;
-  transactions = nothing.stands.shows;
+  transactions = nothing.transactions;
 }
 
 pub keeps_only_open : (rules : Rules) (history : List Event) (monitor : Monitor) → Fits rules history monitor

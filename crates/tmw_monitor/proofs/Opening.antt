@@ -1,25 +1,36 @@
--- The open window of a history that is summed up: it is narrow, and so it is with an event more where the note allows it.
-use Rattle.tmw_monitor.proofs.Shared.{Bool, Event, IsFine, IsTrue, List, Note, Notes, Rules, State, SumsUp, [], arith, cases_Bool, cases_lt, drop, eq-eqb, inl, inr, is_cut, length, length-transactions_push, ne_eqb, refl, subst, sym, take, take-append-drop, take_all, transactions, true, ℕ, ◌++◌, ◌<◌, ◌==◌, ◌↔◌, ◌∙◌, ◌∷◌, ◌≡◌, ◌≤◌}
-use Rattle.tmw_cuts.proofs.AcrossCuts.{notes-behind}
-use Rattle.tmw_defs.proofs.WindowsProof as windows
+-- The open window of a history that is summed up: it is narrow.
+use Rattle.tmw_monitor.proofs.Shared.{Answer, Ask, Begin, End, Event, Follows, IsFine, IsTrue, List, Move, Rules, StandsFor, State, SumsUp, Window, [], ap, append_assoc, arith, begun_by, cases_lt, drop, inl, inr, is_well_formed, length, refl, subst, sym, take, take-append-drop, take_all, transactions, ℕ, ◌++◌, ◌+◌, ◌<◌, ◌∙◌, ◌∷◌, ◌≡◌, ◌≤◌}
+use Rattle.tmw_cuts.proofs.Following.{follows-cut, formed-append}
+use Rattle.tmw_defs.proofs.VerdictProof.{formed-final}
 
--- the note of an event of the whole history is one of the event of the open window
-pub notes_open : (rules : Rules) (S : State → Type 0) (c : ℕ) (h : List Event) (e : Event) (note : Note) → SumsUp rules S c h
-    → Notes h e note → Notes (drop c h) e note
-notes_open rules S c h e note sums notes =
-    notes-behind (take c h) (drop c h) e note sums.last.is.1 (rw (take-append-drop c h) notes)
+-- what lies before the open window is well-formed, and so is the whole where the window's events are
+pub past_formed : (rules : Rules) (S : State → Type 0) (c : ℕ) (h : List Event) → SumsUp rules S c h
+    → IsTrue (is_well_formed rules.registers (take c h))
+past_formed rules S c h sums =
+    formed-final rules.criterion rules.registers rules.start (take c h) (sums.judged c sums.last.is.0).final
 
-none_live : (live : ℕ) (cut : Bool) → (live ≡ 0) ↔ IsTrue cut → (live == 0) ≡ cut
-none_live live cut tells =
-    elim (cases_Bool cut) [
-      | inl is ↦ eq-eqb live 0 (tells.1 is) ∙ sym is
-      | inr uncut ↦ ne_eqb live 0 (λ none. let is = tells.0 none in absurd (cc)) ∙ sym uncut
-    ]
+pub formed_whole : (rules : Rules) (S : State → Type 0) (c : ℕ) (h : List Event) (e : Event) → SumsUp rules S c h
+    → IsTrue (is_well_formed rules.registers (drop c h ++ e ∷ [])) → IsTrue (is_well_formed rules.registers (h ++ e ∷ []))
+formed_whole rules S c h e sums formed =
+    ap (λ xs. is_well_formed rules.registers (xs ++ e ∷ [])) (sym (take-append-drop c h))
+    ∙ ap (is_well_formed rules.registers) (append_assoc (take c h) (drop c h) (e ∷ []))
+    ∙ formed-append rules.registers (take c h) (drop c h ++ e ∷ []) sums.last.is.1 (past_formed rules S c h sums) ∙ formed
 
--- with the event the open window is at a cut where no transaction of the history is live
-pub cut_open : (rules : Rules) (S : State → Type 0) (c : ℕ) (h : List Event) (e : Event) (live : ℕ) → SumsUp rules S c h
-    → (live ≡ 0) ↔ IsTrue (is_cut (h ++ e ∷ [])) → (live == 0) ≡ is_cut (drop c h ++ e ∷ [])
-cut_open rules S c h e live sums tells = none_live live (is_cut (h ++ e ∷ [])) tells ∙ windows.is_cut-push c h e sums.last.is
+-- a window that stands for the open events follows the whole history
+pub follows_whole : (rules : Rules) (S : State → Type 0) (c : ℕ) (h : List Event) (w : Window) → SumsUp rules S c h
+    → w.registers.number ≡ rules.registers → StandsFor w (drop c h) → Follows rules.registers h w
+follows_whole rules S c h w sums number stands =
+    subst (λ xs. Follows rules.registers xs w) (take-append-drop c h)
+    (subst (λ n. Follows n (take c h ++ drop c h) w) number
+    (follows-cut (take c h) (drop c h) w sums.last.is.1 (rw number (past_formed rules S c h sums)) stands))
+
+pub follows_next : (rules : Rules) (S : State → Type 0) (c : ℕ) (h : List Event) (e : Event) (w : Window) → SumsUp rules S c h
+    → w.registers.number ≡ rules.registers → StandsFor w (drop c h ++ e ∷ []) → Follows rules.registers (h ++ e ∷ []) w
+follows_next rules S c h e w sums number stands =
+    subst (λ xs. Follows rules.registers xs w)
+    (sym (append_assoc (take c h) (drop c h) (e ∷ [])) ∙ ap (λ xs. xs ++ e ∷ []) (take-append-drop c h))
+    (subst (λ n. Follows n (take c h ++ drop c h ++ e ∷ []) w) number
+    (follows-cut (take c h) (drop c h ++ e ∷ []) w sums.last.is.1 (rw number (past_formed rules S c h sums)) stands))
 
 pub narrow_open : (rules : Rules) (S : State → Type 0) (c : ℕ) (h : List Event) → SumsUp rules S c h
     → length (transactions (drop c h)) ≤ rules.window
@@ -43,23 +54,11 @@ narrow_open rules S c h sums =
     ]
 
 -- with an event that begins no transaction, or begins one where there is room, the open window is as narrow as the bound asks
-pub narrow-push : (rules : Rules) (S : State → Type 0) (c : ℕ) (h : List Event) (e : Event) (note : Note) → SumsUp rules S c h
-    → Notes h e note → (note.begins ≡ true → length (transactions (drop c h)) < rules.window)
+pub narrow-push : (rules : Rules) (S : State → Type 0) (c : ℕ) (h : List Event) (e : Event) (move : Move) → SumsUp rules S c h
+    → length (transactions (drop c h ++ e ∷ [])) ≡ length (transactions (drop c h)) + begun_by move
+    → (move ≡ Begin → length (transactions (drop c h)) < rules.window)
     → length (transactions (drop c h ++ e ∷ [])) ≤ rules.window
-narrow-push rules S c h e note sums notes room =
-    let narrow = narrow_open rules S c h sums in
-    elim (length-transactions_push (drop c h) e) [
-      | inl same ↦ omega (arith, same, narrow)
-      | inr more ↦
-          let begins = (notes_open rules S c h e note sums notes).begins.1 more in
-          let free = room begins in
-          omega (arith, more, free)
-    ]
-
--- and where it begins one without room, the window becomes too wide
-pub wide-push : (rules : Rules) (S : State → Type 0) (c : ℕ) (h : List Event) (e : Event) (note : Note) → SumsUp rules S c h
-    → Notes h e note → note.begins ≡ true → rules.window ≤ length (transactions (drop c h))
-    → rules.window < length (transactions (drop c h ++ e ∷ []))
-wide-push rules S c h e note sums notes begins full =
-    let more = (notes_open rules S c h e note sums notes).begins.0 begins in
-    omega (arith, more, full)
+narrow-push rules S c h e Begin sums more room = let free = room refl in omega (arith, more, free)
+narrow-push rules S c h e (Ask p) sums more room = let narrow = narrow_open rules S c h sums in omega (arith, more, narrow)
+narrow-push rules S c h e (Answer p op) sums more room = let narrow = narrow_open rules S c h sums in omega (arith, more, narrow)
+narrow-push rules S c h e (End p) sums more room = let narrow = narrow_open rules S c h sums in omega (arith, more, narrow)

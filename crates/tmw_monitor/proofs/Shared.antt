@@ -7,7 +7,10 @@ pub use Rattle.std.specs.List.{Contains}
 pub use Rattle.std.specs.Prelude.{is_some, remove, slice_get}
 pub use Rattle.tmw_cuts.proofs.FirstMembers.{contains_here}
 pub use Rattle.tmw_cuts.specs.Members.{members}
-pub use Rattle.tmw_cuts.specs.Standing.{StandsFor, views_of}
+pub use Rattle.tmw_cuts.specs.Standing.{Follows, IsNext, StandsFor, Takes, begun_by, is_end, views, views_of}
+pub use Rattle.tmw_cuts.specs.declared.turn.Move.{Move}
+pub use Rattle.tmw_cuts.specs.declared.turn.Move.TheVariants.{Answer, Ask, Begin, End}
+pub use Rattle.tmw_cuts.specs.declared.window.Window.{Window}
 pub use Rattle.tmw_cuts.specs.declared.states.States.{States}
 pub use Rattle.tmw_defs.proofs.OneMore.{length-transactions_push}
 pub use Rattle.tmw_defs.proofs.VerdictProof.{IsFirst-push, so_far-fine, sums_up-cut, sums_up-new, sums_up-open, sums_up-quiet, verdict-many, verdict-violated, verdict-wide}
@@ -24,11 +27,8 @@ pub use Rattle.tmw_defs.specs.declared.verdict.Verdict.{Verdict}
 pub use Rattle.tmw_defs.specs.declared.verdict.Verdict.TheVariants.{Malformed, OpaqueSoFar, StrictSoFar, Undecided, Violated}
 pub use Rattle.tmw_events.specs.declared.event.Event.{Event}
 pub use Rattle.tmw_search.specs.Ended.{EndsOf, HasMoreThan}
-pub use Rattle.tmw_wellformed.specs.Notes.{Notes}
-pub use Rattle.tmw_wellformed.specs.Tracks.{Tracks}
-pub use Rattle.tmw_wellformed.specs.declared.note.Note.{Note}
 pub use Rattle.tmw_witness.specs.Witnessing.{Witnesses, committed_of, rank_of, state_of}
-pub use Rattle.tmw_monitor.specs.Breaking.{IsBrokenAt, TellsTracked}
+pub use Rattle.tmw_monitor.specs.Breaking.{IsBrokenAt, TellsFollowed}
 pub use Rattle.tmw_monitor.specs.Fitting.{Fits, Keeps, KeepsNothing, TellsWrong, rules_for}
 pub use Rattle.tmw_monitor.specs.Weighing.{Closes, StaysOpen, Tells, wrong_of}
 pub use Rattle.tmw_monitor.specs.declared.broken.Broken.{Broken}

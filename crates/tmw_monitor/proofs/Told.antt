@@ -1,8 +1,11 @@
 -- What was found of the open window with an event more is the verdict on the history, and what is then kept is kept of it.
-use Rattle.tmw_monitor.proofs.Shared.{Bool, Closes, Contains, EndsBy, Event, IsFalse, IsTrue, Keeps, List, NoOutcome, None, Open, Outcome, Rules, StandsFor, State, StaysOpen, SumsUp, Tells, TellsWrong, TooMany, Tracks, Witnesses, [], arith, drop, drop-append-le, drop_all, inl, inr, is_cut, is_quiet_by, is_well_formed, length, members, so_far-fine, subst, sums_up-cut, sums_up-open, sums_up-quiet, sym, transactions, verdict-many, verdict-violated, views_of, wrong_of, ℕ, ◌++◌, ◌+◌, ◌∙◌, ◌∷◌, ◌≡◌, ◌≤◌, ◌⊎◌}
+use Rattle.tmw_monitor.proofs.Shared.{true, Follows, Bool, Closes, Contains, EndsBy, Event, IsFalse, IsTrue, Keeps, List, NoOutcome, None, Open, Outcome, Rules, StandsFor, State, StaysOpen, SumsUp, Tells, TellsWrong, TooMany, Witnesses, [], arith, drop, drop-append-le, drop_all, inl, inr, is_cut, is_quiet_by, is_well_formed, length, members, so_far-fine, subst, sums_up-cut, sums_up-open, sums_up-quiet, sym, transactions, verdict-many, verdict-violated, views_of, wrong_of, ℕ, ◌++◌, ◌+◌, ◌∙◌, ◌∷◌, ◌≡◌, ◌≤◌, ◌⊎◌}
 use Rattle.tmw_monitor.specs.declared.weighed.Weighed.{Weighed}
 use Rattle.tmw_monitor.proofs.Counting.{not_more_among, more_than-rising}
+use Rattle.tmw_monitor.proofs.Opening.{follows_next}
 use Rattle.tmw_monitor.proofs.SoFar.{so_far-apart}
+use Rattle.std.proofs.lemmas.List.{append-nil}
+use Rattle.tmw_cuts.proofs.Following.{follows-cut}
 use Rattle.tmw_defs.proofs.WindowsProof as windows
 
 sums_up-stays : (rules : Rules) (S : State → Type 0) (c : ℕ) (h : List Event) (e : Event) (quiet : Bool) → SumsUp rules S c h
@@ -13,15 +16,15 @@ sums_up-stays rules S c h e quiet sums formed narrow uncut is (inl still) = sums
 sums_up-stays rules S c h e quiet sums formed narrow uncut is (inr (end, ends)) = sums_up-open rules S c h e sums formed narrow uncut end ends
 
 follows-open : (rules : Rules) (h : List Event) (e : Event) (kept : Open) (keeps : Keeps rules h kept) (quiet : Bool)
-    (new : Open) → Tracks rules.registers (h ++ e ∷ []) new.tracker
+    (new : Open) → IsTrue (is_well_formed rules.registers (h ++ e ∷ [])) → new.window.registers.number ≡ rules.registers
     → length (transactions (drop keeps.cut h ++ e ∷ [])) ≤ rules.window
     → quiet ≡ is_quiet_by rules.criterion (transactions (drop keeps.cut h)) e.thread.number e.kind
     → StaysOpen rules.criterion kept.states quiet (drop keeps.cut h ++ e ∷ []) new
     → TellsWrong rules (h ++ e ∷ []) new None
-follows-open rules h e kept keeps quiet new tracks narrow is stays =
+follows-open rules h e kept keeps quiet new formed number narrow is stays =
     let c = keeps.cut in
     let old : SumsUp rules (Contains (members kept.states)) c (h ++ e ∷ []) =
-    sums_up-stays rules (Contains (members kept.states)) c h e quiet keeps.sums_up tracks.formed narrow stays.uncut is stays.ends in
+    sums_up-stays rules (Contains (members kept.states)) c h e quiet keeps.sums_up formed narrow stays.uncut is stays.ends in
     let sums : SumsUp rules (Contains (members new.states)) c (h ++ e ∷ []) =
     subst (λ (xs : List State). SumsUp rules (Contains xs) c (h ++ e ∷ [])) (sym stays.states) old in
     let rest : drop c (h ++ e ∷ []) ≡ drop c h ++ e ∷ [] = drop-append-le c h (e ∷ []) keeps.sums_up.last.is.0 in (
@@ -30,20 +33,20 @@ follows-open rules h e kept keeps quiet new tracks narrow is stays =
         cut = c;
         sums_up = sums;
         stands = subst (λ (es : List Event). StandsFor new.window es) (sym rest) stays.stands;
-        tracks = tracks;
+        number = number;
         witness = subst (λ (es : List Event). Witnesses (members new.states) (views_of es) new.witness) (sym rest) stays.witness;
       },
     )
 
 follows-cut : (rules : Rules) (h : List Event) (e : Event) (kept : Open) (keeps : Keeps rules h kept) (cap : ℕ)
-    (new : Open) → cap ≡ rules.states → Tracks rules.registers (h ++ e ∷ []) new.tracker
+    (new : Open) → cap ≡ rules.states → IsTrue (is_well_formed rules.registers (h ++ e ∷ [])) → new.window.registers.number ≡ rules.registers
     → length (transactions (drop keeps.cut h ++ e ∷ [])) ≤ rules.window
     → Closes rules.criterion kept.states cap (drop keeps.cut h ++ e ∷ []) new
     → TellsWrong rules (h ++ e ∷ []) new None
-follows-cut rules h e kept keeps cap new bound tracks narrow closes =
+follows-cut rules h e kept keeps cap new bound formed number narrow closes =
     let few : length (members new.states) ≤ rules.states = rw (← bound) closes.few in
     let sums : SumsUp rules (Contains (members new.states)) (length h + 1) (h ++ e ∷ []) =
-    sums_up-cut rules (Contains (members kept.states)) (Contains (members new.states)) keeps.cut h e keeps.sums_up tracks.formed narrow closes.cut
+    sums_up-cut rules (Contains (members kept.states)) (Contains (members new.states)) keeps.cut h e keeps.sums_up formed narrow closes.cut
     closes.exact closes.end closes.some (not_more_among rules.states (members new.states) few) in
     let nothing : drop (length h + 1) (h ++ e ∷ []) ≡ [] =
     drop_all (length h + 1) (h ++ e ∷ []) (let n = windows.length-push h e in omega (arith, n)) in (
@@ -52,27 +55,44 @@ follows-cut rules h e kept keeps cap new bound tracks narrow closes =
         cut = length h + 1;
         sums_up = sums;
         stands = subst (λ (es : List Event). StandsFor new.window es) (sym nothing) closes.stands;
-        tracks = tracks;
+        number = number;
         witness = subst (λ (es : List Event). Witnesses (members new.states) (views_of es) new.witness) (sym nothing) closes.witness;
       },
     )
 
 -- each thing that was found
 pub follows-told : (rules : Rules) (h : List Event) (e : Event) (kept : Open) (keeps : Keeps rules h kept) (at cap : ℕ) (quiet : Bool)
-    (new : Open) (found : Weighed) → at ≡ length h + 1 → cap ≡ rules.states → Tracks rules.registers (h ++ e ∷ []) new.tracker → length (transactions (drop keeps.cut h ++ e ∷ [])) ≤ rules.window
+    (new : Open) (found : Weighed) → at ≡ length h + 1 → cap ≡ rules.states → IsTrue (is_well_formed rules.registers (h ++ e ∷ [])) → new.window.registers.number ≡ rules.registers → length (transactions (drop keeps.cut h ++ e ∷ [])) ≤ rules.window
     → quiet ≡ is_quiet_by rules.criterion (transactions (drop keeps.cut h)) e.thread.number e.kind
     → Tells rules.criterion kept.states cap quiet (drop keeps.cut h ++ e ∷ []) new found
     → TellsWrong rules (h ++ e ∷ []) new (wrong_of at found)
-follows-told rules h e kept keeps at cap quiet new Outcome length_is bound tracks narrow is (inl stays) =
-    follows-open rules h e kept keeps quiet new tracks narrow is stays
-follows-told rules h e kept keeps at cap quiet new Outcome length_is bound tracks narrow is (inr closes) =
-    follows-cut rules h e kept keeps cap new bound tracks narrow closes
-follows-told rules h e kept keeps at cap quiet new NoOutcome length_is bound tracks narrow is none_ends = (
-  rw length_is (verdict-violated rules (Contains (members kept.states)) keeps.cut h e keeps.sums_up tracks.formed narrow none_ends),
+follows-told rules h e kept keeps at cap quiet new Outcome length_is bound formed number narrow is (inl stays) =
+    follows-open rules h e kept keeps quiet new formed number narrow is stays
+follows-told rules h e kept keeps at cap quiet new Outcome length_is bound formed number narrow is (inr closes) =
+    follows-cut rules h e kept keeps cap new bound formed number narrow closes
+follows-told rules h e kept keeps at cap quiet new NoOutcome length_is bound formed number narrow is (stands, none_ends) = (
+  rw length_is (verdict-violated rules (Contains (members kept.states)) keeps.cut h e keeps.sums_up formed narrow none_ends),
   λ other. absurd (so_far-apart rules.criterion _ (λ is. cc) (λ is. cc) other),
 )
-follows-told rules h e kept keeps at cap quiet new TooMany length_is bound tracks narrow is (cut, more) = (
-  rw length_is (verdict-many rules (Contains (members kept.states)) keeps.cut h e keeps.sums_up tracks.formed narrow cut
+follows-told rules h e kept keeps at cap quiet new TooMany length_is bound formed number narrow is (stands, (cut, more)) = (
+  rw length_is (verdict-many rules (Contains (members kept.states)) keeps.cut h e keeps.sums_up formed narrow cut
       (rw (← bound) (more_than-rising cap _ more))),
   λ other. absurd (so_far-apart rules.criterion _ (λ is. cc) (λ is. cc) other),
 )
+
+-- whatever was found, the window follows the history
+pub follows-found : (rules : Rules) (h : List Event) (e : Event) (kept : Open) (keeps : Keeps rules h kept) (cap : ℕ) (quiet : Bool)
+    (new : Open) (found : Weighed) → IsTrue (is_well_formed rules.registers (h ++ e ∷ [])) → new.window.registers.number ≡ rules.registers
+    → Tells rules.criterion kept.states cap quiet (drop keeps.cut h ++ e ∷ []) new found → Follows rules.registers (h ++ e ∷ []) new.window
+follows-found rules h e kept keeps cap quiet new Outcome formed number (inl stays) =
+    follows_next rules (Contains (members kept.states)) keeps.cut h e new.window keeps.sums_up number stays.stands
+follows-found rules h e kept keeps cap quiet new Outcome formed number (inr closes) =
+    let whole = drop keeps.cut h ++ e ∷ [] in
+    let at_cut : is_cut (h ++ e ∷ []) ≡ true = windows.is_cut-push keeps.cut h e keeps.sums_up.last.is ∙ closes.cut in
+    subst (λ xs. Follows rules.registers xs new.window) (append-nil (h ++ e ∷ []))
+    (subst (λ n. Follows n ((h ++ e ∷ []) ++ []) new.window) number
+    (follows-cut (h ++ e ∷ []) [] new.window at_cut (rw number formed) closes.stands))
+follows-found rules h e kept keeps cap quiet new NoOutcome formed number (stands, none) =
+    follows_next rules (Contains (members kept.states)) keeps.cut h e new.window keeps.sums_up number stands
+follows-found rules h e kept keeps cap quiet new TooMany formed number (stands, many) =
+    follows_next rules (Contains (members kept.states)) keeps.cut h e new.window keeps.sums_up number stands

@@ -1,10 +1,12 @@
 -- What is kept of a history where its next event is taken at once.
-use Rattle.std.specs.Prelude.{◌≡◌, ℕ, List, [], ◌∷◌, ◌++◌, Option, None, position}
+use Rattle.std.specs.Prelude.{◌≡◌, ◌⊎◌, List, [], ◌∷◌, ◌++◌, None}
 use Rattle.tmw_events.specs.declared.event.Event.{Event}
+use Rattle.tmw_events.specs.declared.ix.Ix.{Ix}
 use Rattle.tmw_defs.specs.declared.criterion.Criterion.{Criterion}
+use Rattle.tmw_defs.specs.declared.op.Op.{Op}
 use Rattle.tmw_defs.specs.Verdict.{Rules}
-use Rattle.tmw_cuts.specs.Standing.{StandsFor, views_of}
-use Rattle.tmw_cuts.specs.Views.{is_open_for}
+use Rattle.tmw_cuts.specs.declared.turn.Move.{Move}
+use Rattle.tmw_cuts.specs.declared.turn.Move.TheVariants.{Answer, Ask}
 use Rattle.tmw_monitor.specs.declared.bounds.Bounds.{Bounds}
 use Rattle.tmw_monitor.specs.declared.open.Open.{Open}
 use Rattle.tmw_monitor.specs.Fitting.{Keeps, TellsWrong}
@@ -15,10 +17,9 @@ abbrev pub StaysFine : Criterion → Bounds → Event → Open → Open → Type
 StaysFine criterion bounds event old new = (rules : Rules) (history : List Event) → criterion ≡ rules.criterion → bounds.window ≡ rules.window
     → bounds.states ≡ rules.states → Keeps rules history old → TellsWrong rules (history ++ event ∷ []) new None
 
--- This is the place of the transaction that is open for the event, if one is.
-abbrev pub IsOpenAt : Option ℕ → Event → Open → Type 0
-IsOpenAt place event kept = (events : List Event) → StandsFor kept.window events
-    → place ≡ position (is_open_for event.thread.number) (views_of events)
+-- It goes on with an open transaction and does not end it.
+abbrev pub Continues : Move → Type 0
+Continues move = ((p : Ix) × (move ≡ Ask p)) ⊎ ((p : Ix) × (op : Op) × (move ≡ Answer p op))
 
 -- Whatever history the one is kept of, the other is too.
 abbrev pub StaysKept : Open → Open → Type 0

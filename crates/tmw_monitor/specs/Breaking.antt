@@ -3,8 +3,8 @@ use Rattle.std.specs.Prelude.{◌≡◌, ◌+◌, ℕ, List, ◌∷◌, ◌++◌
 use Rattle.tmw_events.specs.declared.event.Event.{Event}
 use Rattle.tmw_defs.specs.History.{is_well_formed}
 use Rattle.tmw_wellformed.specs.Faults.{Refuses}
-use Rattle.tmw_wellformed.specs.Tracks.{Tracks}
-use Rattle.tmw_wellformed.specs.declared.tracker.Tracker.{Tracker}
+use Rattle.tmw_cuts.specs.Standing.{Follows}
+use Rattle.tmw_cuts.specs.declared.window.Window.{Window}
 use Rattle.tmw_monitor.specs.declared.broken.Broken.{Broken}
 
 -- The events before it are well-formed, with it they are not, and its rule is the first that it breaks.
@@ -22,7 +22,7 @@ abbrev pub TellsBroken : ℕ → List Event → Option Broken → Type 0
 TellsBroken registers history None = IsTrue (is_well_formed registers history)
 TellsBroken registers history (Some broken) = IsBrokenAt registers history broken
 
--- It tells that event; or none, and then the tracker stands for the history.
-abbrev pub TellsTracked : ℕ → List Event → Tracker → Option Broken → Type 0
-TellsTracked registers history tracker None = Tracks registers history tracker
-TellsTracked registers history tracker (Some broken) = IsBrokenAt registers history broken
+-- It tells that event; or none, and then the window follows the history.
+abbrev pub TellsFollowed : ℕ → List Event → Window → Option Broken → Type 0
+TellsFollowed registers history window None = Follows registers history window
+TellsFollowed registers history window (Some broken) = IsBrokenAt registers history broken

@@ -10,14 +10,13 @@ use Rattle.tmw_defs.specs.Opaque.{State}
 use Rattle.tmw_defs.specs.Summary.{SumsUp}
 use Rattle.tmw_defs.specs.Verdict.{Rules, IsVerdict}
 use Rattle.tmw_defs.specs.declared.verdict.Verdict.{Verdict}
-use Rattle.tmw_wellformed.specs.Tracks.{Tracks}
 use Rattle.tmw_cuts.specs.Members.{members}
-use Rattle.tmw_cuts.specs.Standing.{StandsFor, views_of}
+use Rattle.tmw_cuts.specs.Standing.{StandsFor, views, views_of}
 use Rattle.tmw_witness.specs.Witnessing.{Witnesses}
 use Rattle.tmw_monitor.specs.declared.bounds.Bounds.{Bounds}
 use Rattle.tmw_monitor.specs.declared.monitor.Monitor.{Monitor}
 use Rattle.tmw_monitor.specs.declared.open.Open.{Open}
-use Rattle.tmw_monitor.specs.Breaking.{TellsTracked}
+use Rattle.tmw_monitor.specs.Breaking.{TellsFollowed}
 use Rattle.tmw_monitor.specs.Monitor.{IsOpen, bounds_of, broken_of, criterion_of, fed_of, kept_of, verdict_of}
 
 -- What a history is judged by, where the run has so many registers, which begin with these values.
@@ -34,13 +33,13 @@ rules_for criterion registers start bounds = record {
 abbrev pub rules_of : Registers → State → Bounds → Rules
 rules_of registers start bounds = rules_for Opacity registers start bounds
 
--- What is kept of a history in which nothing is wrong: its outcomes at its last cut, the transactions since, each thread's phase, and
--- a serial order of those transactions where one is known.
+-- What is kept of a history in which nothing is wrong: its outcomes at its last cut, the transactions since and where each thread is,
+-- and a serial order of those transactions where one is known.
 pub record Keeps (rules : Rules) (history : List Event) (kept : Open) : Type 0 where
   pub cut : ℕ
   pub sums_up : SumsUp rules (Contains (members kept.states)) cut history
   pub stands : StandsFor kept.window (drop cut history)
-  pub tracks : Tracks rules.registers history kept.tracker
+  pub number : kept.window.registers.number ≡ rules.registers
   pub witness : Witnesses (members kept.states) (views_of (drop cut history)) kept.witness
 
 -- What is told of a history: a verdict that something is wrong with it; or none, and then nothing is wrong and this is kept of it.
@@ -51,7 +50,7 @@ TellsWrong rules history kept (Some verdict) = IsVerdict rules history verdict �
 -- Nothing is kept: no state and no transaction.
 pub record KeepsNothing (kept : Open) : Type 0 where
   pub states : members kept.states ≡ []
-  pub stands : StandsFor kept.window []
+  pub transactions : views kept.window ≡ []
 
 -- The history fits the monitor: its length and its verdict are the monitor's, and where nothing is wrong with it, the monitor has
 -- kept of it what it needs to judge what follows, and else only what tells the first event that fits no run.
@@ -64,7 +63,7 @@ pub record Fits (rules : Rules) (history : List Event) (monitor : Monitor) : Typ
   pub keeps : IsOpen monitor → Keeps rules history (kept_of monitor)
   pub whole : IsOpen monitor → broken_of monitor ≡ None
   pub forgets : (IsOpen monitor → ⊥) → KeepsNothing (kept_of monitor)
-  pub breaks : (IsOpen monitor → ⊥) → TellsTracked rules.registers history (kept_of monitor).tracker (broken_of monitor)
+  pub breaks : (IsOpen monitor → ⊥) → TellsFollowed rules.registers history (kept_of monitor).window (broken_of monitor)
 
 -- What fitted the monitor before fits it still.
 abbrev pub StaysFit : Monitor → Monitor → Type 0

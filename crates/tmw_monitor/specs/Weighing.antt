@@ -10,11 +10,10 @@ use Rattle.tmw_defs.specs.Cuts.{is_cut}
 use Rattle.tmw_defs.specs.Opaque.{State}
 use Rattle.tmw_cuts.specs.declared.states.States.{States as SetOfStates}
 use Rattle.tmw_cuts.specs.Members.{members}
-use Rattle.tmw_cuts.specs.Standing.{StandsFor, views_of}
+use Rattle.tmw_cuts.specs.Standing.{IsNext, StandsFor, views_of}
 use Rattle.tmw_search.specs.Ended.{EndsOf, HasMoreThan}
 use Rattle.tmw_witness.specs.Witnessing.{Witnesses}
-use Rattle.tmw_wellformed.specs.Notes.{Notes}
-use Rattle.tmw_wellformed.specs.declared.note.Note.{Note}
+use Rattle.tmw_cuts.specs.declared.turn.Move.{Move}
 use Rattle.tmw_monitor.specs.declared.open.Open.{Open}
 use Rattle.tmw_monitor.specs.declared.weighed.Weighed.{Weighed}
 use Rattle.tmw_monitor.specs.declared.weighed.Weighed.TheVariants.{Outcome, NoOutcome, TooMany}
@@ -42,14 +41,15 @@ pub record Closes (criterion : Criterion) (old : SetOfStates) (cap : ℕ) (event
 -- What each finding tells of the events, and of what is then kept.
 abbrev pub Tells : Criterion → SetOfStates → ℕ → Bool → List Event → Open → Weighed → Type 0
 Tells criterion old cap quiet events kept Outcome = StaysOpen criterion old quiet events kept ⊎ Closes criterion old cap events kept
-Tells criterion old cap quiet events kept NoOutcome = (end : State) → EndsOf criterion old events end → ⊥
-Tells criterion old cap quiet events kept TooMany = IsTrue (is_cut events) × HasMoreThan cap (EndsOf criterion old events)
+Tells criterion old cap quiet events kept NoOutcome = StandsFor kept.window events × ((end : State) → EndsOf criterion old events end → ⊥)
+Tells criterion old cap quiet events kept TooMany =
+    StandsFor kept.window events × IsTrue (is_cut events) × HasMoreThan cap (EndsOf criterion old events)
 
--- Of the events that stand in the window, and of the next one, where with it they are so: what each finding tells of them all, from
--- the outcomes before them.
-abbrev pub WeighsNext : Criterion → ℕ → Event → Note → (List Event → Type 0) → (List Event → Bool) → Open → Open → Weighed → Type 0
-WeighsNext criterion cap event note Are quiet old new found =
-    (events : List Event) → StandsFor old.window events → Notes events event note → Are (events ++ event ∷ [])
+-- Of the events that stand in the window and the next one, which is this to its thread: what each finding tells of them all, from the
+-- outcomes before them.
+abbrev pub WeighsNext : Criterion → ℕ → Event → Move → (List Event → Bool) → Open → Open → Weighed → Type 0
+WeighsNext criterion cap event move quiet old new found =
+    (events : List Event) → StandsFor old.window events → IsNext old.window event move
     → Witnesses (members old.states) (views_of events) old.witness
     → Tells criterion old.states cap (quiet events) (events ++ event ∷ []) new found
 

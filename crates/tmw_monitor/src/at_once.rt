@@ -1,12 +1,16 @@
 //! The way that most events take: few steps, no search and no memory.
-ghost use Rattle.std.specs.Prelude.{◌≡◌, ◌<◌, None, Some, IsTrue, IsFalse};
-ghost use Rattle.tmw_cuts.specs.Standing.{count_of};
-ghost use Rattle.tmw_monitor.specs.AtOnce.{IsOpenAt, StaysFine, StaysKept};
+ghost use Rattle.std.specs.Prelude.{◌≡◌, IsTrue, IsFalse};
+ghost use Rattle.tmw_defs.specs.declared.criterion.Criterion.{Criterion};
+ghost use Rattle.tmw_cuts.specs.Standing.{IsNext};
+ghost use Rattle.tmw_cuts.specs.declared.turn.Move.TheVariants.{Begin, End};
+ghost use Rattle.tmw_monitor.specs.declared.bounds.Bounds.{Bounds};
+ghost use Rattle.tmw_monitor.specs.AtOnce.{Continues, StaysFine, StaysKept};
 
 use crate::bounds::Bounds;
 use crate::open::Open;
+use tmw_cuts::Move;
 use tmw_defs::Criterion;
-use tmw_events::Event;
+use tmw_events::{Event, Ix};
 
 /// Takes the next event if no search is needed to see that nothing is wrong with it by this criterion. Else it returns
 /// `false`, and what is kept is of the history without it. It is inlined into its callers, which mostly know the kind of
@@ -16,83 +20,74 @@ pub fn take_at_once(kept: &mut Open, bounds: Bounds, criterion: Criterion, event
     ensures taken { IsTrue result → StaysFine criterion bounds event kept.old kept.new }
     ensures left { IsFalse result → StaysKept kept.old kept.new }
 {
-    match kept.window.open_place(event.thread) {
-        None => begin_at_once(kept, bounds, criterion, event),
-        Some(place) => go_on_at_once(kept, bounds, criterion, place, event),
+    match kept.window.next(event) {
+        Ok(Move::Begin) => begin_at_once(kept, bounds, event),
+        Ok(Move::End(place)) => end_at_once(kept, event, place),
+        Ok(step) => go_on_at_once(kept, criterion, event, step),
+        Err(_) => false,
     }
 }
 
-/// Takes at once an event for whose thread no transaction is open, where it begins one, for which the window has room.
+/// Takes at once an event that begins a transaction, for which the window has room.
 #[inline(always)]
-fn begin_at_once(kept: &mut Open, bounds: Bounds, criterion: Criterion, event: Event) -> bool
-    requires none { IsOpenAt None event kept.old }
-    ensures taken { IsTrue result → StaysFine criterion bounds event kept.old kept.new }
+fn begin_at_once(kept: &mut Open, bounds: Bounds, event: Event) -> bool
+    requires next { IsNext kept.old.window event Begin }
+    ensures taken { IsTrue result → (criterion : Criterion)
+        → StaysFine criterion bounds event kept.old kept.new }
     ensures left { IsFalse result → kept.new ≡ kept.old }
 {
-    if kept.window.count() >= bounds.window {
+    let count = kept.window.count();
+    if count >= bounds.window {
         return false;
     }
-    if !kept.window.is_quiet(criterion, event) || !kept.tracker.begin(event) {
-        return false;
-    }
-    kept.window.push_new(event);
-    kept.witness.follow_new(&kept.window, event);
+    kept.window.take(event, Move::Begin);
+    kept.witness.begin(count);
     true
 }
 
-/// Takes at once an event of the transaction at this place. Where the serial order that is kept explains it and it ends the only
-/// transaction, from the only outcome before it, the order leads to the only outcome.
+/// Takes at once an event of an open transaction that does not end it, if the serial order that is kept explains it or it is quiet.
 #[inline(always)]
-fn go_on_at_once(
-    kept: &mut Open,
-    bounds: Bounds,
-    criterion: Criterion,
-    place: usize,
-    event: Event,
-) -> bool
-    requires within { place < count_of kept.old.window }
-    requires open { IsOpenAt (Some place) event kept.old }
-    ensures taken { IsTrue result → StaysFine criterion bounds event kept.old kept.new }
+fn go_on_at_once(kept: &mut Open, criterion: Criterion, event: Event, step: Move) -> bool
+    requires next { IsNext kept.old.window event step }
+    requires goes_on { Continues step }
+    ensures taken { IsTrue result → (bounds : Bounds)
+        → StaysFine criterion bounds event kept.old kept.new }
+    ensures left { IsFalse result → kept.new ≡ kept.old }
+{
+    if kept.witness.explains(&kept.window, event, step) {
+        kept.window.take(event, step);
+        return true;
+    }
+    if !kept.window.is_quiet(criterion, event) {
+        return false;
+    }
+    kept.window.take(event, step);
+    kept.witness.follow(&kept.window, event, step);
+    true
+}
+
+/// Takes at once an event that ends a transaction, if the serial order that is kept explains it. Where it ends the only one, from the
+/// only outcome before it, the order leads to the only outcome.
+#[inline(always)]
+fn end_at_once(kept: &mut Open, event: Event, place: Ix) -> bool
+    requires next { IsNext kept.old.window event (End place) }
+    ensures taken { IsTrue result → (criterion : Criterion) (bounds : Bounds)
+        → StaysFine criterion bounds event kept.old kept.new }
     ensures left { IsFalse result → StaysKept kept.old kept.new }
 {
-    kept.witness.hold_pending(&kept.window, place, event.kind);
-    if !kept.witness.explains_open(&kept.window, place, event) {
-        return ask_at_once(kept, bounds, criterion, place, event);
+    kept.witness.hold_pending(&kept.window, event, place);
+    if !kept.witness.explains(&kept.window, event, Move::End(place)) {
+        return false;
     }
-    if kept.tracker.go_on(event) {
-        kept.window.push_at(place, event);
+    if !kept.window.is_cut_with(place) {
+        kept.window.take(event, Move::End(place));
         return true;
     }
     if kept.window.count() != 1 || kept.states.len() != 1 || kept.witness.top >= 9 {
         return false;
     }
-    if !kept.tracker.end_last(event) {
-        return false;
-    }
     let end = kept.witness.restart_at_end();
     kept.states.put_only(end);
     kept.window.clear();
-    true
-}
-
-/// Takes at once an event of the transaction at this place if it is quiet. It is asked if the order, as it stands, does not explain the event.
-#[inline(always)]
-fn ask_at_once(
-    kept: &mut Open,
-    bounds: Bounds,
-    criterion: Criterion,
-    place: usize,
-    event: Event,
-) -> bool
-    requires within { place < count_of kept.old.window }
-    requires open { IsOpenAt (Some place) event kept.old }
-    ensures taken { IsTrue result → StaysFine criterion bounds event kept.old kept.new }
-    ensures left { IsFalse result → kept.new ≡ kept.old }
-{
-    if !kept.window.is_quiet(criterion, event) || !kept.tracker.go_on(event) {
-        return false;
-    }
-    kept.window.push_at(place, event);
-    kept.witness.follow(&kept.window, Some(place), event);
     true
 }

@@ -16,7 +16,6 @@ use std::alloc::{AllocError, Global};
 use tmw_cuts::{State, States, Window};
 use tmw_defs::{Criterion, Verdict};
 use tmw_events::{Event, Registers};
-use tmw_wellformed::Tracker;
 use tmw_witness::Witness;
 
 /// A judge of a history as its events come, by the definition of its criterion at each of its prefixes: opacity
@@ -30,7 +29,7 @@ pub struct Monitor {
     count: u64,
     verdict: Verdict,
     kept: Open,
-    /// The first event that fits no run. Until one comes, the tracker takes each event, after a final verdict too.
+    /// The first event that fits no run. Until one comes, the window follows each event, after a final verdict too.
     broken: Option<Broken>,
 }
 
@@ -91,7 +90,6 @@ impl Monitor {
             kept: Open {
                 states,
                 window: Window::open(registers),
-                tracker: Tracker::new(registers),
                 witness: Witness::new(start),
             },
             broken: None,
@@ -144,11 +142,10 @@ impl Monitor {
         let at = self.count + 1;
         // Each prefix is judged, so a verdict that something is wrong is final. Later events are only tracked.
         if !is_so_far(self.criterion, self.verdict) {
-            follow(&mut self.kept.tracker, &mut self.broken, at, event);
+            follow(&mut self.kept.window, &mut self.broken, at, event);
             self.count = at;
             return Ok(());
         }
-        let tracker = self.kept.tracker;
         let wrong = next_wrong(
             self.alloc,
             self.criterion,
@@ -156,13 +153,12 @@ impl Monitor {
             self.bounds,
             at,
             event,
+            &mut self.broken,
         )?;
         self.count = at;
         if let Some(verdict) = wrong {
             // After a final verdict no event needs what was kept, so its memory is freed.
             self.kept.forget(self.alloc);
-            self.kept.tracker = tracker;
-            follow(&mut self.kept.tracker, &mut self.broken, at, event);
             self.verdict = verdict;
         }
         Ok(())
@@ -182,7 +178,7 @@ impl Monitor {
         ensures { (rules : Rules) (history : List Event) → Fits rules history self.now
             → IsOpen self.now → result.number ≡ rules.registers }
     {
-        self.kept.tracker.registers()
+        self.kept.window.registers
     }
 
     /// Returns how many events were taken.
@@ -225,7 +221,7 @@ impl Monitor {
         ensures { (rules : Rules) (history : List Event) → Fits rules history self.now
             → IsOpen self.now → (IsTrue result ↔ IsTrue (is_cut history)) }
     {
-        self.kept.tracker.live() == 0
+        self.kept.window.is_cut()
     }
 
     /// Returns the history's outcomes at its last cut, in rising order, at most 64. After a final verdict there are

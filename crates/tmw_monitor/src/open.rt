@@ -1,6 +1,7 @@
+ghost use Rattle.std.specs.Prelude.{List, ℕ};
+
 use std::alloc::Global;
 use tmw_cuts::{States, Window};
-use tmw_wellformed::Tracker;
 use tmw_witness::Witness;
 
 /// What is kept of a history in which nothing is wrong: no event.
@@ -8,23 +9,26 @@ use tmw_witness::Witness;
 pub struct Open {
     /// The history's outcomes at its last cut.
     pub states: States,
-    /// The transactions since.
+    /// The transactions since, and where each thread is.
     pub window: Window,
-    pub tracker: Tracker,
     /// A serial order of these transactions, where one is known.
     pub witness: Witness,
 }
 
 impl Open {
+    ghost use Rattle.tmw_events.specs.declared.event.Event.{Event};
+    ghost use Rattle.tmw_cuts.specs.Standing.{Follows};
     ghost use Rattle.tmw_monitor.specs.Fitting.{KeepsNothing};
 
-    /// Forgets the history, and frees what was kept of it. Tracker and witness, which have a fixed size, stay.
+    /// Forgets the history, and frees what was kept of it. Where the threads are stays, and the witness, which has a fixed size.
     #[cold]
     #[inline(never)]
     pub fn forget(&mut self, alloc: Global)
-        ensures { KeepsNothing self.new }
+        ensures nothing { KeepsNothing self.new }
+        ensures follows { (registers : ℕ) (history : List Event)
+            → Follows registers history self.old.window → Follows registers history self.new.window }
     {
         self.states = States::empty(alloc);
-        self.window = Window::open(self.window.registers);
+        self.window.forget();
     }
 }

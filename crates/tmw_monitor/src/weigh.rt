@@ -23,7 +23,7 @@ pub fn search(criterion: Criterion, kept: &mut Open) -> Weighed
         → StandsFor kept.old.window events → IsFalse (is_cut events)
         → Witnesses (members kept.old.states) (views_of events) kept.old.witness
         → Tells criterion kept.old.states cap quiet events kept.new result }
-    ensures tracker { kept.new.tracker ≡ kept.old.tracker }
+    ensures registers { kept.new.window.registers ≡ kept.old.window.registers }
 {
     if kept.witness.is_known() {
         return Weighed::Outcome;
@@ -47,7 +47,7 @@ pub fn close(
         → StandsFor kept.old.window events → IsTrue (is_cut events)
         → Witnesses (members kept.old.states) (views_of events) kept.old.witness
         → Tells criterion kept.old.states cap quiet events kept.new found) }
-    ensures tracker { kept.new.tracker ≡ kept.old.tracker }
+    ensures registers { kept.new.window.registers ≡ kept.old.window.registers }
     ensures states { OnErr result (members kept.new.states ≡ members kept.old.states) }
     ensures window { OnErr result ((events : List Event) → StandsFor kept.old.window events
         → StandsFor kept.new.window events) }

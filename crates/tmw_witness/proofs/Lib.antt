@@ -2,6 +2,6 @@ pub mod Kept
 pub mod Path
 pub mod Placed
 pub mod Pushed
-pub pub mod Replayed
+pub mod Replayed
 mod Shared
 pub mod Turning

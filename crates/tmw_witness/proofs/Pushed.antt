@@ -1,8 +1,9 @@
 -- What one event more makes of the views of a window's transactions: one of them turns, or one begins.
-use Rattle.tmw_witness.proofs.Shared.{slice_get_some, subst, length-map, Begin, Bool, Event, IsNext, Ix, List, Move, None, PrecedesNone, Some, StandsFor, TurnsAt, Txn, View, Window, [], and_parts, ap, arith, bit, bit_at, bit_at_above, cases_lt, change, completed_mask, descriptors_of, false, inl, inr, is_ended, is_over, length, map, new_view, next_view, ops_of, place_of, pow-suc, precedes, refl, same_place, slice_get, suc, sym, transactions, true, view_of, views_after, views_of, zero, ℕ, ◌++◌, ◌+◌, ◌*◌, ◌<◌, ◌≤◌, ◌^◌, ◌∙◌, ◌∷◌, ◌≡◌}
+use Rattle.tmw_witness.proofs.Shared.{C, Kind, slice_get_some, slice_get_within, subst, length-map, Begin, Bool, Event, IsNext, Ix, List, Move, PrecedesNone, Some, StandsFor, TurnsAt, Txn, View, Window, [], and_parts, ap, arith, bit, bit_at, bit_at_above, cases_lt, change, completed_mask, descriptors_of, false, inl, inr, is_ended, is_over, length, map, new_view, next_view, ops_of, place_of, pow-suc, precedes, refl, same_place, slice_get, suc, sym, transactions, true, view_of, views_after, views_of, zero, ℕ, ◌++◌, ◌<◌, ◌≤◌, ◌^◌, ◌∙◌, ◌∷◌, ◌≡◌}
 use Rattle.tmw_cuts.proofs.Bits.{bit_at-before_of}
 use Rattle.tmw_cuts.proofs.Changes.{length-change, slice_get-change_here, slice_get-change_other}
 use Rattle.tmw_cuts.proofs.Masks.{bit-le}
+use Rattle.tmw_cuts.proofs.Moves.{ends_at}
 use Rattle.tmw_cuts.specs.Descriptors.{view_in}
 use Rattle.tmw_cuts.specs.Standing.{count_of, views}
 use Rattle.tmw_cuts.proofs.Standings.{found-begun, found-moved, found_lives, found_within, views_of-push, views-told}
@@ -90,21 +91,29 @@ slot-shown events e w move p x stands next at shown =
     = sym (length-map (descriptors_of events) view_in) ∙ ap length (views-told events ∙ sym stands.shows) in
     ap (λ vs. slice_get vs p.number) (sym stands.shows) ∙ shown (omega (arith, low, size))
 
-pub slot-later : (events : List Event) (e : Event) (w new : Window) (move : Move) (p : Ix) (y : View) → StandsFor w events → IsNext w e move
-    → place_of move ≡ Some p → StandsFor new (events ++ e ∷ []) → (p.number < count_of new → slice_get (views new) p.number ≡ Some y)
-    → (x : View) × TurnsAt (views_of events) (views_of (events ++ e ∷ [])) p.number x y × (y ≡ next_view e.kind (ops_of move) x)
-slot-later events e w new move p y stands next at after shown =
+-- so some transaction turns
+pub turned : (events : List Event) (e : Event) (w : Window) (move : Move) (p : Ix) → StandsFor w events → IsNext w e move
+    → place_of move ≡ Some p
+    → (x : View) × TurnsAt (views_of events) (views_of (events ++ e ∷ [])) p.number x (next_view e.kind (ops_of move) x)
+turned events e w move p stands next at =
     let told = found-moved events e w move p stands next at in
     let ds = descriptors_of events in
     let low = found_within e.thread.number ds _ told.1 in
     let size : length ds ≡ length (views_of events) = sym (length-map ds view_in) ∙ ap length (views-told events) in
     let x = slice_get_some (views_of events) p.number (omega (arith, low, size)) in
-    let turns = turns-next events e w move p x.0 stands next at x.1 in
-    let same_size = turns.same_length in
+    (x.0, turns-next events e w move p x.0 stands next at x.1)
+
+-- and is what the window then shows at the place
+pub turned-shown : (events : List Event) (e : Event) (w new : Window) (move : Move) (p : Ix) (y : View) → StandsFor w events → IsNext w e move
+    → place_of move ≡ Some p → StandsFor new (events ++ e ∷ []) → (p.number < count_of new → slice_get (views new) p.number ≡ Some y)
+    → (x : View) × TurnsAt (views_of events) (views_of (events ++ e ∷ [])) p.number x y × (y ≡ next_view e.kind (ops_of move) x)
+turned-shown events e w new move p y stands next at after shown =
+    let (x, turns) = turned events e w move p stands next at in
+    let low = slice_get_within (views_of (events ++ e ∷ [])) p.number _ turns.here in
     let there : slice_get (views_of (events ++ e ∷ [])) p.number ≡ Some y
-    = ap (λ vs. slice_get vs p.number) (sym after.shows) ∙ shown (omega (arith, low, size, same_size, ap length after.shows)) in
-    let is : next_view e.kind (ops_of move) x.0 ≡ y = (let a = turns.here in let b = there in cc) in
-    (x.0, subst (λ (v : View). TurnsAt (views_of events) (views_of (events ++ e ∷ [])) p.number x.0 v) is turns, sym is)
+    = ap (λ vs. slice_get vs p.number) (sym after.shows) ∙ shown (omega (arith, low, ap length after.shows)) in
+    let is : next_view e.kind (ops_of move) x ≡ y = (let a = turns.here in let b = there in cc) in
+    (x, subst (λ (v : View). TurnsAt (views_of events) (views_of (events ++ e ∷ [])) p.number x v) is turns, sym is)
 
 -- where none was open for it, one begins
 pub begun-pushed : (events : List Event) (e : Event) (w : Window) → StandsFor w events → IsNext w e Begin
@@ -118,3 +127,7 @@ completed-within vs j one =
       | inl within ↦ within
       | inr past ↦ absurd (omega (arith, one, bit_at_above (completed_mask vs) (length vs) j (completed_mask-lt vs) past))
     ]
+
+-- an event that does not end its transaction commits none
+pub no_commit : (kind : Kind) → ends_at kind ≡ false → kind ≡ C → ⊥
+no_commit kind on is = let bad : true ≡ false = rw is at on in absurd (cc)

@@ -1,4 +1,4 @@
-use Rattle.tmw_witness.proofs.Shared.{rules}
+use Rattle.tmw_witness.proofs.Shared.{rules, sym, ◌∙◌}
 use Rattle.tmw_witness.proofs.Kept.{AreLong, begin-kept}
 use Rattle.tmw_witness.proofs.witness.Witness.begin.Goals as goal
 
@@ -9,4 +9,4 @@ returns-then-place-lt8 c = λ starts xs y size none may before was.
       held = search rules;
       states = search rules;
     } in
-    ?
+    begin-kept starts xs y c.args.self.now c.from-place.result long c.if-place-lt8.true (size ∙ sym c.from-place.ensures) none may before was

@@ -1,0 +1,71 @@
+-- The event's transaction turns, and the order goes on with it, or is not known any more.
+use Rattle.tmw_witness.proofs.Shared.{Some, Answer, Ask, Begin, C, End, IsNext, View, [], append-nil, ap, arith, completed_mask, false, left_out, length, length-append, new_view, next_view, refl, sym, true, view, views_of, ◌++◌, ◌∙◌, ◌∷◌, ◌≡◌}
+use Rattle.tmw_defs.specs.History.{status_after}
+use Rattle.tmw_cuts.proofs.Moves.{asked_on}
+use Rattle.tmw_cuts.proofs.Standings.{found-begun, moves}
+use Rattle.tmw_witness.proofs.Pushed.{begun-pushed, completed-within, no_commit, turned, turned-shown}
+use Rattle.tmw_witness.proofs.witness.Witness.follow.Goals.{in-C, in_default}
+use Rattle.tmw_witness.proofs.witness.Witness.follow.Goals as goal
+
+pub returns-in-Begin : goal.returns-in-Begin
+returns-in-Begin c = λ starts before events stands next after was.
+    let e = c.args.event in
+    let begins : IsNext before e Begin = rw c.in-Begin.is at next in
+    let xs = views_of events in
+    let y : View = new_view e.kind (completed_mask xs) in
+    let begun = begun-pushed events e before stands begins in
+    let on = no_commit e.kind (asked_on e.kind (found-begun events e before stands begins).1) in
+    let size = ap length (after.shows ∙ begun) ∙ length-append xs (y ∷ []) in
+    rw begun (c.begin.ensures starts xs y (omega (arith, size, c.count.ensures.shown, c.saturating_sub.ensures)) refl
+    (left_out e.kind on) (λ j one. completed-within xs j one) was)
+
+pub returns-in-Ask : goal.returns-in-Ask
+returns-in-Ask c = λ starts before events stands next after was.
+    let e = c.args.event in
+    let p = c.in-Ask.place in
+    let asks : IsNext before e (Ask p) = rw c.in-Ask.is at next in
+    let (x, turns) = turned events e before (Ask p) p stands asks refl in
+    let on = no_commit e.kind (asked_on e.kind (moves e before (Ask p) asks).is.1) in
+    c.keep.ensures starts (views_of events) (views_of (events ++ e ∷ [])) x (next_view e.kind [] x) (rw (c.from.ensures, c.get.ensures.value) turns)
+    (left_out e.kind on) (λ s reads. rw (append-nil x.ops) reads) was
+
+pub returns-in-Answer : goal.returns-in-Answer
+returns-in-Answer c = λ starts before events stands next after was.
+    let e = c.args.event in
+    let p = c.in-Answer.place in
+    let op = c.in-Answer.field-1 in
+    let answers : IsNext before e (Answer p op) = rw c.in-Answer.is at next in
+    let (x, turns, is) = turned-shown events e before c.args.window.now (Answer p op) p (view c.slot.result.now) stands answers refl after c.slot.ensures in
+    let (call, (kept, (makes, on))) = (moves e before (Answer p op) answers).is in
+    let status = ap (λ (v : View). v.status) is in
+    c.answer.ensures starts (views_of events) (views_of (events ++ e ∷ [])) x (rw (c.from-in-Answer.ensures, c.get-in-Answer.ensures.value) turns)
+    (rw status (left_out e.kind (no_commit e.kind on))) was
+
+pub returns-then-matches : goal.returns-then-matches
+returns-then-matches c = λ starts before events stands next after was.
+    let e = c.args.event in
+    let p = c.in-End.place in
+    let ends : IsNext before e (End p) = rw c.in-End.is at next in
+    let (x, turns, is) = turned-shown events e before c.args.window.now (End p) p (view c.slot-then-matches.result.now) stands ends refl after
+    c.slot-then-matches.ensures in
+    let commits : e.kind ≡ C = elim c.match-matches.branch [
+      | in-C w ↦ w.in-C.is
+      | in_default w ↦ let bad : true ≡ false = sym c.if-matches.true ∙ w.matches-is in absurd (cc)
+    ] in
+    c.commit.ensures starts (views_of events) (views_of (events ++ e ∷ [])) x
+    (rw (c.from-then-matches.ensures, c.get-then-matches.ensures.value) turns)
+    (ap (λ (v : View). v.status) is ∙ ap (λ k. status_after (Some k)) commits) (ap (λ (v : View). v.ops) is ∙ append-nil x.ops) was
+
+pub returns-else-matches : goal.returns-else-matches
+returns-else-matches c = λ starts before events stands next after was.
+    let e = c.args.event in
+    let p = c.in-End.place in
+    let ends : IsNext before e (End p) = rw c.in-End.is at next in
+    let (x, turns) = turned events e before (End p) p stands ends refl in
+    let aborts : e.kind ≡ C → ⊥ = elim c.match-matches.branch [
+      | in-C w ↦ let bad : true ≡ false = sym w.matches-is ∙ c.if-matches.false in absurd (cc)
+      | in_default w ↦ w.in_default.not-C
+    ] in
+    c.keep-else-matches.ensures starts (views_of events) (views_of (events ++ e ∷ [])) x (next_view e.kind [] x)
+    (rw (c.from-else-matches.ensures, c.get-else-matches.ensures.value) turns)
+    (left_out e.kind aborts) (λ s reads. rw (append-nil x.ops) reads) was
