@@ -1,4 +1,4 @@
--- Over a cut the transactions of a history are those of its two parts, so a note of the whole is a note of what follows the cut.
+-- Over a cut the transactions of a history are those of its two parts.
 use Rattle.tmw_cuts.proofs.Shared.{Event, IsLater, IsTrue, List, Note, Notes, [], ap, append-nil, append_assoc, arith, is_cut, later-transactions, length, length-append, refl, suc, sym, transactions, transactions_from, transactions_from-append, transactions_from-ended, ◌++◌, ◌+◌, ◌∙◌, ◌∷◌, ◌≡◌}
 use Rattle.tmw_defs.proofs.Along.{Pairs}
 
@@ -20,18 +20,3 @@ length-transactions_cut past rest cut =
     let same : length behind ≡ length (transactions rest) =
     length-pairs (IsLater (length past)) behind (transactions rest) (later-transactions (length past) 0 [] [] rest tt) in
     ap length parts ∙ length-append (transactions past) behind ∙ ap (λ n. length (transactions past) + n) same
-
--- a note of the event after the whole is one of it after the part behind the cut
-pub notes-behind : (past rest : List Event) (e : Event) (note : Note) → IsTrue (is_cut past) → Notes (past ++ rest) e note
-    → Notes rest e note
-notes-behind past rest e note cut notes =
-    let whole = length-transactions_cut past rest cut in
-    let more : length (transactions (past ++ rest ++ e ∷ [])) ≡ length (transactions past) + length (transactions (rest ++ e ∷ [])) =
-    ap (λ (h : List Event). length (transactions h)) (append_assoc past rest (e ∷ [])) ∙ length-transactions_cut past (rest ++ e ∷ []) cut in
-    record {
-      begins = (
-        λ begins. let grown = notes.begins.0 begins in omega (arith, grown, whole, more),
-        λ grown. notes.begins.1 (omega (arith, grown, whole, more)),
-      );
-      ends = notes.ends;
-    }

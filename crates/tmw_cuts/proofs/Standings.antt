@@ -18,7 +18,7 @@ use Rattle.tmw_cuts.specs.declared.turn.Move.TheVariants.{Begin, Ask, Answer, En
 use Rattle.tmw_cuts.specs.declared.turn.Turn.{Turn}
 use Rattle.tmw_cuts.specs.declared.turn.Turn.TheVariants.{Between}
 use Rattle.tmw_cuts.specs.declared.window.Window.{Window}
-use Rattle.tmw_cuts.specs.Standing.{IsNext, StandsFor, Takes, begun_by, turn_at, txns_of, views}
+use Rattle.tmw_cuts.specs.Standing.{is_end, IsNext, StandsFor, Takes, begun_by, turn_at, txns_of, views}
 use Rattle.tmw_cuts.specs.Turns.{Found, call_in, change, find_open, found_after, found_in, further, kept_in, numbered, ops_of, place_of, views_after}
 use Rattle.tmw_cuts.proofs.Changes.{length-change}
 use Rattle.tmw_cuts.proofs.Moves.{Is, Means, accepts, asked_on, ends_at}
@@ -151,11 +151,6 @@ uncut_open t (d ∷ ds) f is =
     some_further None g is = cc
     some_further (Some i) g is = (i, refl)
 
-uncut : (events : List Event) (t : ℕ) (w : Window) (f : ℕ × Option Kind) → StandsFor w events → t < 8 → found_in (turn_at w t) ≡ Some f
-    → is_cut events ≡ false
-uncut events t w f stands below found =
-    sym (is_cut-views events) ∙ uncut_open t (descriptors_of events) f (sym (stands.turns t below) ∙ found)
-
 -- the place that is found is one of a transaction
 pub found_within : (t : ℕ) (ds : List Descriptor) (f : ℕ × Option Kind) → find_open t ds ≡ Some f → f.0 < length ds
 found_within t [] f is = cc
@@ -241,6 +236,11 @@ cut_shift events w stands len few =
 pub moves : (e : Event) (w : Window) (move : Move) → IsNext w e move → Is w.registers.number (kept_in (turn_at w e.thread.number)) e.kind move
 moves e w move next = accepts w.registers.number (kept_in (turn_at w e.thread.number)) e.kind move next.has next.moves
 
+-- the events stay well-formed
+pub formed-next : (events : List Event) (e : Event) (w : Window) (move : Move) → StandsFor w events → IsNext w e move
+    → is_well_formed w.registers.number (events ++ e ∷ []) ≡ true
+formed-next events e w move stands next = goes_well events e w stands ∙ (moves e w move next).goes
+
 -- the event's transaction was open at the move's place, and its call and the event make the move's operations
 pub found-moved : (events : List Event) (e : Event) (w : Window) (move : Move) (p : Ix) → StandsFor w events → IsNext w e move → place_of move ≡ Some p
     → (call : Option Kind) × (find_open e.thread.number (descriptors_of events) ≡ Some (p.number, call)) × (answered_ops call e.kind ≡ ops_of move)
@@ -284,6 +284,28 @@ grows events e w (Answer p op) stands next =
 grows events e w (End p) stands next =
     longer events e _ (found-moved events e w (End p) p stands next refl).1
 
+-- an event that ends no transaction leads to no cut
+pub uncut-next : (events : List Event) (e : Event) (w : Window) (move : Move) → StandsFor w events → IsNext w e move → is_end move ≡ false
+    → is_cut (events ++ e ∷ []) ≡ false
+uncut-next events e w move stands next goes_on =
+    let t = e.thread.number in
+    let ds = descriptors_of events in
+    let on : ends_at e.kind ≡ false = still move goes_on (moves e w move next).is in
+    let after : find_open t (descriptors_of (events ++ e ∷ [])) ≡ found_after (find_open t ds) (length ds) e.kind
+    = ap (find_open t) (descriptors_of-push events e) ∙ find_open-own e (completed_in ds) ds (alone-descriptors_of t events) in
+    let (g, found) = lives (find_open t ds) (length ds) e.kind on in
+    sym (is_cut-views (events ++ e ∷ [])) ∙ uncut_open t (descriptors_of (events ++ e ∷ [])) g (after ∙ found)
+  where
+    still : (m : Move) → is_end m ≡ false → Means (kept_in (turn_at w e.thread.number)) e.kind m → ends_at e.kind ≡ false
+    still Begin goes means = asked_on e.kind means.1
+    still (Ask p) goes means = asked_on e.kind means.1
+    still (Answer p op) goes means = let (c, (is, (makes, on))) = means in on
+    still (End p) goes means = cc
+
+    lives : (f : Found) (n : ℕ) (k : Kind) → ends_at k ≡ false → (g : ℕ × Option Kind) × (found_after f n k ≡ Some g)
+    lives None n k on = ((n, Some k), rw on refl)
+    lives (Some f) n k on = ((f.0, next_call f.1 k), rw on refl)
+
 -- it begins a transaction
 pub begun : (events : List Event) (e : Event) (old new : Window) (next : Turn) → StandsFor old events → IsNext old e Begin
     → length old.turns ≡ 8 → length (txns_of old) < 8
@@ -299,11 +321,10 @@ begun events e old new next stands is long low same turns asked shows masks =
     = ap (λ f. goes_on old.registers.number (call_in f) e.kind) (sym at) ∙ (moves e old Begin is).goes in
     let after : StandsFor new (events ++ e ∷ [])
     = stands-with events e old new next None stands at goes long low same turns (rw on (asked asks_it)) shows (rw on masks) in
-    let set : turn_at new e.thread.number ≡ next = rw turns (get_or-set_same old.turns e.thread.number next Between (omega (arith, e.thread.below, long))) in
     record {
       stands = after;
       begun = grows events e old Begin stands is;
-      uncut = λ _. uncut (events ++ e ∷ []) e.thread.number new _ after e.thread.below (ap found_in set ∙ asked asks_it);
+      uncut = uncut-next events e old Begin stands is;
     }
 
 -- it stays in its transaction
@@ -320,11 +341,10 @@ stays events e old new next move p call later stands is kept on long same turns 
     let after : StandsFor new (events ++ e ∷ [])
     = stands-with events e old new next (Some (p.number, call)) stands at goes long p.below same turns
     (rw on (found ∙ ap (λ c. Some (p.number, c)) later_is)) shows (rw on masks) in
-    let set : turn_at new e.thread.number ≡ next = rw turns (get_or-set_same old.turns e.thread.number next Between (omega (arith, e.thread.below, long))) in
     record {
       stands = after;
       begun = grows events e old move stands is;
-      uncut = λ _. uncut (events ++ e ∷ []) e.thread.number new _ after e.thread.below (ap found_in set ∙ found);
+      uncut = uncut-next events e old move stands is;
     }
 
 -- it ends its transaction

@@ -1,6 +1,8 @@
 //! Where a thread is between its events, and what its next event is.
-ghost use Rattle.std.specs.Prelude.{◌≡◌, Some, IsTrue, option_map};
+ghost use Rattle.std.specs.Prelude.{◌≡◌, Some, IsTrue, IsFalse, option_map};
 ghost use Rattle.tmw_wellformed.specs.Faults.{asks};
+ghost use Rattle.tmw_cuts.specs.declared.turn.Move.TheVariants.{Begin};
+ghost use Rattle.tmw_cuts.specs.Standing.{begun_by};
 ghost use Rattle.tmw_cuts.specs.Turns.{after_call, found_in, kept_in};
 
 use tmw_defs::Op;
@@ -37,6 +39,17 @@ pub enum Move {
     Answer(Ix, Op),
     /// It ends the transaction at the place.
     End(Ix),
+}
+
+impl Move {
+    /// Tells whether the event begins a transaction.
+    #[inline(always)]
+    pub fn begins(self) -> bool
+        ensures begins { IsTrue result → self ≡ Begin }
+        ensures others { IsFalse result → begun_by self ≡ 0 }
+    {
+        matches!(self, Move::Begin)
+    }
 }
 
 impl Turn {

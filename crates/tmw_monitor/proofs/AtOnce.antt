@@ -1,6 +1,6 @@
 -- An event that is taken at once leaves the history fine: where it leads to no cut, and where the only transaction ends with it.
 use Rattle.tmw_witness.specs.declared.witness.Witness.{Witness}
-use Rattle.tmw_monitor.proofs.Shared.{Begin, Bool, Closes, Contains, End, EndsOf, Event, IsNext, IsTrue, Keeps, List, Move, None, Open, Outcome, Rules, StandsFor, State, StaysOpen, Takes, TellsWrong, Witnesses, [], ap, arith, contains_here, drop, false, inl, inr, is_cut, is_end, is_quiet_by, is_well_formed, length, members, refl, subst, sym, transactions, true, views_of, ◌++◌, ◌+◌, ◌<◌, ◌∙◌, ◌∷◌, ◌≡◌, ◌≤◌, ◌⊎◌}
+use Rattle.tmw_monitor.proofs.Shared.{Begin, Closes, Contains, End, EndsOf, Event, IsNext, IsTrue, Keeps, List, Move, None, Open, Outcome, Rules, StandsFor, State, StaysOpen, Takes, TellsWrong, Witnesses, [], ap, arith, contains_here, drop, false, inl, inr, is_cut, is_end, is_quiet_by, is_well_formed, length, members, refl, subst, sym, transactions, true, views_of, ◌++◌, ◌+◌, ◌<◌, ◌∙◌, ◌∷◌, ◌≡◌, ◌≤◌, ◌⊎◌}
 use Rattle.tmw_events.specs.declared.ix.Ix.{Ix}
 use Rattle.tmw_events.specs.declared.registers.Registers.{Registers}
 use Rattle.tmw_search.proofs.ForcedEnds.{alone-end}
@@ -64,13 +64,12 @@ last-fine rules h e old new keeps p end next formed_rest at_cut same some one on
     follows-told rules h e old keeps (length h + 1) rules.states quiet new Outcome refl refl formed number narrow refl (inr closes)
 
 -- another order of the same transactions is kept
-pub keeps-order : (rules : Rules) (h : List Event) (old : Open) (w : Witness)
-    → ((starts : List State) (events : List Event) → StandsFor old.window events → Witnesses starts (views_of events) old.witness
-    → Witnesses starts (views_of events) w) → Keeps rules h old → Keeps rules h (record old { witness = w })
-keeps-order rules h old w stands k = record {
-  cut = k.cut;
-  sums_up = k.sums_up;
-  stands = k.stands;
-  number = k.number;
-  witness = stands (members old.states) (drop k.cut h) k.stands k.witness;
+pub keeps-order : (rules : Rules) (h : List Event) (old : Open) (w : Witness) (keeps : Keeps rules h old)
+    → Witnesses (members old.states) (views_of (drop keeps.cut h)) w → Keeps rules h (record old { witness = w })
+keeps-order rules h old w keeps witness = record {
+  cut = keeps.cut;
+  sums_up = keeps.sums_up;
+  number = keeps.number;
+  stands = keeps.stands;
+  witness = witness;
 }

@@ -38,3 +38,10 @@ pub follows-still : (registers : ℕ) (h : List Event) (window : Window) (broken
     → TellsFollowed registers h window broken → (broken ≡ None) × Follows registers h window
 follows-still registers h window None is told = (refl, told)
 follows-still registers h window (Some broken) is told = absurd (cc)
+
+-- what is forgotten of a window leaves what is told
+pub followed-forgot : (registers : ℕ) (h : List Event) (window left : Window) (broken : Option Broken)
+    → (Follows registers h window → Follows registers h left)
+    → TellsFollowed registers h window broken → TellsFollowed registers h left broken
+followed-forgot registers h window left None forgets told = forgets told
+followed-forgot registers h window left (Some broken) forgets told = told

@@ -1,7 +1,14 @@
 -- The open window of a history that is summed up: it is narrow.
 use Rattle.tmw_monitor.proofs.Shared.{Answer, Ask, Begin, End, Event, Follows, IsFine, IsTrue, List, Move, Rules, StandsFor, State, SumsUp, Window, [], ap, append_assoc, arith, begun_by, cases_lt, drop, inl, inr, is_well_formed, length, refl, subst, sym, take, take-append-drop, take_all, transactions, ℕ, ◌++◌, ◌+◌, ◌<◌, ◌∙◌, ◌∷◌, ◌≡◌, ◌≤◌}
 use Rattle.tmw_cuts.proofs.Following.{follows-cut, formed-append}
-use Rattle.tmw_defs.proofs.VerdictProof.{formed-final}
+use Rattle.tmw_defs.specs.Criteria.{IsFinalBy}
+use Rattle.tmw_defs.specs.declared.criterion.Criterion.{Criterion}
+use Rattle.tmw_defs.specs.declared.criterion.Criterion.TheVariants.{Opacity, Strict}
+
+formed-final : (criterion : Criterion) (registers : ℕ) (start : State) (h : List Event) → IsFinalBy criterion registers start h
+    → IsTrue (is_well_formed registers h)
+formed-final Opacity registers start h final = final.formed
+formed-final Strict registers start h final = final.formed
 
 -- what lies before the open window is well-formed, and so is the whole where the window's events are
 pub past_formed : (rules : Rules) (S : State → Type 0) (c : ℕ) (h : List Event) → SumsUp rules S c h
@@ -29,7 +36,7 @@ pub follows_next : (rules : Rules) (S : State → Type 0) (c : ℕ) (h : List Ev
 follows_next rules S c h e w sums number stands =
     subst (λ xs. Follows rules.registers xs w)
     (sym (append_assoc (take c h) (drop c h) (e ∷ [])) ∙ ap (λ xs. xs ++ e ∷ []) (take-append-drop c h))
-    (subst (λ n. Follows n (take c h ++ drop c h ++ e ∷ []) w) number
+    (subst (λ n. Follows n (take c h ++ (drop c h ++ e ∷ [])) w) number
     (follows-cut (take c h) (drop c h ++ e ∷ []) w sums.last.is.1 (rw number (past_formed rules S c h sums)) stands))
 
 pub narrow_open : (rules : Rules) (S : State → Type 0) (c : ℕ) (h : List Event) → SumsUp rules S c h

@@ -1,5 +1,5 @@
 -- The verdict where nothing is wrong is that of the criterion, and no verdict that something is.
-use Rattle.tmw_monitor.proofs.Shared.{Criterion, Event, IsVerdict, List, OpaqueSoFar, Rules, StrictSoFar, Verdict, so_far, sym, ◌≡◌}
+use Rattle.tmw_monitor.proofs.Shared.{Malformed, Undecided, Violated, inl, inr, refl, ◌⊎◌, Criterion, Event, IsVerdict, List, OpaqueSoFar, Rules, StrictSoFar, Verdict, so_far, sym, ◌≡◌}
 use Rattle.tmw_defs.specs.declared.criterion.Criterion.TheVariants.{Opacity, Strict}
 
 pub so_far-apart : (criterion : Criterion) (verdict : Verdict) → (verdict ≡ OpaqueSoFar → ⊥) → (verdict ≡ StrictSoFar → ⊥)
@@ -12,3 +12,13 @@ pub so_far-tells : (rules : Rules) (history : List Event) (expected : Criterion)
     → IsVerdict rules history verdict → expected ≡ rules.criterion
 so_far-tells rules history Opacity verdict is judged = let told : IsVerdict rules history OpaqueSoFar = rw is at judged in sym told.0
 so_far-tells rules history Strict verdict is judged = let told : IsVerdict rules history StrictSoFar = rw is at judged in sym told.0
+
+-- a verdict is that of a history in which nothing is wrong, or not
+pub so_far-or : (criterion : Criterion) (verdict : Verdict) → (verdict ≡ so_far criterion) ⊎ (verdict ≡ so_far criterion → ⊥)
+so_far-or Opacity OpaqueSoFar = inl refl
+so_far-or Strict StrictSoFar = inl refl
+so_far-or Opacity StrictSoFar = inr (λ is. absurd (cc))
+so_far-or Strict OpaqueSoFar = inr (λ is. absurd (cc))
+so_far-or criterion (Malformed m) = inr (so_far-apart criterion _ (λ is. absurd (cc)) (λ is. absurd (cc)))
+so_far-or criterion (Undecided m why) = inr (so_far-apart criterion _ (λ is. absurd (cc)) (λ is. absurd (cc)))
+so_far-or criterion (Violated m) = inr (so_far-apart criterion _ (λ is. absurd (cc)) (λ is. absurd (cc)))

@@ -5,7 +5,7 @@ use Rattle.tmw_monitor.proofs.Counting.{not_more_among, more_than-rising}
 use Rattle.tmw_monitor.proofs.Opening.{follows_next}
 use Rattle.tmw_monitor.proofs.SoFar.{so_far-apart}
 use Rattle.std.proofs.lemmas.List.{append-nil}
-use Rattle.tmw_cuts.proofs.Following.{follows-cut}
+use Rattle.tmw_cuts.proofs.Following as following
 use Rattle.tmw_defs.proofs.WindowsProof as windows
 
 sums_up-stays : (rules : Rules) (S : State → Type 0) (c : ℕ) (h : List Event) (e : Event) (quiet : Bool) → SumsUp rules S c h
@@ -74,7 +74,7 @@ follows-told rules h e kept keeps at cap quiet new NoOutcome length_is bound for
   rw length_is (verdict-violated rules (Contains (members kept.states)) keeps.cut h e keeps.sums_up formed narrow none_ends),
   λ other. absurd (so_far-apart rules.criterion _ (λ is. cc) (λ is. cc) other),
 )
-follows-told rules h e kept keeps at cap quiet new TooMany length_is bound formed number narrow is (stands, (cut, more)) = (
+follows-told rules h e kept keeps at cap quiet new TooMany length_is bound formed number narrow is (stands, cut, more) = (
   rw length_is (verdict-many rules (Contains (members kept.states)) keeps.cut h e keeps.sums_up formed narrow cut
       (rw (← bound) (more_than-rising cap _ more))),
   λ other. absurd (so_far-apart rules.criterion _ (λ is. cc) (λ is. cc) other),
@@ -91,8 +91,8 @@ follows-found rules h e kept keeps cap quiet new Outcome formed number (inr clos
     let at_cut : is_cut (h ++ e ∷ []) ≡ true = windows.is_cut-push keeps.cut h e keeps.sums_up.last.is ∙ closes.cut in
     subst (λ xs. Follows rules.registers xs new.window) (append-nil (h ++ e ∷ []))
     (subst (λ n. Follows n ((h ++ e ∷ []) ++ []) new.window) number
-    (follows-cut (h ++ e ∷ []) [] new.window at_cut (rw number formed) closes.stands))
+    (following.follows-cut (h ++ e ∷ []) [] new.window at_cut (rw number formed) closes.stands))
 follows-found rules h e kept keeps cap quiet new NoOutcome formed number (stands, none) =
     follows_next rules (Contains (members kept.states)) keeps.cut h e new.window keeps.sums_up number stands
-follows-found rules h e kept keeps cap quiet new TooMany formed number (stands, many) =
+follows-found rules h e kept keeps cap quiet new TooMany formed number (stands, cut, many) =
     follows_next rules (Contains (members kept.states)) keeps.cut h e new.window keeps.sums_up number stands

@@ -22,8 +22,11 @@ pub fn take_at_once(kept: &mut Open, bounds: Bounds, criterion: Criterion, event
 {
     match kept.window.next(event) {
         Ok(Move::Begin) => begin_at_once(kept, bounds, event),
+        Ok(Move::Ask(place)) => go_on_at_once(kept, criterion, event, Move::Ask(place)),
+        Ok(Move::Answer(place, op)) => {
+            go_on_at_once(kept, criterion, event, Move::Answer(place, op))
+        }
         Ok(Move::End(place)) => end_at_once(kept, event, place),
-        Ok(step) => go_on_at_once(kept, criterion, event, step),
         Err(_) => false,
     }
 }

@@ -9,7 +9,6 @@ use crate::broken::{Broken, follow};
 use crate::open::Open;
 use crate::taken::take_event;
 use std::alloc::{AllocError, Global};
-use tmw_cuts::Move;
 use tmw_defs::{Criterion, Verdict, Why};
 use tmw_events::Event;
 
@@ -30,7 +29,8 @@ pub fn next_wrong(
         → criterion ≡ rules.criterion → bounds.window ≡ rules.window → bounds.states ≡ rules.states
         → at ≡ length history + 1 → Keeps rules history kept.old
         → TellsWrong rules (history ++ event ∷ []) kept.new wrong) }
-    ensures breaks { IfOk result (λ wrong. (rules : Rules) (history : List Event)
+    ensures breaks { IfOk result (λ _. (rules : Rules) (history : List Event)
+        → criterion ≡ rules.criterion → bounds.window ≡ rules.window → bounds.states ≡ rules.states
         → at ≡ length history + 1 → broken.old ≡ None → Keeps rules history kept.old
         → TellsFollowed rules.registers (history ++ event ∷ []) kept.new.window broken.new) }
     ensures whole { IfOk result (λ wrong. wrong ≡ None → broken.new ≡ broken.old) }
@@ -38,18 +38,17 @@ pub fn next_wrong(
         → Keeps rules history kept.old → Keeps rules history kept.new) }
     ensures still { OnErr result (broken.new ≡ broken.old) }
 {
-    match kept.window.next(event) {
+    let step = match kept.window.next(event) {
+        Ok(step) => step,
         Err(rule) => {
             *broken = Some(Broken { at, rule });
-            Ok(Some(Verdict::Malformed(at)))
+            return Ok(Some(Verdict::Malformed(at)));
         }
-        Ok(Move::Begin) if kept.window.count() >= bounds.window => {
-            follow(&mut kept.window, broken, at, event);
-            Ok(Some(Verdict::Undecided(at, Why::Transactions)))
-        }
-        Ok(step) => {
-            let found = take_event(criterion, alloc, kept, bounds.states, event, step)?;
-            Ok(found.wrong(at))
-        }
+    };
+    if step.begins() && kept.window.count() >= bounds.window {
+        follow(&mut kept.window, broken, at, event);
+        return Ok(Some(Verdict::Undecided(at, Why::Transactions)));
     }
+    let found = take_event(criterion, alloc, kept, bounds.states, event, step)?;
+    Ok(found.wrong(at))
 }

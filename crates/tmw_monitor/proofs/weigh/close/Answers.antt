@@ -24,14 +24,14 @@ returns-then-not-branch-clause-ok c quiet events stands cut was =
     let old = c.args.kept.now in
     let known = known_by c.args.criterion old.states old.witness c.known_end-known.result c.known_end-known.ensures.end events was in
     let found = rw c.if-not-branch.true at (c.in_ok-replace_by_outcomes.ensures.ok events stands known) in
-    (cut, found.0)
+    (stands, cut, found.0)
 
 pub returns-then-is_empty-clause-ok : goal.returns-then-is_empty-clause-ok
 returns-then-is_empty-clause-ok c quiet events stands cut was =
     let old = c.args.kept.now in
     let known = known_by c.args.criterion old.states old.witness c.known_end-known.result c.known_end-known.ensures.end events was in
     let found = rw c.if-not-branch.false at (c.in_ok-replace_by_outcomes.ensures.ok events stands known) in
-    λ end is. none_in end (subst (λ (xs : List State). Contains xs end) (c.is_empty.ensures.0 c.if-is_empty.true) ((found.1 end).1 is))
+    (stands, λ end is. none_in end (subst (λ (xs : List State). Contains xs end) (c.is_empty.ensures.0 c.if-is_empty.true) ((found.1 end).1 is)))
 
 pub returns-clause-ok : goal.returns-clause-ok
 returns-clause-ok c quiet events stands cut was =

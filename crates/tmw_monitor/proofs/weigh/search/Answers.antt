@@ -25,5 +25,7 @@ returns-then-finds-clause-tells c = λ cap quiet events stands uncut was.
     })
 
 pub returns-else-finds-clause-tells : goal.returns-else-finds-clause-tells
-returns-else-finds-clause-tells c = λ cap quiet events stands uncut was end ends.
-    let bad : false ≡ true = sym c.if-finds.false ∙ (c.finds.ensures.tells events stands).1 (end, ends) in absurd (cc)
+returns-else-finds-clause-tells c = λ cap quiet events stands uncut was. (
+  stands,
+  λ end ends. let bad : false ≡ true = sym c.if-finds.false ∙ (c.finds.ensures.tells events stands).1 (end, ends) in absurd (cc),
+)

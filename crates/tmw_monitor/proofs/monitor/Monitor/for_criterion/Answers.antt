@@ -1,5 +1,6 @@
 -- Nothing is wrong with no event, with the start state as its one outcome.
-use Rattle.tmw_monitor.proofs.Shared.{[], contains_here, members, refl, rules_for, so_far-fine}
+use Rattle.tmw_monitor.proofs.Shared.{[], ap, contains_here, members, refl, rules_for, so_far-fine}
+use Rattle.tmw_events.specs.declared.registers.Registers.{Registers}
 use Rattle.tmw_monitor.proofs.Fresh.{sums_up-one}
 use Rattle.tmw_monitor.proofs.OnlyOpen.{keeps_only_open}
 use Rattle.tmw_monitor.proofs.monitor.Monitor.for_criterion.Goals as goal
@@ -14,7 +15,7 @@ returns-clause-fits c =
       states = refl;
       counted = refl;
       judged = rw c.so_far.ensures (so_far-fine rules [] sums.judged);
-      keeps = λ is. record { cut = 0; sums_up = sums; stands = c.open.ensures.stands; tracks = c.new.ensures; witness = c.new-2.ensures.witnesses (members c.in_ok-states.states) (rw c.in_ok-states.ensures (contains_here c.args.start [])) };
+      keeps = λ is. record { cut = 0; sums_up = sums; stands = c.open.ensures.stands; number = ap (λ (r : Registers). r.number) c.open.ensures.registers; witness = c.new.ensures.witnesses (members c.in_ok-states.states) (rw c.in_ok-states.ensures (contains_here c.args.start [])) };
       whole = λ is. refl;
       forgets = λ final. absurd (final c.so_far.ensures);
       breaks = λ final. absurd (final c.so_far.ensures);
