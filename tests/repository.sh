@@ -1,8 +1,8 @@
 #!/usr/bin/env bash
 # Checks what files of the repository say of each other. Nothing is built.
 #
-#   tests/tree.sh
-#   tests/tree.sh FILE
+#   tests/repository.sh
+#   tests/repository.sh FILE
 #
 # - crates.txt, from top to bottom: a crate stands on crates above it. Crates of the kit have no line there.
 # - Each link of a page leads to a file and a heading that are there (tests/links.py).
