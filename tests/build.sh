@@ -59,9 +59,9 @@ gate_passes() {
 # Fails if `rt lib` builds again what the gate has built there, although packaging/kit.py has marked it.
 takes_marked() {
     "$folder/copy/packaging/kit.py" "$folder/copy"
-    ls -id "$folder"/copy/crates/tmw_streams/out/rlib/* >"$folder/marked"
+    stat -c "%i %n" "$folder"/copy/crates/tmw_streams/out/rlib/* >"$folder/marked"
     (cd "$folder/copy/crates/tmw_streams" && rt lib)
-    ls -id "$folder"/copy/crates/tmw_streams/out/rlib/* | diff "$folder/marked" -
+    stat -c "%i %n" "$folder"/copy/crates/tmw_streams/out/rlib/* | diff "$folder/marked" -
 }
 
 ends 'a build that is ended' 143 ended
