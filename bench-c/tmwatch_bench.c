@@ -15,7 +15,7 @@
 #include "judge.c"
 #include "threads.c"
 #include "leg.c"
-#include "legs.c"
+#include "session.c"
 #include "options.c"
 #include "report.c"
 #include "main.c"

@@ -95,15 +95,15 @@ trace_runs() {
 }
 
 # The rounds, events, unasked aborts and changes of thread that tell of a program, whose runs have so many rounds.
-count() {
+count_events() {
     case $1 in
     barriers) awk '{ print $1, $2, $4, $5 }' "$folder/fastest" ;;
     tmwatch) trace_runs "$2" ;;
     esac >"$folder/counts"
 }
 
-# The line of a program, beside another's rounds a second. Its own are then in `rate`.
-measure() {
+# Prints the line of a program, beside another's rounds a second. Its own are then in `rate`.
+print_line() {
     local name=$1 beside=$2 rounds=100
     run "$name" $rounds
     while [ $((2 * rounds)) -le "$most" ] && awk -v least="${LEAST:-1}" '{ exit !($3 < least) }' "$folder/run"; do
@@ -115,7 +115,7 @@ measure() {
         cat "$folder/run"
     done >"$folder/runs"
     sort -n -k 3 "$folder/runs" | head -n 1 >"$folder/fastest"
-    count "$name" $rounds
+    count_events "$name" $rounds
     rate=$(awk '{ print $1 / $3 }' "$folder/fastest")
     awk -v load="$load" -v workers="$workers" -v name="$name" -v rate="$rate" -v beside="$beside" '
         NR == 1 { rounds = $1; seconds = $3; events = $2 / $3; next }
@@ -134,8 +134,8 @@ for load in quiet busy; do
     for workers in ${WORKERS:-1 2 3 4 8}; do
         workload "$workers" >"$folder/workload"
         "$folder/rounds" "$most_traced" trace <"$folder/workload" | sed '$d' | "$program" judge >"$folder/output" || fail measure/rounds.c
-        measure barriers ''
-        measure tmwatch "$rate"
+        print_line barriers ''
+        print_line tmwatch "$rate"
     done
 done
 end_loops

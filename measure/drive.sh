@@ -12,7 +12,7 @@
 set -eu
 # shellcheck source=tests/common.sh
 . "$(dirname "${BASH_SOURCE[0]}")/../tests/common.sh"
-memory=${MEMORY:-norec}
+memory=${MEMORY:-norec} RUNS=${RUNS:-5}
 "$top/build"
 
 # A workload whose order has this many entries.
@@ -39,36 +39,23 @@ workload() {
     }'
 }
 
-# The least seconds and the peak memory of a program's runs on a workload with these words.
-measure() {
-    local least=999999 most=0 of=$1 input=$2
-    shift 2
-    for _ in $(seq "${RUNS:-5}"); do
-        began=$(date +%s.%N)
-        /usr/bin/time -q -o "$folder/time" -f '%M' "$of" drive --memory "$memory" "$@" <"$input" >"$folder/output" || true
-        ended=$(date +%s.%N)
-        read -r kib <"$folder/time"
-        least=$(echo "$least $began $ended" | awk '{ s = $3 - $2; printf "%.4f", s < $1 ? s : $1 }')
-        most=$((kib > most ? kib : most))
-    done
-    echo "$least $most"
-}
-
 workload 100000 >"$folder/whole"
 workload 0 >"$folder/read"
 differ=0
 printf '%-10s %9s %9s %10s %8s  %s\n' run seconds peer calls/s KiB report
 for words in '' '--trace'; do
-    read -r ours kib <<<"$(measure "$program" "$folder/whole" $words)"
+    input=$folder/whole
+    read -r ours _ kib _ <<<"$(measure "$program" drive --memory "$memory" $words)"
     mv "$folder/output" "$folder/ours"
     theirs=0
     if [ -n "${PEER:-}" ]; then
-        read -r theirs _ <<<"$(measure "$PEER" "$folder/whole" $words)"
+        read -r theirs _ <<<"$(measure "$PEER" drive --memory "$memory" $words)"
         cmp -s "$folder/ours" "$folder/output" || differ=1
     fi
     awk -v run="${words:---}" -v ours="$ours" -v theirs="$theirs" -v kib="$kib" -v report="$(tail -n 1 "$folder/ours")" \
         'BEGIN { printf "%-10s %9.4f %9.4f %10d %8d  %s\n", run, ours, theirs, 100000 / ours, kib, report }'
 done
-read -r seconds kib <<<"$(measure "$program" "$folder/read")"
+input=$folder/read
+read -r seconds _ kib _ <<<"$(measure "$program" drive --memory "$memory")"
 printf '%-10s %9.4f %9s %10s %8d  %s\n' reading "$seconds" - - "$kib" "$(tail -n 1 "$folder/output")"
 exit $differ

@@ -11,23 +11,10 @@ set -eu
 # shellcheck source=tests/common.sh
 . "$(dirname "${BASH_SOURCE[0]}")/../tests/common.sh"
 peer=${PEER:-}
-events=${1:-1000000}
+events=${1:-1000000} input=$folder/trace
 "$top/build"
 traces=${TRACES:-$folder/traces}
 [ -n "${TRACES:-}" ] || "${CC:-cc}" -O2 "$top/measure/traces.c" -o "$traces"
-
-# The least seconds and the peak memory of these words' runs on the trace, and their line and status.
-measure() {
-    local least=999999 memory=0 status
-    for _ in $(seq "${RUNS:-3}"); do
-        status=0
-        /usr/bin/time -q -o "$folder/time" -f '%e %M' "$@" <"$folder/trace" >"$folder/line" 2>/dev/null || status=$?
-        read -r seconds kib <"$folder/time"
-        least=$(echo "$least $seconds" | awk '{ print ($2 < $1) ? $2 : $1 }')
-        memory=$((kib > memory ? kib : memory))
-    done
-    echo "$least $memory $status $(head -c 200 "$folder/line" | head -n 1)"
-}
 
 differ=0
 printf '%-8s %-9s %10s %8s %10s %8s %6s %8s %6s %8s %6s %8s  %s\n' profile criterion events seconds events/s cat ratio 'wc -l' ratio peer ratio KiB same
@@ -35,12 +22,13 @@ printf '%-8s %-9s %10s %8s %10s %8s %6s %8s %6s %8s %6s %8s  %s\n' profile crite
 # A line of the profile, whose trace is there, by the criterion.
 print_line() {
     local profile=$1 criterion=$2
-    read -r ours memory answer <<<"$(measure "$program" judge --criterion "$criterion")"
+    read -r ours _ memory status <<<"$(measure "$program" judge --criterion "$criterion")"
+    answer="$status $(cat "$folder/output")"
     theirs=0 same=-
     if [ -n "$peer" ]; then
-        read -r theirs _ their_answer <<<"$(measure "$peer" judge --criterion "$criterion")"
+        read -r theirs _ _ status <<<"$(measure "$peer" judge --criterion "$criterion")"
         same=yes
-        [ "$answer" = "$their_answer" ] || { same=no differ=1; }
+        [ "$answer" = "$status $(cat "$folder/output")" ] || { same=no differ=1; }
     fi
     awk -v profile="$profile" -v criterion="$criterion" -v count="$count" -v ours="$ours" -v cats="$cats" -v counts="$counts" -v theirs="$theirs" \
         -v memory="$memory" -v same="$same" 'function beside(other) { return sprintf("%8.2f %6.1f", other, ours / (other > 0 ? other : 0.01)) }

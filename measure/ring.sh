@@ -11,7 +11,7 @@
 set -eu
 # shellcheck source=tests/common.sh
 . "$(dirname "${BASH_SOURCE[0]}")/../tests/common.sh"
-events=${1:-2000000}
+events=${1:-2000000} input=/dev/null
 crate=$top/crates/time_ring
 program=$crate/out/time_ring
 
@@ -26,19 +26,6 @@ if is_stale; then
     (cd "$crate" && rt run --jobs "$(nproc)" -- 16 3 3000) >"$folder/build" 2>&1 || { tail -n 40 "$folder/build" >&2 && exit 1; }
 fi
 
-# The least and the most seconds of the program's runs with so many cells and writers.
-measure() {
-    local least=999999 most=0 seconds
-    for _ in $(seq "${RUNS:-3}"); do
-        /usr/bin/time -q -o "$folder/time" -f '%e' "$program" "$1" "$2" "$events" >"$folder/line"
-        [ "$(cat "$folder/line")" = "taken $((events / $2 * $2))" ] || { echo "ring.sh: wrong line: $(cat "$folder/line")" >&2 && exit 1; }
-        read -r seconds <"$folder/time"
-        least=$(echo "$least $seconds" | awk '{ print ($2 < $1) ? $2 : $1 }')
-        most=$(echo "$most $seconds" | awk '{ print ($2 > $1) ? $2 : $1 }')
-    done
-    echo "$least $most"
-}
-
 # The events a second of the plain Rust programs.
 others() {
     [ -n "${PEER:-}" ] || return 0
@@ -48,8 +35,9 @@ others() {
 printf '%5s %3s %8s %8s %10s %10s %10s %10s %10s %6s\n' N M seconds slowest events/s plain acq/rel channel lock ratio
 for cells in ${CELLS:-16 256 4096}; do
     for writers in ${WRITERS:-1 3 7}; do
-        measured=$(measure "$cells" "$writers")
-        read -r seconds most <<<"$measured"
+        read -r seconds most _ status <<<"$(measure "$program" "$cells" "$writers" "$events")"
+        [ "$status $(cat "$folder/output")" = "0 taken $((events / writers * writers))" ] ||
+            { echo "ring.sh: status $status, wrong line: $(cat "$folder/output")" >&2 && exit 1; }
         read -r plain acquire channel lock <<<"$(others "$cells" "$writers")" || true
         awk -v cells="$cells" -v writers="$writers" -v seconds="$seconds" -v most="$most" -v events="$events" -v plain="${plain:-0}" \
             -v acquire="${acquire:-0}" -v channel="${channel:-0}" -v lock="${lock:-0}" 'BEGIN {

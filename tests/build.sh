@@ -1,6 +1,6 @@
 #!/usr/bin/env bash
 # Ends ./build by SIGTERM while it proves, and looks whether a process or a folder is left. Runs the gate beside what a build leaves in the
-# repository. Nothing is built.
+# repository, and has `rt lib` take what the gate has built, as ./build does: this fails if the kit's module has another form.
 #
 #   tests/build.sh
 #
@@ -56,9 +56,20 @@ gate_passes() {
     "$folder/main"
 }
 
+# Fails if `rt lib` builds again what the gate has built there, although packaging/kit.py has marked it.
+takes_marked() {
+    "$folder/copy/packaging/kit.py" "$folder/copy"
+    stat -c "%i %n" "$folder"/copy/crates/tmw_streams/out/rlib/* >"$folder/marked"
+    (cd "$folder/copy/crates/tmw_streams" && rt lib)
+    stat -c "%i %n" "$folder"/copy/crates/tmw_streams/out/rlib/* | diff "$folder/marked" -
+}
+
 ends 'a build that is ended' 143 ended
 has_told 'a build that is ended: what is told' '^stopped: '
 ends 'a build that is ended: no folder' 0 none_left
 ends 'a build that is ended: no process' 0 none_works
-! has "${CC:-cc}" 'the gate beside what a build leaves' || ends 'the gate beside what a build leaves' 0 gate_passes
+if has "${CC:-cc}" 'the gate beside what a build leaves'; then
+    ends 'the gate beside what a build leaves' 0 gate_passes
+    ends "the gate's libraries, by what packaging/kit.py knows of the kit" 0 takes_marked
+fi
 end_rows

@@ -24,11 +24,6 @@ set -eu
 . "$(dirname "${BASH_SOURCE[0]}")/common.sh"
 [ -n "${CASES:-}" ] || [ -x "$program" ] || "$top/build"
 
-# Counts a command line by whether what it did is what was wanted.
-count() {
-    counts [ "$2" = "$3" ] || printf '%s: %s, and not %s\n' "$1" "$3" "$2"
-}
-
 # Runs the program with these words on standard input, and keeps what it writes and its exit status.
 run() {
     status=0

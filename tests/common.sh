@@ -18,13 +18,28 @@ end_rows() {
 }
 
 # Counts a row, which passes if these words are true, and returns whether they are.
-counts() {
+check() {
     if "$@"; then
         passed=$((passed + 1))
     else
         failed=$((failed + 1))
         return 1
     fi
+}
+
+# Counts a row by its name, what is wanted and what came, which it prints if they differ.
+count() {
+    check [ "$2" = "$3" ] || printf '%s: %s, and not %s\n' "$1" "$3" "$2"
+}
+
+# Prints a row by a format of printf and its words, and counts it if the last of them is `passed` or `FAILED`.
+row() {
+    case ${!#} in
+    passed) passed=$((passed + 1)) ;;
+    FAILED) failed=$((failed + 1)) ;;
+    esac
+    # shellcheck disable=SC2059
+    printf "$1  %s\n" "${@:2}"
 }
 
 # Runs a row: its name, the exit status that it has to have, and its words. If they are a function, that ends where a step fails. What
@@ -36,7 +51,7 @@ ends() {
     (set -e && "$@") >"$folder/output" 2>&1
     status=$?
     set -e
-    if counts [ "$status" -eq "$wanted" ]; then
+    if check [ "$status" -eq "$wanted" ]; then
         echo "$name: $({ [ -z "${last:-}" ] || tail -n 1 "$folder/output"; } | grep . || echo passed)"
     else
         echo "$name: FAILED, status $status"
@@ -84,6 +99,24 @@ build_libitm() {
 # The seconds since a time of $EPOCHREALTIME.
 since() {
     echo "$1 $EPOCHREALTIME" | tr , . | awk '{ printf "%.2f", $2 - $1 }'
+}
+
+# Runs these words on $input, RUNS times or three. Prints the least and the most seconds, the peak memory in KiB and the exit status. What a
+# run has written is then in $folder/output; if two have written other bytes, the status is `differs`.
+measure() {
+    local least=999999999999 most=0 memory=0 status='' began took ended kib run
+    for ((run = 0; run < ${RUNS:-3}; run++)); do
+        [ "$run" -eq 0 ] || mv "$folder/output" "$folder/before"
+        ended=0 began=${EPOCHREALTIME/[.,]/}
+        /usr/bin/time -q -o "$folder/time" -f %M "$@" <"$input" >"$folder/output" 2>/dev/null || ended=$?
+        took=$((${EPOCHREALTIME/[.,]/} - began))
+        least=$((took < least ? took : least)) most=$((took > most ? took : most))
+        read -r kib <"$folder/time"
+        memory=$((kib > memory ? kib : memory))
+        [ "$run" -eq 0 ] || cmp -s "$folder/before" "$folder/output" || ended=differs
+        [ "$status" = differs ] || status=$ended
+    done
+    echo "$least $most $memory $status" | awk '{ printf "%.4f %.4f %d %s\n", $1 / 1000000, $2 / 1000000, $3, $4 }'
 }
 
 # Compiles the bench of this repository, by these words, into $folder/lib/libtmwatch_bench.a and libtmwatch_steps.a, as

@@ -19,9 +19,11 @@ judge() {
     output=$("$top/tmwatch" judge --criterion "$2" <"$top/examples/$1.trace") || status=$?
 }
 
-# Counts a row by the words that say how it ended.
-count() {
-    counts [ "$2" = right ] || printf '%s: %s\n' "$1" "$2"
+# Counts whether a page has this text, after such a line: the page, the row's name, the line and the text.
+expect_on() {
+    local found=drawn
+    [[ $(<"$top/$1") == *$'\n'"$3"$'\n'"$4"$'\n\n'* ]] || found='drawn otherwise'
+    count "$2 in $1" drawn "$found"
 }
 
 # The length at which a report line is settled, or nothing.
@@ -55,20 +57,14 @@ for trace in "$top"/examples/*.trace; do
     for criterion in opacity strict both; do
         judge "$name" "$criterion"
         row="$name $criterion $status ${output//$'\n'/ }"
-        if grep -qxF -- "$row" "$verdicts"; then how=right; else how='not in examples/verdicts.txt'; fi
-        count "$row" "$how"
+        count "$row: its rows in examples/verdicts.txt" 1 "$(grep -cxF -- "$row" "$verdicts")"
     done
 done
 runs=$((passed + failed))
-if [ "$(wc -l <"$verdicts")" = "$runs" ]; then how=right; else how="has other than $runs rows"; fi
-count examples/verdicts.txt "$how"
+count 'rows of examples/verdicts.txt' "$runs" "$(wc -l <"$verdicts")"
 
-page=$(<"$top/docs/GALLERY.md")
 for name in $(sed -n 's/^    \$ .* examples\/\(.*\)\.trace$/\1/p' "$top/docs/GALLERY.md"); do
-    case "$page" in
-    *$'\n\n'"$(draw "$name")"$'\n\n'*) count "$name in the page" right ;;
-    *) count "$name in the page" "is not as 'tests/gallery.sh draw $name' writes it" ;;
-    esac
+    expect_on docs/GALLERY.md "$name" '' "$(draw "$name")"
 done
 
 # the rows of the window, and of a part of it, that the page has: up to the first mark by opacity, for a run that opacity forbids
@@ -76,27 +72,22 @@ for name in $(sed -n 's/^    \$ .* examples\/\(.*\)\.trace$/\1/p' "$top/docs/GAL
     drawn=$(draw "$name" | sed 's/violated, by both$/violated, by opacity/')
     for words in 'show' 'show --why'; do
         read -r -a command <<<"$words"
-        how=right
+        missing=''
         while IFS= read -r row; do
-            grep -qxF -- "$row" <<<"$drawn" || how="has no line '$row' in the page"
+            grep -qxF -- "$row" <<<"$drawn" || missing=$row
         done < <("$top/tmwatch" "${command[@]}" <"$top/examples/$name.trace" | grep '^ *[0-9]')
-        count "$words of $name" "$how"
+        count "$words of $name: a line that the page lacks" '' "$missing"
     done
 done
 
-drawn=$("$top/tmwatch" show --why <"$top/examples/norec_reads.trace" | sed 's/^/    /')
-case $(<"$top/README.md") in
-*$'\n    $ ./tmwatch show --why < bad.trace\n'"$drawn"$'\n\n'*) count 'norec_reads in README.md' right ;;
-*) count 'norec_reads in README.md' 'is not drawn as there' ;;
-esac
+# What `show --why` draws of a trace, as a page has it.
+drawn_of() {
+    "$top/tmwatch" show --why <"$top/$1" | sed 's/^/    /'
+}
 
-page=$(<"$top/docs/FIELD.md")
+expect_on README.md norec_reads '    $ ./tmwatch show --why < bad.trace' "$(drawn_of examples/norec_reads.trace)"
 for trace in $(sed -n 's/^    \$ .* < \(.*\.trace\)$/\1/p' "$top/docs/FIELD.md"); do
-    drawn="    \$ ./tmwatch show --why < $trace"$'\n'$("$top/tmwatch" show --why <"$top/$trace" | sed 's/^/    /')
-    case "$page" in
-    *$'\n\n'"$drawn"$'\n\n'*) count "$trace in FIELD.md" right ;;
-    *) count "$trace in FIELD.md" "is not drawn as there" ;;
-    esac
+    expect_on docs/FIELD.md "$trace" "    \$ ./tmwatch show --why < $trace" "$(drawn_of "$trace")"
 done
 
 end_rows

@@ -26,7 +26,7 @@ if [ "${1:-}" = write ]; then
     exit
 fi
 
-counts cmp -s <(write_constants) "$constants" || echo "$constants is not as 'tests/page.sh write' writes it"
+check cmp -s <(write_constants) "$constants" || echo "$constants is not as 'tests/page.sh write' writes it"
 browser=${BROWSER:-chromium}
 if ! has "$browser" 'the pages of traces'; then
     end_rows

@@ -5,7 +5,7 @@
 #   tests/pictures.sh write
 #
 # A picture (.png) of the page of `show` keeps a checksum of its page: it has to be that of the page which the program writes. A drawing
-# (.svg) has to be what tests/drawings.py writes. `write` makes all anew, the pictures by Chromium (tests/page.py).
+# (.svg) has to be what tests/pictures.py writes. `write` makes all anew, the pictures by Chromium (tests/page.py).
 #
 # Each row that fails is printed. The last line is 'N passed, M failed', and the exit status is 1 if a row failed.
 # Environment: PROGRAM, the program (the built one); BROWSER (chromium), for `write`.
@@ -33,16 +33,16 @@ write_picture() {
 
 # Compares a picture.
 compare_picture() {
-    counts python3 "$top/tests/page.py" "$program" - --compare "$@" || echo "$1 is not as 'tests/pictures.sh write' makes it"
+    check python3 "$top/tests/page.py" "$program" - --compare "$@" || echo "$1 is not as 'tests/pictures.sh write' makes it"
 }
 
 if [ "${1:-}" = write ]; then
-    for name in "${drawings[@]}"; do "$top/tests/drawings.py" "$name" >"$pictures/$name.svg"; done
+    for name in "${drawings[@]}"; do "$top/tests/pictures.py" "$name" >"$pictures/$name.svg"; done
     each_picture write_picture
     exit
 fi
 for name in "${drawings[@]}"; do
-    counts cmp -s <("$top/tests/drawings.py" "$name") "$pictures/$name.svg" || echo "$name.svg is not as 'tests/pictures.sh write' makes it"
+    check cmp -s <("$top/tests/pictures.py" "$name") "$pictures/$name.svg" || echo "$name.svg is not as 'tests/pictures.sh write' makes it"
 done
 each_picture compare_picture
 end_rows

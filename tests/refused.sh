@@ -30,10 +30,11 @@ for fault in memory io spawn; do echo "{\"fault\":\"$fault\"}" >"$folder/$fault"
 # Calls are counted behind so many bytes that were read, and growths of so many bytes.
 after=0 least=0
 
-# Counts a run, and tells what it did where that isn't what it has to do.
-count() {
-    counts [ "$1" -eq 0 ] ||
-        echo "$name: $2: status $status, told '${told[*]}', wrote '$(head -qc 150 "$folder/output" "$folder/errors" | tr '\n' ' ')'"
+# Counts a run by whether it did what it has to do. If not, it prints what the run did.
+count_run() {
+    local found=right
+    [ "$1" -eq 0 ] || found="status $status, told '${told[*]}', wrote '$(head -qc 150 "$folder/output" "$folder/errors" | tr '\n' ' ')'"
+    count "$name: $2" right "$found"
 }
 
 # Runs these words with the call of this kind and number refused.
@@ -86,16 +87,16 @@ sweep() {
     while was_told refused; do
         refused=$((refused + 1)) wrong=0
         is_right "$1" "$refused" || wrong=1
-        count $wrong "$1 $refused"
+        count_run $wrong "$1 $refused"
         run "$1" $((refused + 1)) "${words[@]}"
     done
     wrong=0
     [ "$refused" -gt 0 ] && has_left "$folder/plain" "$plain_status" || wrong=1
-    count $wrong "no $1 after $refused"
+    count_run $wrong "no $1 after $refused"
 }
 
-# A command line: its name, the status of its plain run, the bytes that a read or a write moves, its input, and its words.
-row() {
+# Refuses each call of a command: its name, its plain run's status, the bytes that a read or a write moves, its input, and its words.
+refuse_each() {
     name=$1 plain_status=$2 bytes=$3 input=$4 words=("$program" "${@:5}")
     local kind line='' wrong=0
     run '' 0 "${words[@]}"
@@ -103,7 +104,7 @@ row() {
     starts=$([ "$least" -gt 0 ] || sed -n 's/^start //p' "$folder/told" | tr '\n' ' ')
     "${words[@]}" <"$input" >"$folder/plain" 2>/dev/null || true
     has_left "$folder/plain" "$plain_status" || wrong=1
-    count $wrong 'nothing refused'
+    count_run $wrong 'nothing refused'
     for kind in $kinds; do
         sweep "$kind"
         line="$line, $refused $kind"
@@ -114,9 +115,9 @@ row() {
 # The same of one whose plain run is known to write what `wanted` has.
 known_row() {
     local wrong=0
-    row "$@"
+    refuse_each "$@"
     cmp -s "$folder/wanted" "$folder/plain" || wrong=1
-    count $wrong 'the plain run, which wrote something else'
+    count_run $wrong 'the plain run, which wrote something else'
 }
 
 # Windows of two writers that overlap, so that there are two outcomes, each followed by a reader that tells which it is.
@@ -229,13 +230,13 @@ test_row() {
         allows) [ "$status" -eq 0 ] || has_not_begun || wrong=1 ;;
         strict) [ "$status" -eq 101 ] || [ "$status" -eq 134 ] || wrong=1 ;;
         esac
-        count $wrong "growth $refused"
+        count_run $wrong "growth $refused"
         run growth $((refused + 1)) "$tests" "$2" 2>/dev/null
     done
     wrong=0
     [ "$refused" -gt 0 ] && [ "$status" -eq 0 ] || wrong=1
     [ "$3" != allows ] || [ "$allowed" -gt 0 ] || wrong=1
-    count $wrong "no growth after $refused, with $allowed of which it passed"
+    count_run $wrong "no growth after $refused, with $allowed of which it passed"
     echo "$name: $refused growth, with $allowed of which it passed"
 }
 
@@ -253,47 +254,47 @@ echo '{"registers":1,"scripts":[[],[]],"order":[0,1]}' >"$folder/empty"
 echo '{"registers":3,"scripts":[[["R 0","W 0 1","T"]],[["R 1","W 1 1","T"]],[["R 2","W 2 1","T"]]],"order":[]}' >"$folder/workers"
 
 kinds='growth growths read interrupted_read write interrupted_write'
-row 'judge, one window' 0 1 "$top/examples/own_write.trace" judge
-row 'judge, many windows' 0 16 "$folder/windows" judge
-row 'judge, many windows, with counts' 0 16 "$folder/windows" judge --summary
-row 'judge, violated' 1 4 "$top/examples/dirty_read.trace" judge
-row 'judge, too many transactions' 2 4 "$top/examples/left_open.trace" judge
-row 'judge, malformed' 3 4 "$folder/malformed" judge
-row 'judge, a bad line' 4 1 "$folder/bad_line" judge
-row 'judge, 64 outcomes' 0 4 "$folder/outcomes" judge --states 64
-row 'judge, 64 outcomes and 63 allowed' 2 4 "$folder/outcomes" judge --states 63
-row 'judge, 64 outcomes and a reader of one' 0 4 "$folder/narrowed" judge
-row 'judge, 64 outcomes and a reader of none' 1 4 "$folder/impossible" judge
-row 'judge, 64 outcomes by layers' 0 4 "$folder/layers" judge
-row 'show, one window' 0 1 "$top/examples/own_write.trace" show
-row 'show, violated' 1 4 "$top/examples/dirty_read.trace" show
-row 'show, violated, why' 1 4 "$top/examples/dirty_read.trace" show --why
-row 'show, 64 outcomes and a reader of none' 1 4 "$folder/impossible" show
-row 'show, 64 outcomes and a reader of none, as traces' 1 4 "$folder/impossible" show --trace
-row 'show, 64 outcomes and a reader of none, as a page' 1 1024 "$folder/impossible" show --page
-row 'steps, a late claim' 0 4 "$top/examples/late_claim.steps" steps
-row 'steps, many' 0 16 "$folder/steps" steps
+refuse_each 'judge, one window' 0 1 "$top/examples/own_write.trace" judge
+refuse_each 'judge, many windows' 0 16 "$folder/windows" judge
+refuse_each 'judge, many windows, with counts' 0 16 "$folder/windows" judge --summary
+refuse_each 'judge, violated' 1 4 "$top/examples/dirty_read.trace" judge
+refuse_each 'judge, too many transactions' 2 4 "$top/examples/left_open.trace" judge
+refuse_each 'judge, malformed' 3 4 "$folder/malformed" judge
+refuse_each 'judge, a bad line' 4 1 "$folder/bad_line" judge
+refuse_each 'judge, 64 outcomes' 0 4 "$folder/outcomes" judge --states 64
+refuse_each 'judge, 64 outcomes and 63 allowed' 2 4 "$folder/outcomes" judge --states 63
+refuse_each 'judge, 64 outcomes and a reader of one' 0 4 "$folder/narrowed" judge
+refuse_each 'judge, 64 outcomes and a reader of none' 1 4 "$folder/impossible" judge
+refuse_each 'judge, 64 outcomes by layers' 0 4 "$folder/layers" judge
+refuse_each 'show, one window' 0 1 "$top/examples/own_write.trace" show
+refuse_each 'show, violated' 1 4 "$top/examples/dirty_read.trace" show
+refuse_each 'show, violated, why' 1 4 "$top/examples/dirty_read.trace" show --why
+refuse_each 'show, 64 outcomes and a reader of none' 1 4 "$folder/impossible" show
+refuse_each 'show, 64 outcomes and a reader of none, as traces' 1 4 "$folder/impossible" show --trace
+refuse_each 'show, 64 outcomes and a reader of none, as a page' 1 1024 "$folder/impossible" show --page
+refuse_each 'steps, a late claim' 0 4 "$top/examples/late_claim.steps" steps
+refuse_each 'steps, many' 0 16 "$folder/steps" steps
 for memory in norec lock torn; do
     wanted=0
     [ "$memory" != torn ] || wanted=1
-    row "drive, $memory" $wanted 8 "$top/examples/reader_among_writers.json" drive --memory $memory
-    row "drive, $memory, with the trace" $wanted 8 "$top/examples/reader_among_writers.json" drive --memory $memory --trace
+    refuse_each "drive, $memory" $wanted 8 "$top/examples/reader_among_writers.json" drive --memory $memory
+    refuse_each "drive, $memory, with the trace" $wanted 8 "$top/examples/reader_among_writers.json" drive --memory $memory --trace
 done
 kinds="$kinds thread"
-row 'bench' 0 4 "$folder/worker" bench
-row 'bench, with the trace' 0 4 "$folder/worker" bench --trace
-row 'bench, three rounds over one cell' 0 4 "$folder/worker" bench --memory lock --ring 1 --patience 1000000000 --rounds 3
-row 'bench, three workers' 0 4 "$folder/workers" bench --memory torn
-row 'bench, three workers and three rounds' 0 4 "$folder/workers" bench --memory torn --rounds 3
+refuse_each 'bench' 0 4 "$folder/worker" bench
+refuse_each 'bench, with the trace' 0 4 "$folder/worker" bench --trace
+refuse_each 'bench, three rounds over one cell' 0 4 "$folder/worker" bench --memory lock --ring 1 --patience 1000000000 --rounds 3
+refuse_each 'bench, three workers' 0 4 "$folder/workers" bench --memory torn
+refuse_each 'bench, three workers and three rounds' 0 4 "$folder/workers" bench --memory torn --rounds 3
 kinds='growth growths read interrupted_read write interrupted_write'
-row 'bench, fewer cells than scripts' 4 4 "$folder/empty" bench --ring 1
+refuse_each 'bench, fewer cells than scripts' 4 4 "$folder/empty" bench --ring 1
 kinds='growth growths write interrupted_write'
-row 'help' 0 16 /dev/null help judge
-row 'the version' 0 16 /dev/null --version
-row 'a wrong word' 4 4 /dev/null judge --window 9
+refuse_each 'help' 0 16 /dev/null help judge
+refuse_each 'the version' 0 16 /dev/null --version
+refuse_each 'a wrong word' 4 4 /dev/null judge --window 9
 # To find a word like this one, a list asks for room at once, and where that is refused, for less: the run is then the plain one.
 kinds='growths write interrupted_write'
-row 'a word that is like a command' 4 4 /dev/null jugde
+refuse_each 'a word that is like a command' 4 4 /dev/null jugde
 
 # Two writers at once, whom two readers see in opposite orders; a ring of two cells that is full between two places which are
 # published in the other order; and a reader that a writer overtakes.

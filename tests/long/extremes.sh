@@ -15,21 +15,22 @@ set -eu
 # More than the program takes where nothing grows; one that does nothing takes some 1,000 KiB.
 little=4000
 
-# Counts a run by what came out, which is its status and output, and by its memory.
-count() {
-    local name=$1 most=$2 wanted=$3 answer=$4 told=ok
+# The row of a run, by what came out, which is its status and output, and by its memory.
+end_run() {
+    local name=$1 most=$2 wanted=$3 answer=$4 passes=passed
     read -r seconds kib <"$folder/time"
-    counts [ "$answer $((kib <= most))" = "$wanted 1" ] || told="FAILED, wanted at most $most KiB and: $wanted; came:"
-    printf '%-58s %8s s %8s KiB  %s  %s\n' "$name" "$seconds" "$kib" "$told" "${answer%%$'\n'*}"
+    [ "$answer $((kib <= most))" = "$wanted 1" ] || passes=FAILED
+    row '%-58s %8s s %8s KiB  %s' "$name" "$seconds" "$kib" "${answer%%$'\n'*}" $passes
+    [ $passes = passed ] || echo "wanted at most $most KiB and: $wanted"
 }
 
 # A run on standard input: its name, the most KiB, the status and output that it has to have, and its words.
-row() {
+run() {
     local name=$1 most=$2 wanted=$3 status=0
     shift 3
     /usr/bin/time -q -o "$folder/time" -f '%e %M' timeout "${LIMIT:-3600}" "$program" "$@" >"$folder/output" 2>"$folder/errors" ||
         status=$?
-    count "$name" "$most" "$wanted" "$status $(cat "$folder/output" "$folder/errors")"
+    end_run "$name" "$most" "$wanted" "$status $(cat "$folder/output" "$folder/errors")"
 }
 
 # So many copies of a character.
@@ -66,38 +67,38 @@ long_lines() {
     for command in judge steps; do
         local header='opacity-trace 1 1'
         [ "$command" = judge ] || header='ring-steps 1 4 2 100'
-        row "$command: a header of $bytes bytes" $little "$(long_fault '"bad header"' '1 is no header such as opacity-trace 1 8' "$zeros")" $command \
+        run "$command: a header of $bytes bytes" $little "$(long_fault '"bad header"' '1 is no header such as opacity-trace 1 8' "$zeros")" $command \
             < <(copies "$bytes" 0 && echo)
-        row "$command: the same, cut" $little "$(long_fault '"cut","line":1' '1 has no line feed' "$zeros")" $command \
+        run "$command: the same, cut" $little "$(long_fault '"cut","line":1' '1 has no line feed' "$zeros")" $command \
             < <(copies "$bytes" 0)
-        row "$command: a line of $bytes bytes" $little \
+        run "$command: a line of $bytes bytes" $little \
             "$(long_fault '"bad line","line":2' '2 is no event of version 1' "$zeros")" $command \
             < <(echo "$header" && copies "$bytes" 0 && echo)
-        row "$command: the same, cut" $little "$(long_fault '"cut","line":2' '2 has no line feed' "$zeros")" $command \
+        run "$command: the same, cut" $little "$(long_fault '"cut","line":2' '2 has no line feed' "$zeros")" $command \
             < <(echo "$header" && copies "$bytes" 0)
     done
     command=judge
-    row "judge: 1,000 events, and an answer of $bytes digits" $little \
+    run "judge: 1,000 events, and an answer of $bytes digits" $little \
         "$(long_fault '"bad line","line":1002' '1002 is no event of version 1' "0 V $(copies 76 1)")" judge \
         < <(repeated 1000 "$serial" && printf '0 V ' && copies "$bytes" 1 && echo)
-    row "judge: a violated run, and a line of $bytes spaces" $little \
+    run "judge: a violated run, and a line of $bytes spaces" $little \
         "$(long_fault '"bad line","line":10' '10 is no event of version 1' "$(copies 80 ' ')")" judge \
         < <(cat "$top/examples/dirty_read.trace" && copies "$bytes" ' ' && echo)
 }
 
 length() {
     local events=${EVENTS:-16777216}
-    row "judge: $events events" $little "$(opaque "$events")" judge < <(repeated "$events" "$serial")
+    run "judge: $events events" $little "$(opaque "$events")" judge < <(repeated "$events" "$serial")
 }
 
 reads() {
     local reads=${READS:-10000000} pairs=$'0 R 0\n0 V 0'
-    row "judge: a transaction of $reads reads" $little "$(opaque $((2 * reads + 2)))" judge \
+    run "judge: a transaction of $reads reads" $little "$(opaque $((2 * reads + 2)))" judge \
         < <(repeated $((2 * reads)) "$pairs" && printf '0 T\n0 C\n')
-    row 'judge: three of them, one after another' $little "$(opaque $((6 * reads + 6)))" judge \
+    run 'judge: three of them, one after another' $little "$(opaque $((6 * reads + 6)))" judge \
         < <(repeated $((2 * reads)) "$pairs" && printf '0 T\n0 C\n' && yes "$pairs" | head -n $((2 * reads)) && printf '0 T\n0 C\n' &&
             yes "$pairs" | head -n $((2 * reads)) && printf '0 T\n0 C\n')
-    row 'judge: the same, and at its end a value that nobody wrote' $little \
+    run 'judge: the same, and at its end a value that nobody wrote' $little \
         "1 {\"at\":$((2 * reads + 2)),\"events\":$((2 * reads + 4)),\"verdict\":\"violated\"}" judge \
         < <(repeated $((2 * reads)) "$pairs" && printf '0 R 0\n0 V 1\n0 T\n0 C\n')
 }
@@ -127,9 +128,9 @@ sixty_four() {
 # A run of the same windows over and over: it has at most 64 outcomes at each cut, and 64 for the first time at this length.
 outcomes() {
     local name=$1 at=$2 events=$3 lines=$4
-    row "judge: $name" $little "$(opaque "$events")" judge --states 64 \
+    run "judge: $name" $little "$(opaque "$events")" judge --states 64 \
         < <(echo 'opacity-trace 1 8' && yes "$lines" | head -n "$events")
-    row 'judge: the same, and one state fewer' $little \
+    run 'judge: the same, and one state fewer' $little \
         "2 {\"at\":$at,\"events\":$events,\"verdict\":\"undecided\",\"why\":\"states\"}" judge --states 63 \
         < <(echo 'opacity-trace 1 8' && yes "$lines" | head -n "$events")
 }
@@ -162,8 +163,8 @@ aborts() {
     for asked in 1 0; do
         local name='judge: eight threads abort in each order, as asked'
         [ "$asked" = 1 ] || name='judge: the same, as the answer of a commit request'
-        row "$name" $little "$(opaque $((events + 4)))" judge < <(aborts_in_each_order $asked && printf '7 R 0\n7 V 0\n7 T\n7 C\n')
-        row 'judge: the same, and then one of their values' $little \
+        run "$name" $little "$(opaque $((events + 4)))" judge < <(aborts_in_each_order $asked && printf '7 R 0\n7 V 0\n7 T\n7 C\n')
+        run 'judge: the same, and then one of their values' $little \
             "1 {\"at\":$((events + 2)),\"events\":$((events + 4)),\"verdict\":\"violated\"}" judge \
             < <(aborts_in_each_order $asked && printf '7 R 0\n7 V 8\n7 T\n7 C\n')
     done
@@ -195,12 +196,12 @@ closing_windows() {
 
 slow() {
     local slow=${SLOW:-5} LIMIT=${LIMIT:-20}
-    row 'judge: eight transactions, behind 64 outcomes' $little "$(opaque 125)" judge <"$top/examples/slowest.trace"
-    row "judge: $slow reads of a live transaction" $little "$(opaque $((113 + 2 * slow)))" judge < <(live_reads "$slow")
-    row 'judge: the same, and at last a value that nobody wrote' $little \
+    run 'judge: eight transactions, behind 64 outcomes' $little "$(opaque 125)" judge <"$top/examples/slowest.trace"
+    run "judge: $slow reads of a live transaction" $little "$(opaque $((113 + 2 * slow)))" judge < <(live_reads "$slow")
+    run 'judge: the same, and at last a value that nobody wrote' $little \
         "1 {\"at\":$((115 + 2 * slow)),\"events\":$((115 + 2 * slow)),\"verdict\":\"violated\"}" judge \
         < <(live_reads "$slow" && printf '7 R 7\n7 V 9\n')
-    row "judge: $slow windows from 64 outcomes to 64, not blind" $little "$(opaque $((64 + 82 * slow)))" judge \
+    run "judge: $slow windows from 64 outcomes to 64, not blind" $little "$(opaque $((64 + 82 * slow)))" judge \
         < <(closing_windows "$slow")
 }
 
@@ -210,7 +211,7 @@ shell_row() {
     shift 4
     /usr/bin/time -q -o "$folder/time" -f '%e %M' timeout "${LIMIT:-3600}" bash -c "$text" bash "$program" "$@" \
         >"$folder/output" 2>"$folder/errors" || status=$?
-    count "$*: $name" "$most" "$wanted" "$status $(cat "$folder/output" "$folder/errors")"
+    end_run "$*: $name" "$most" "$wanted" "$status $(cat "$folder/output" "$folder/errors")"
 }
 
 # A run whose streams are as these redirections say. The shell makes them, since `time` would put a file in place of a closed one.
@@ -270,7 +271,7 @@ left_by_reader() {
     { /usr/bin/time -q -o "$folder/time" -f '%e %M' "$program" "$@" <"$folder/long" 2>"$folder/errors" || echo $? >"$folder/status"; } |
         head -c "$bytes" >"$folder/output"
     cmp -s "$folder/output" <(head -c "$bytes" "$folder/whole") || same='other bytes'
-    count "$*: a reader that leaves after $bytes bytes" 100000 '4 as otherwise' "$(cat "$folder/status") $same"
+    end_run "$*: a reader that leaves after $bytes bytes" 100000 '4 as otherwise' "$(cat "$folder/status") $same"
 }
 
 streams() {
@@ -301,7 +302,7 @@ workload_rows() {
         local wanted="4 {\"fault\":\"$fault\"}"
         [ "$command" = drive ] || ends=$'\n{"ends":["done"]}'
         [ "$fault" != none ] || wanted="$(opaque 4)$ends"
-        row "$command: $name" "$most" "$wanted" $command < <(eval "$generate")
+        run "$command: $name" "$most" "$wanted" $command < <(eval "$generate")
     done
 }
 

@@ -111,9 +111,9 @@ sum_up() {
         }' "$folder/judged"
 }
 
-# A row: the level, how many runs have to be violated by opacity and by strict serializability (all, some, none, any), the rounds of a run,
+# Records the runs of a row: the level, how many runs have to be violated by opacity and by strict serializability (all, some, none, any), the rounds of a run,
 # and the command that records one, which gets the rounds and a seed.
-row() {
+record() {
     local level=$1 wanted=$2 wanted_strict=$3 rounds=$(($4 * percent / 100)) began=$SECONDS early=0 other=0 status summed
     shift 4
     : >"$folder/judged"
@@ -131,8 +131,8 @@ row() {
         [ -z "${DRAWN:-}" ] || keep_drawing "$level"
     done
     summed=$(sum_up "$wanted" "$wanted_strict")
-    counts [ "${summed##* }" = passed -a $early -lt "$runs" -a $other -eq 0 ] || true
-    printf '%-20s %-34s %s in %d s, %d ended early\n' "$system" "$level" "$summed" $((SECONDS - began)) $early
+    [ $early -lt "$runs" ] && [ $other -eq 0 ] || summed="${summed% *} FAILED"
+    row '%-20s %-34s %s in %d s, %d ended early' "$system" "$level" "${summed% *}" $((SECONDS - began)) $early "${summed##* }"
 }
 
 # Records PostgreSQL without its aborted writers: what a transaction without writes says besides, the rounds and the seed.
@@ -192,101 +192,101 @@ ends readers.awk 0 filters
 printf '%-20s %-34s %17s\n' '' '' 'violated in'
 printf '%-20s %-34s %8s %8s %4s %4s %9s %7s\n' system level opacity strict met back events least
 if system ghc 'GHC STM' "$(version_of ghc)"; then
-    row atomically all none 3000 "$field/ghc/run"
+    record atomically all none 3000 "$field/ghc/run"
 fi
 if system clojure Clojure "$(version_of clojure)"; then
-    row deref all all 1000 "$field/clojure/run" deref
-    row 'deref (1)' none none 1000 env REGISTERS=1 "$field/clojure/run" deref
-    row ensure none none 500 "$field/clojure/run" ensure
+    record deref all all 1000 "$field/clojure/run" deref
+    record 'deref (1)' none none 1000 env REGISTERS=1 "$field/clojure/run" deref
+    record ensure none none 500 "$field/clojure/run" ensure
 fi
 if system postgres PostgreSQL "$(version_of 'postgresql-[0-9]*')"; then
-    row 'READ COMMITTED' all all 1000 "$field/postgres/run" 'READ COMMITTED'
-    row 'READ COMMITTED, psycopg2' all all 500 psycopg2 'read committed'
-    row 'REPEATABLE READ' all all 1000 "$field/postgres/run" 'REPEATABLE READ'
-    row 'REPEATABLE READ (1)' none none 1000 env REGISTERS=1 "$field/postgres/run" 'REPEATABLE READ'
-    row SERIALIZABLE some none 3000 "$field/postgres/run" SERIALIZABLE
-    row 'READ ONLY readers' any none 3000 readers 'READ ONLY'
-    row 'DEFERRABLE readers' none none 3000 readers 'READ ONLY DEFERRABLE'
+    record 'READ COMMITTED' all all 1000 "$field/postgres/run" 'READ COMMITTED'
+    record 'READ COMMITTED, psycopg2' all all 500 psycopg2 'read committed'
+    record 'REPEATABLE READ' all all 1000 "$field/postgres/run" 'REPEATABLE READ'
+    record 'REPEATABLE READ (1)' none none 1000 env REGISTERS=1 "$field/postgres/run" 'REPEATABLE READ'
+    record SERIALIZABLE some none 3000 "$field/postgres/run" SERIALIZABLE
+    record 'READ ONLY readers' any none 3000 readers 'READ ONLY'
+    record 'DEFERRABLE readers' none none 3000 readers 'READ ONLY DEFERRABLE'
 fi
 if system redis Redis "$(version_of redis-server)"; then
-    row 'no WATCH' all all 1000 "$field/redis/run" plain
-    row WATCH all none 1000 "$field/redis/run" watch
+    record 'no WATCH' all all 1000 "$field/redis/run" plain
+    record WATCH all none 1000 "$field/redis/run" watch
 fi
 if system lmdb LMDB "$(version_of liblmdb0)"; then
-    row transaction none none 1000 "$field/lmdb/run"
+    record transaction none none 1000 "$field/lmdb/run"
 fi
 if system rocksdb RocksDB "$(version_of librocksdb-dev)"; then
-    row 'locking, GetForUpdate' none none 500 "$field/rocksdb/run" 'locking update'
-    row 'optimistic, GetForUpdate' all none 1000 "$field/rocksdb/run" 'optimistic update'
-    row 'optimistic, snapshot' all all 1000 "$field/rocksdb/run" 'optimistic snapshot'
-    row 'optimistic, snapshot (1)' none none 1000 env REGISTERS=1 "$field/rocksdb/run" 'optimistic snapshot'
+    record 'locking, GetForUpdate' none none 500 "$field/rocksdb/run" 'locking update'
+    record 'optimistic, GetForUpdate' all none 1000 "$field/rocksdb/run" 'optimistic update'
+    record 'optimistic, snapshot' all all 1000 "$field/rocksdb/run" 'optimistic snapshot'
+    record 'optimistic, snapshot (1)' none none 1000 env REGISTERS=1 "$field/rocksdb/run" 'optimistic snapshot'
 fi
 if system bdb 'Berkeley DB' "$(version_of libdb5.3)"; then
-    row serializable none none 1000 "$field/bdb/run" serializable
-    row snapshot all all 1000 "$field/bdb/run" snapshot
-    row 'snapshot (1)' none none 1000 env REGISTERS=1 "$field/bdb/run" snapshot
+    record serializable none none 1000 "$field/bdb/run" serializable
+    record snapshot all all 1000 "$field/bdb/run" snapshot
+    record 'snapshot (1)' none none 1000 env REGISTERS=1 "$field/bdb/run" snapshot
 fi
 if system jdbc H2 "$(version_of libh2-java)"; then
-    row SERIALIZABLE all all 500 "$field/jdbc/run" h2 SERIALIZABLE
+    record SERIALIZABLE all all 500 "$field/jdbc/run" h2 SERIALIZABLE
     # (reads, another's commit and a roll-back: the more of each, the more stale reads)
     often=(env REGISTERS=1 'FLAGS=-Dwrites=6 -Daborts=2')
-    row 'SERIALIZABLE (1)' all all 1000 "${often[@]}" "$field/jdbc/run" h2 SERIALIZABLE
+    record 'SERIALIZABLE (1)' all all 1000 "${often[@]}" "$field/jdbc/run" h2 SERIALIZABLE
     often+=('OPTIONS=;OPTIMIZE_REUSE_RESULTS=FALSE')
-    row 'SERIALIZABLE, no reuse (1)' none none 1000 "${often[@]}" "$field/jdbc/run" h2 SERIALIZABLE
+    record 'SERIALIZABLE, no reuse (1)' none none 1000 "${often[@]}" "$field/jdbc/run" h2 SERIALIZABLE
 fi
 if system jdbc HSQLDB "$(version_of libhsqldb-java)"; then
-    row 'locks, SERIALIZABLE' none none 500 env 'OPTIONS=;hsqldb.tx=locks' "$field/jdbc/run" hsqldb SERIALIZABLE
-    row 'mvcc, SERIALIZABLE' all all 500 env 'OPTIONS=;hsqldb.tx=mvcc' "$field/jdbc/run" hsqldb SERIALIZABLE
-    row 'mvcc, SERIALIZABLE (1)' none none 500 env REGISTERS=1 'OPTIONS=;hsqldb.tx=mvcc' "$field/jdbc/run" hsqldb SERIALIZABLE
+    record 'locks, SERIALIZABLE' none none 500 env 'OPTIONS=;hsqldb.tx=locks' "$field/jdbc/run" hsqldb SERIALIZABLE
+    record 'mvcc, SERIALIZABLE' all all 500 env 'OPTIONS=;hsqldb.tx=mvcc' "$field/jdbc/run" hsqldb SERIALIZABLE
+    record 'mvcc, SERIALIZABLE (1)' none none 500 env REGISTERS=1 'OPTIONS=;hsqldb.tx=mvcc' "$field/jdbc/run" hsqldb SERIALIZABLE
 fi
 if system jdbc Derby "$(version_of libderby-java)"; then
-    row 'READ COMMITTED' all all 300 "$field/jdbc/run" derby 'READ COMMITTED'
-    row SERIALIZABLE none none 300 "$field/jdbc/run" derby SERIALIZABLE
+    record 'READ COMMITTED' all all 300 "$field/jdbc/run" derby 'READ COMMITTED'
+    record SERIALIZABLE none none 300 "$field/jdbc/run" derby SERIALIZABLE
 fi
 if system mariadb MariaDB "$(version_of mariadb-server)"; then
-    row 'REPEATABLE READ' all all 500 "$field/mariadb/run" 'repeatable read'
-    row SERIALIZABLE none none 500 "$field/mariadb/run" serializable
+    record 'REPEATABLE READ' all all 500 "$field/mariadb/run" 'repeatable read'
+    record SERIALIZABLE none none 500 "$field/mariadb/run" serializable
 fi
 if system sqlite SQLite "$(python3 -c 'import sqlite3; print(sqlite3.sqlite_version)')"; then
-    row journal none none 1000 sqlite --journal delete
-    row WAL none none 1000 sqlite --journal wal
-    row read_uncommitted all all 500 sqlite --uncommitted
+    record journal none none 1000 sqlite --journal delete
+    record WAL none none 1000 sqlite --journal wal
+    record read_uncommitted all all 500 sqlite --uncommitted
 fi
 if system firebird Firebird "$(version_of libfbclient2)"; then
-    row 'READ COMMITTED' all all 300 "$field/firebird/run" 'READ COMMITTED'
-    row 'READ COMMITTED, no record version' all all 300 "$field/firebird/run" 'READ COMMITTED, NO RECORD VERSION'
-    row SNAPSHOT all all 300 "$field/firebird/run" SNAPSHOT
-    row 'SNAPSHOT (1)' none none 300 env REGISTERS=1 "$field/firebird/run" SNAPSHOT
+    record 'READ COMMITTED' all all 300 "$field/firebird/run" 'READ COMMITTED'
+    record 'READ COMMITTED, no record version' all all 300 "$field/firebird/run" 'READ COMMITTED, NO RECORD VERSION'
+    record SNAPSHOT all all 300 "$field/firebird/run" SNAPSHOT
+    record 'SNAPSHOT (1)' none none 300 env REGISTERS=1 "$field/firebird/run" SNAPSHOT
     # (another has to commit between a begin and its first call: rare)
-    row 'SNAPSHOT TABLE STABILITY' some some 1000 "$field/firebird/run" 'TABLE STABILITY'
-    row 'SNAPSHOT TABLE STABILITY (1)' none none 1000 env REGISTERS=1 "$field/firebird/run" 'TABLE STABILITY'
+    record 'SNAPSHOT TABLE STABILITY' some some 1000 "$field/firebird/run" 'TABLE STABILITY'
+    record 'SNAPSHOT TABLE STABILITY (1)' none none 1000 env REGISTERS=1 "$field/firebird/run" 'TABLE STABILITY'
     ends 'Firebird, write skew without chance' 1 "$field/firebird/run" skew 'TABLE STABILITY'
 fi
 if system mnesia Mnesia "$(version_of erlang-mnesia)"; then
-    row transaction none none 500 "$field/mnesia/run" transaction
-    row sync_transaction none none 500 "$field/mnesia/run" sync_transaction
-    row 'transaction, dirty_read' all all 500 "$field/mnesia/run" dirty_read
-    row async_dirty all all 500 "$field/mnesia/run" async_dirty
-    row ets all all 500 "$field/mnesia/run" ets
+    record transaction none none 500 "$field/mnesia/run" transaction
+    record sync_transaction none none 500 "$field/mnesia/run" sync_transaction
+    record 'transaction, dirty_read' all all 500 "$field/mnesia/run" dirty_read
+    record async_dirty all all 500 "$field/mnesia/run" async_dirty
+    record ets all all 500 "$field/mnesia/run" ets
 fi
 if system multiverse Multiverse "$(version_of libmultiverse-core-java)"; then
-    row Serializable none none 500 "$field/multiverse/run" Serializable
-    row Snapshot all all 500 "$field/multiverse/run" Snapshot
-    row 'Snapshot, read locks' none none 500 env LOCK=Read "$field/multiverse/run" Snapshot
-    row RepeatableRead all all 500 "$field/multiverse/run" RepeatableRead
-    row 'RepeatableRead, read locks' none none 500 env LOCK=Read "$field/multiverse/run" RepeatableRead
+    record Serializable none none 500 "$field/multiverse/run" Serializable
+    record Snapshot all all 500 "$field/multiverse/run" Snapshot
+    record 'Snapshot, read locks' none none 500 env LOCK=Read "$field/multiverse/run" Snapshot
+    record RepeatableRead all all 500 "$field/multiverse/run" RepeatableRead
+    record 'RepeatableRead, read locks' none none 500 env LOCK=Read "$field/multiverse/run" RepeatableRead
 fi
 if system tarantool Tarantool "$(version_of tarantool)"; then
-    row vinyl none none 1000 "$field/tarantool/run" vinyl
-    row 'memtx, yielding' all none 1000 "$field/tarantool/run" memtx
+    record vinyl none none 1000 "$field/tarantool/run" vinyl
+    record 'memtx, yielding' all none 1000 "$field/tarantool/run" memtx
 fi
 if system prolog SWI-Prolog "$(version_of swi-prolog-nox)"; then
-    row transaction/1 all all 500 "$field/prolog/run" unchecked
-    row 'transaction/3, reads checked' none none 500 "$field/prolog/run" checked
+    record transaction/1 all all 500 "$field/prolog/run" unchecked
+    record 'transaction/3, reads checked' none none 500 "$field/prolog/run" checked
 fi
 if system tdb TDB "$(version_of libtdb1)"; then
-    row transaction none none 500 "$field/tdb/run" transaction
-    row 'reads outside' all all 500 "$field/tdb/run" outside
-    row 'no transaction' all all 500 "$field/tdb/run" none
+    record transaction none none 500 "$field/tdb/run" transaction
+    record 'reads outside' all all 500 "$field/tdb/run" outside
+    record 'no transaction' all all 500 "$field/tdb/run" none
 fi
 end_rows

@@ -22,7 +22,7 @@ build_libitm
 method_row() {
     local name=$1 wanted=$2 method=$3 program=$4 placing=$5
     : >"$folder/told"
-    row "$name" "$wanted" any env ITM_DEFAULT_METHOD="$method" timeout 120 "$folder/$program" "$placing"
+    record "$name" "$wanted" any env ITM_DEFAULT_METHOD="$method" timeout 120 "$folder/$program" "$placing"
     awk '{ n += $1 } END { printf "    %d attempts were rolled back\n", n }' "$folder/told"
 }
 
@@ -38,8 +38,8 @@ method_row 'ml_wt, C inside the block' violated ml_wt libitm early-commit
 method_row 'gl_wt, no A at a restart' malformed gl_wt libitm no-abort
 method_row 'ml_wt, no A at a restart' malformed ml_wt libitm no-abort
 method_row 'ml_wt, restarts unbounded' undecided ml_wt unbounded right
-row 'little memory' opaque opaque "$folder/NONE" right
-row 'no validation of reads' violated opaque "$folder/READS" right
-row 'no validation at commit' violated violated "$folder/COMMIT" right
-row 'writes in place' violated violated "$folder/PLACE" right
+record 'little memory' opaque opaque "$folder/NONE" right
+record 'no validation of reads' violated opaque "$folder/READS" right
+record 'no validation at commit' violated violated "$folder/COMMIT" right
+record 'writes in place' violated violated "$folder/PLACE" right
 end_rows

@@ -18,27 +18,27 @@ build_libitm "$built/lib/libtmwatch.a"
 
 declare -A statuses=(['opaque so far']=0 [violated]=1 [undecided]=2 [malformed]=3)
 
-# A row: its name, the verdict that each run has to have, the method of libitm, the program, and where it records.
-row() {
-    local name=$1 wanted=$2 method=$3 program=$4 placing=$5 seed status
+# Watches the runs of a row: its name, the verdict that each run has to have, the method of libitm, the program, and where it records.
+watch() {
+    local name=$1 wanted=$2 method=$3 program=$4 placing=$5 passes=passed seed status
     : >"$folder/verdicts"
     for seed in $(seq "$runs"); do
         status=0
         ITM_DEFAULT_METHOD=$method timeout 120 "$folder/$program" "$placing" "$rounds" "$seed" >"$folder/output" 2>/dev/null || status=$?
         echo "$(tail -n 1 "$folder/output"), status $status" >>"$folder/verdicts"
     done
-    counts [ "$(grep -c "^$wanted at .*, status ${statuses[$wanted]}\$" "$folder/verdicts")" -eq "$runs" ] || true
-    printf '%-32s %s\n' "$name" "$(sed 's/ at .*,/,/' "$folder/verdicts" | sort | uniq -c | tr -s ' \n' ' ')"
+    [ "$(grep -c "^$wanted at .*, status ${statuses[$wanted]}\$" "$folder/verdicts")" -eq "$runs" ] || passes=FAILED
+    row '%-32s %s' "$name" "$(sed 's/ at .*,/,/' "$folder/verdicts" | sort | uniq -c | tr -s ' \n' ' ')" $passes
 }
 
 for method in serialirr serial gl_wt ml_wt; do
-    row "$method" 'opaque so far' $method libitm right
+    watch "$method" 'opaque so far' $method libitm right
 done
-row 'gl_wt, T behind the block' violated gl_wt libitm late-request
-row 'ml_wt, C inside the block' violated ml_wt libitm early-commit
-row 'ml_wt, no A at a restart' malformed ml_wt libitm no-abort
-row 'little memory' 'opaque so far' '' NONE right
-row 'no validation of reads' violated '' READS right
-row 'no validation at commit' violated '' COMMIT right
-row 'writes in place' violated '' PLACE right
+watch 'gl_wt, T behind the block' violated gl_wt libitm late-request
+watch 'ml_wt, C inside the block' violated ml_wt libitm early-commit
+watch 'ml_wt, no A at a restart' malformed ml_wt libitm no-abort
+watch 'little memory' 'opaque so far' '' NONE right
+watch 'no validation of reads' violated '' READS right
+watch 'no validation at commit' violated '' COMMIT right
+watch 'writes in place' violated '' PLACE right
 end_rows

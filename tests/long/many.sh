@@ -261,7 +261,7 @@ hunt_workloads() {
     says 1 "$(find torn -name '*.found' | wc -l)" '"verdict":"violated"' "$many/summary" torn
 }
 
-if has munged Slurm && has slurmctld Slurm && has slurmd Slurm && has sbatch Slurm && counts start_slurm; then
+if has munged Slurm && has slurmctld Slurm && has slurmd Slurm && has sbatch Slurm && check start_slurm; then
     export MANY=$many
     way "Slurm, $((2 * processors)) tasks" 'array "[0-9]+ COMPLETED" --array=1-$((2 * processors)) "$many/judge.sbatch" $kind "$out"'
     ends 'a task that is requeued, one that is killed, and the array again' 0 requeue_and_submit_again

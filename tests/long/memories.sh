@@ -92,8 +92,8 @@ number_of() {
     sed -n "s/.*\"$1\":\([0-9]*\).*/\1/p" "$folder/output" | head -n 1
 }
 
-# A row: its name, whether the memory is right, broken, loses progress, or is only told of, the schedule, and how a run is made.
-row() {
+# Runs each seed of a row: its name, whether the memory is right, broken, lost or only told of, the schedule, and how a run is made.
+run_seeds() {
     local name=$1 kind=$2 schedule=$3 of_each=(0 0 0 0 0 0) passes=passed began=$EPOCHREALTIME seed status found run
     local rounds=100000000 usual=1 seconds=$broken_seconds all=0 took started
     [ "$kind" != right ] || rounds=$right_rounds usual=0 seconds=''
@@ -112,8 +112,8 @@ row() {
         [ "$found" -ne 1 ] || echo "$run" >>"$folder/found"
     done
     took=$(since "$began")
-    counts is_wanted "$kind" "${of_each[@]}" || passes=FAILED
-    printf '%-36s %-8s %6d %8d %9d %9d %5d %5d %8s %8.0f %7s  %s\n' "$name" "$schedule" "${of_each[@]}" \
+    is_wanted "$kind" "${of_each[@]}" || passes=FAILED
+    row '%-36s %-8s %6d %8d %9d %9d %5d %5d %8s %8.0f %7s' "$name" "$schedule" "${of_each[@]}" \
         "$(sort -n "$folder/found" | awk '{ it[NR] = $1 } END { print NR ? it[int((NR + 1) / 2)] : "-" }')" \
         "$(echo "$all $took" | awk '{ print $1 / $2 }')" "$took" $passes
 }
@@ -125,7 +125,7 @@ rows() {
     for schedule in $schedules; do
         kind=$2
         [ "$schedule" = all ] || [ "$kind" != broken ] || kind=told
-        row "$1" $kind "$schedule" "${@:3}"
+        run_seeds "$1" $kind "$schedule" "${@:3}"
     done
 }
 

@@ -18,8 +18,8 @@ flags=(-O2 -Wall -Wextra -pthread -DTMWATCH_PAUSES "-I$top/include")
 "${CC:-cc}" -std=c11 "${flags[@]}" -c -o "$folder/versions.o" "$top/tests/c/bench_versions.c"
 "${CXX:-c++}" -std=c++17 "${flags[@]}" -c -o "$folder/lock.o" "$top/tests/c/bench_lock.cpp"
 
-# A row: the mistake and the memory, whose program is compiled. It sets opaque, how many seeds were so.
-row() {
+# Runs each seed of a mistake and a memory, whose program is compiled. It sets opaque, how many seeds were so.
+run_seeds() {
     local seed status of_each=(0 0 0 0 0)
     for seed in $(seq "$seeds"); do
         status=0
@@ -28,7 +28,7 @@ row() {
         of_each[status]=$((of_each[status] + 1))
     done
     opaque=${of_each[0]}
-    printf '%-36s %-9s %6d %8d %9d %9d %7d  %s\n' "$1" "$2" "${of_each[@]}" "$(shows && echo shows || echo 'does not show')"
+    row '%-36s %-9s %6d %8d %9d %9d %7d' "$1" "$2" "${of_each[@]}" "$(shows && echo shows || echo 'does not show')"
 }
 
 shows() {
@@ -44,12 +44,12 @@ mistake() {
     "${CC:-cc}" -std=c11 "${flags[@]}" -c -o "$folder/bench.o" "$folder/bench-c/tmwatch_bench.c"
     for memory in lock norec versions; do
         "${CXX:-c++}" -pthread -o "$folder/$memory" "$folder/$memory.o" "$folder/bench.o" "$built/lib/libtmwatch.a"
-        row "$1" "$memory"
+        run_seeds "$1" "$memory"
         ! shows || is_shown=yes
         [ "$opaque" -eq "$seeds" ] || is_hidden=no
     done
     if diff -r "$folder/bench-c" "$top/bench-c" >"$folder/told"; then is_shown=$is_hidden; fi
-    counts [ $is_shown = yes ] || true
+    check [ $is_shown = yes ] || true
 }
 
 printf '%-36s %-9s %6s %8s %9s %9s %7s\n' mistake memory opaque violated undecided malformed refused

@@ -32,8 +32,8 @@ is_wanted() {
     esac
 }
 
-# A row, of its fields.
-row() {
+# Runs each seed of a row of the variants, by its fields.
+run_seeds() {
     local kind=$1 words seed status violated=0 stuck=0 rescued=0
     read -r -a words <<<"$3"
     "$cc" -std=c11 -O2 -g -fsanitize=thread -Wno-tsan "-I$top/include" "${words[@]}" -c -o "$folder/memory.o" \
@@ -50,16 +50,16 @@ row() {
     done
     local passes=told
     [ "$orders" != c++ ] || case $kind in
-        right | wrong | stuck) passes=passed && counts is_wanted "$kind" || passes=FAILED ;;
+        right | wrong | stuck) passes=passed && is_wanted "$kind" || passes=FAILED ;;
     esac
-    printf '%-7s %-9s %-24s %3d %3d %18s  %-6s %s\n' "$kind" "$2" "$3" "$violated" "$stuck" "$(spread)" $passes "$4"
+    row '%-7s %-9s %-24s %3d %3d %18s  %-44s' "$kind" "$2" "$3" "$violated" "$stuck" "$(spread)" "$4" $passes
 }
 
 printf '%-7s %-9s %-24s %3s %3s %18s\n' kind memory words of$seeds stk rounds
 while IFS='|' read -r kind file words text; do
     case $kind in
     right | wrong | stuck | rare | delayed)
-        if [[ "$kind|$file|$words|$text" =~ $only ]]; then row "$kind" "$file" "$words" "$text"; fi
+        if [[ "$kind|$file|$words|$text" =~ $only ]]; then run_seeds "$kind" "$file" "$words" "$text"; fi
         ;;
     esac
 done <"$top/tests/orders/memories/variants"

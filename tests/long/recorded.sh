@@ -6,7 +6,7 @@
 judge=$program
 
 write_head() {
-    printf '%-30s %-11s %-11s %7s %7s %9s %7s %7s  %s\n' row opacity strict least most events run judged passed
+    printf '%-30s %-11s %-11s %7s %7s %9s %7s %7s\n' row opacity strict least most events run judged
     printf '%-30s %-11s %-11s\n' '' 'o v u m' 'o v u m'
 }
 
@@ -33,19 +33,19 @@ all_are() {
     esac
 }
 
-# A row: its name, the verdict that each run has to have by opacity and by strict serializability, and the command that writes a
+# Records and judges the runs of a row: its name, the verdict that each run has to have by opacity and by strict serializability, and the command that writes a
 # run's trace, which is given the number of rounds and a seed.
-row() {
-    local name=$1 wanted=$2 wanted_strict=$3 least=0 most=0 events=0 run=0 judged=0 passes=yes
+record() {
+    local name=$1 wanted=$2 wanted_strict=$3 least=0 most=0 events=0 run=0 judged=0 passes=passed
     local opacity=(0 0 0 0) strict=(0 0 0 0)
     shift 3
     for seed in $(seq "$runs"); do
         local began
         began=$EPOCHREALTIME
-        "$@" "$rounds" "$seed" >"$folder/trace" 2>>"$folder/told" || passes=no
+        "$@" "$rounds" "$seed" >"$folder/trace" 2>>"$folder/told" || passes=FAILED
         run=$(echo "$run $(since "$began")" | awk '{ printf "%.2f", $1 + $2 }')
         began=$EPOCHREALTIME
-        "$judge" judge --criterion both <"$folder/trace" >"$folder/report" || [ $? -lt 4 ] || passes=no
+        "$judge" judge --criterion both <"$folder/trace" >"$folder/report" || [ $? -lt 4 ] || passes=FAILED
         judged=$(echo "$judged $(since "$began")" | awk '{ printf "%.2f", $1 + $2 }')
         { read -r line && read -r strict_line; } <"$folder/report" || line='' strict_line=''
         count_verdict opacity "$line"
@@ -55,8 +55,7 @@ row() {
         [ "$least" -ne 0 ] && [ "$least" -lt "${BASH_REMATCH[1]}" ] || least=${BASH_REMATCH[1]}
         [ "$most" -gt "${BASH_REMATCH[1]}" ] || most=${BASH_REMATCH[1]}
     done
-    all_are "$wanted" "${opacity[@]}" && all_are "$wanted_strict" "${strict[@]}" || passes=no
-    counts [ $passes = yes ] || true
-    printf '%-30s %-11s %-11s %7d %7d %9d %7s %7s  %s\n' "$name" "${opacity[*]}" "${strict[*]}" \
+    all_are "$wanted" "${opacity[@]}" && all_are "$wanted_strict" "${strict[@]}" || passes=FAILED
+    row '%-30s %-11s %-11s %7d %7d %9d %7s %7s' "$name" "${opacity[*]}" "${strict[*]}" \
         "$least" "$most" "$events" "$run" "$judged" $passes
 }

@@ -35,25 +35,25 @@ by_thread() {
 }
 
 write_head
-row 'C, correct' opaque opaque "$folder/little" none right
-row 'C, no validation of reads' violated opaque "$folder/little" reads right
-row 'C, no validation at commit' violated violated "$folder/little" commit right
-row 'C, writes in place' violated violated "$folder/little" place right
-row 'C, locks' opaque opaque "$folder/locks"
-row 'C, locks given back early' violated violated "$folder/early"
-row 'C, versions' opaque opaque "$folder/versions"
-row 'C, versions, one look' violated opaque "$folder/one_look"
-row 'Rust, correct' opaque opaque "$folder/little_rs" none
-row 'Rust, no validation of reads' violated opaque "$folder/little_rs" reads
-row 'Rust, no validation at commit' violated violated "$folder/little_rs" commit
-row 'correct, R after the read' violated any "$folder/little" none late-call
-row 'correct, T after the commit' violated any "$folder/little" none late-request
-row 'correct, C before the commit' violated any "$folder/little" none early-commit
-row 'correct, all at the end' violated any "$folder/little" none at-end
-row 'correct, thread by thread' violated any by_thread
-row 'correct, A after the next R' malformed malformed "$folder/little" none late-abort
-row 'correct, no A at a restart' malformed malformed "$folder/little" none no-abort
-row 'correct, 100 rounds a pause' undecided undecided "$folder/seldom" none right
+record 'C, correct' opaque opaque "$folder/little" none right
+record 'C, no validation of reads' violated opaque "$folder/little" reads right
+record 'C, no validation at commit' violated violated "$folder/little" commit right
+record 'C, writes in place' violated violated "$folder/little" place right
+record 'C, locks' opaque opaque "$folder/locks"
+record 'C, locks given back early' violated violated "$folder/early"
+record 'C, versions' opaque opaque "$folder/versions"
+record 'C, versions, one look' violated opaque "$folder/one_look"
+record 'Rust, correct' opaque opaque "$folder/little_rs" none
+record 'Rust, no validation of reads' violated opaque "$folder/little_rs" reads
+record 'Rust, no validation at commit' violated violated "$folder/little_rs" commit
+record 'correct, R after the read' violated any "$folder/little" none late-call
+record 'correct, T after the commit' violated any "$folder/little" none late-request
+record 'correct, C before the commit' violated any "$folder/little" none early-commit
+record 'correct, all at the end' violated any "$folder/little" none at-end
+record 'correct, thread by thread' violated any by_thread
+record 'correct, A after the next R' malformed malformed "$folder/little" none late-abort
+record 'correct, no A at a restart' malformed malformed "$folder/little" none no-abort
+record 'correct, 100 rounds a pause' undecided undecided "$folder/seldom" none right
 
 printf '\n%-5s %s %8s %s\n' in threads ns/event bytes
 "$folder/cost"

@@ -16,8 +16,8 @@ flags=(-O2 -Wall -Wextra -pthread -DTMWATCH_PAUSES "-I$top/include")
 build_bench "${CC:-cc}" -std=c11 "${flags[@]}"
 link=("$folder/lib/libtmwatch_bench.a" "$built/lib/libtmwatch.a")
 
-# A row: the memory, the processors, and further words.
-row() {
+# Runs a memory again and again: its name, the processors, and further words.
+repeat() {
     local traces rescues=0 passes=passed
     : >"$folder/sums"
     for _ in $(seq "$runs"); do
@@ -27,8 +27,8 @@ row() {
         rescues=$((rescues + $(sed -n 's/.*"rescues":\([0-9]*\),.*/\1/p' "$folder/output")))
     done
     traces=$(sort -u "$folder/sums" | wc -l)
-    counts [ "$traces $rescues" = '1 0' ] || passes=FAILED
-    printf '%-14s %-10s %5d %7d %8d  %s\n' "$1" "$beside$2" "$runs" "$traces" "$rescues" $passes
+    [ "$traces $rescues" = '1 0' ] || passes=FAILED
+    row '%-14s %-10s %5d %7d %8d' "$1" "$beside$2" "$runs" "$traces" "$rescues" $passes
 }
 
 "${CXX:-c++}" -std=c++17 "${flags[@]}" -DFAULT=NONE -o "$folder/class" "$top/tests/c/bench_class.cpp" "${link[@]}" "$waits"
@@ -44,7 +44,7 @@ printf '%-14s %-10s %5s %7s %8s\n' memory processors runs traces rescues
 beside=''
 for name in "${names[@]}"; do
     for processors in 0 0,1 0-3; do
-        row "$name" $processors
+        repeat "$name" $processors
     done
 done
 beside='busy '
@@ -55,7 +55,7 @@ for _ in 1 2 3 4; do
 done
 trap 'kill "${loops[@]}"; rm -rf "$folder"' EXIT
 for name in "${names[@]}"; do
-    row "$name" 0-3
+    repeat "$name" 0-3
 done
 kill "${loops[@]}"
 trap 'rm -rf "$folder"' EXIT

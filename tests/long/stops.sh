@@ -20,7 +20,7 @@ for one_in in 0 50 20 10 5; do
     status=0
     timeout "${LIMIT:-300}" env LD_PRELOAD="$folder/chance.so" ONE_IN="$one_in" SEED="${SEED:-1}" \
         "$folder/stops" 10000 >"$folder/output" 2>&1 </dev/null || status=$?
-    counts [ "$status" -eq 0 ] || true
+    check [ "$status" -eq 0 ] || true
     echo "one in $one_in: status $status, $(tr '\n' ' ' <"$folder/output")"
 done
 end_rows

@@ -1,10 +1,10 @@
 #!/usr/bin/env python3
 """Draws the pictures of docs/pictures that are drawings, as SVG, on standard output.
 
-    tests/drawings.py crates     the groups of crates.txt, and which stands on which
-    tests/drawings.py verdict    from a byte of a trace to the report
-    tests/drawings.py cut        a cut and a window of a history
-    tests/drawings.py moments    why early calls and late answers add no violation
+    tests/pictures.py crates     the groups of crates.txt, and which stands on which
+    tests/pictures.py verdict    from a byte of a trace to the report
+    tests/pictures.py cut        a cut and a window of a history
+    tests/pictures.py moments    why early calls and late answers add no violation
 
 tests/pictures.sh compares and writes the files. Exit status: 0 drawn, 2 other words.
 """
@@ -94,7 +94,7 @@ def draw_verdict():
         drawing.text(12, y + 25, name, 13, INK, bold=True)
         for n, (what, crate) in enumerate(steps):
             if crate not in known:
-                sys.exit(f'drawings.py: {crate} is not in crates.txt')
+                sys.exit(f'pictures.py: {crate} is not in crates.txt')
             x = 80 + n * 144
             drawing.box(x, y, 122, 48)
             drawing.text(x + 61, y + 20, what, 12, INK, 'middle')

@@ -1,11 +1,12 @@
 #!/usr/bin/env bash
 # Checks what files of the repository say of each other. Nothing is built.
 #
-#   tests/tree.sh
-#   tests/tree.sh FILE
+#   tests/repository.sh
+#   tests/repository.sh FILE
 #
 # - crates.txt, from top to bottom: a crate stands on crates above it. Crates of the kit have no line there.
 # - Each link of a page leads to a file and a heading that are there (tests/links.py).
+# - CONTRIBUTING.md says in its table what each entry of the top folder is.
 # - The version of the program's specification, which builds and tests read, is that of the program's source, of the package in Rust and
 #   of the newest heading in CHANGELOG.md. No other file has it.
 # FILE is another crates.txt, which alone is checked.
@@ -37,6 +38,17 @@ edges_go_down() {
         }' "$1"
 }
 
+# Prints each entry of the top folder that CONTRIBUTING.md doesn't explain, but for what builds and gates leave.
+unexplained() {
+    local path
+    for path in "$top"/*; do
+        case ${path##*/} in
+        built | target | gate.log) ;;
+        *) grep -q "^| .*\`${path##*/}\`" "$top/CONTRIBUTING.md" || echo "${path##*/}" ;;
+        esac
+    done
+}
+
 # Fails if what sed finds in these files, by this expression, is not the version alone.
 is_of_version() {
     diff <(echo "$version") <(sed -n "s/$1/\1/p" "${@:2}" | sort -u)
@@ -51,6 +63,7 @@ files_with_version() {
 ends 'edges of crates.txt' 0 edges_go_down "${1:-$top/crates.txt}"
 if [ $# -eq 0 ]; then
     ends 'links of pages' 0 python3 "$top/tests/links.py"
+    ends 'entries of the top folder' 0 diff - <(unexplained) </dev/null
     mapfile -t source < <(find "$top"/crates/*/src -name '*.rt')
     ends "version $version, in the program" 0 is_of_version '.*"tmwatch \([0-9][0-9.]*\), by .*' "${source[@]}"
     ends 'version, in the command line' 0 is_of_version '.*\.version("\(.*\)").*' "${source[@]}"
