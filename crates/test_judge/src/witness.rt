@@ -5,7 +5,6 @@ use test_support::{FIRST, SECOND, one, other};
 use tmw_cuts::{States, Window};
 use tmw_defs::Criterion;
 use tmw_events::{Event, Kind, Registers};
-use tmw_wellformed::Note;
 use tmw_witness::Witness;
 
 const TWO: Registers = Registers { number: 2 };
@@ -68,14 +67,12 @@ fn known_after(alloc: Global, events: &[Event]) -> Result<(usize, bool), AllocEr
     let mut witness = Witness::new([0; 8]);
     let mut count = 0usize;
     for event in events {
-        let place = window.open_place(event.thread);
-        let note = Note {
-            begins: place.is_none(),
-            ends: None,
+        let Ok(step) = window.next(*event) else {
+            return Ok((count, false));
         };
         if window.count() < 8 {
-            window.push(*event, note);
-            witness.follow(&window, place, *event);
+            window.take(*event, step);
+            witness.follow(&window, *event, step);
         }
         count = count.saturating_add(usize::from(witness.is_known()));
     }

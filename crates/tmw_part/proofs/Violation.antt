@@ -1,6 +1,5 @@
 -- What a search for an end state tells of events that were taken into its window.
 use Rattle.tmw_part.proofs.Shared.{AreTaken, Bool, Criterion, Err, Event, Fails, IfOk, IsFalse, IsPart, IsTrue, IsViolated, IsViolatedPart, List, Ok, Result, State, TellsViolated, all_kept, and_parts, are_whole, arith, calls_from, end_state, false, inl, inr, keeps_last, keeps_part, kept_of, length, may_miss_all, members, not, owners, refl, transactions, true, ℕ, ◌≡◌, ◌≤◌}
-use Rattle.tmw_wellformed.specs.declared.tracker.Tracker.{Tracker}
 use Rattle.tmw_cuts.specs.declared.states.States.{States}
 use Rattle.tmw_cuts.specs.declared.window.Window.{Window}
 use Rattle.tmw_search.specs.Ended.{TellsEnd}
@@ -8,17 +7,17 @@ use Rattle.tmw_part.proofs.Fewer.{kept-all, length-all}
 use Rattle.tmw_part.proofs.Parts.{part-fewer, part-whole}
 use Rattle.tmw_part.proofs.TestProof.{part-test}
 
-pub tells-searched : (criterion : Criterion) (registers : ℕ) (states : States) (events : List Event) (tracker : Tracker) (window : Window) (found : Bool)
-    → AreTaken registers events tracker window → TellsEnd criterion states window found
+pub tells-searched : (criterion : Criterion) (registers : ℕ) (states : States) (events : List Event) (window : Window) (found : Bool)
+    → AreTaken registers events window → TellsEnd criterion states window found
     → TellsViolated criterion registers (members states) events (not found)
-tells-searched criterion registers states events tracker window true taken tells =
+tells-searched criterion registers states events window true taken tells =
     let (end, ends) = (tells events taken.stands).0 refl in
     let (s, has, leads) = ends in
     let (order, explains, is) = leads in
     inr (inr (s, has, (order, explains)))
-tells-searched criterion registers states events tracker window false taken tells = record {
+tells-searched criterion registers states events window false taken tells = record {
   few = taken.few;
-  formed = taken.tracks.formed;
+  formed = rw taken.number at taken.stands.formed;
   none = λ found.
       let (s, has, ordered) = found in
       let (order, explains) = ordered in

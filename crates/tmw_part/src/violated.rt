@@ -1,6 +1,5 @@
 ghost use Rattle.std.specs.Prelude.{ℕ, List, [], ◌∷◌, ◌++◌, IfOk, IfSome, IfNone, IsTrue, IsFalse};
 ghost use Rattle.tmw_events.specs.declared.event.Event.{Event};
-ghost use Rattle.tmw_wellformed.specs.declared.tracker.Tracker.{Tracker};
 ghost use Rattle.tmw_cuts.specs.Members.{members};
 ghost use Rattle.tmw_part.specs.Finding.{TellsViolated};
 ghost use Rattle.tmw_part.specs.Taking.{AreTaken, AreUnfit};
@@ -11,37 +10,34 @@ use tmw_cuts::{States, Window};
 use tmw_defs::Criterion;
 use tmw_events::{Event, Registers};
 use tmw_search::possible;
-use tmw_wellformed::Tracker;
 
-/// Takes the next event, if the history stays well-formed with it and the window has room for its transaction.
-fn take_event(tracker: &mut Tracker, window: &mut Window, event: Event) -> bool
-    ensures takes { IsTrue result → (registers : ℕ) (history : List Event)
-        → AreTaken registers history tracker.old window.old
-        → AreTaken registers (history ++ event ∷ []) tracker.new window.new }
-    ensures refuses { IsFalse result → (registers : ℕ) (history : List Event)
-        → AreTaken registers history tracker.old window.old
-        → AreUnfit registers (history ++ event ∷ []) }
+/// Takes the next event, if the events stay well-formed with it and the window has room for its transaction.
+fn take_event(window: &mut Window, event: Event) -> bool
+    ensures takes { IsTrue result → (registers : ℕ) (events : List Event)
+        → AreTaken registers events window.old
+        → AreTaken registers (events ++ event ∷ []) window.new }
+    ensures refuses { IsFalse result → (registers : ℕ) (events : List Event)
+        → AreTaken registers events window.old
+        → AreUnfit registers (events ++ event ∷ []) }
 {
-    let Ok(note) = tracker.step(event) else {
+    let Ok(step) = window.next(event) else {
         return false;
     };
-    if note.begins && window.count() as usize >= MOST_TRANSACTIONS {
+    if step.begins() && window.count() as usize >= MOST_TRANSACTIONS {
         return false;
     }
-    window.push(event, note);
+    window.take(event, step);
     true
 }
 
 /// Takes events in order: their window, if they are well-formed and their transactions are few enough.
 fn window_of(registers: Registers, events: &[Event]) -> Option<Window>
-    ensures some { IfSome result (λ window. (tracker : Tracker)
-        × AreTaken registers.number events.now tracker window) }
+    ensures some { IfSome result (AreTaken registers.number events.now) }
     ensures none { IfNone result (AreUnfit registers.number events.now) }
 {
-    let mut tracker = Tracker::new(registers);
     let mut window = Window::open(registers);
     for event in events {
-        if !take_event(&mut tracker, &mut window, *event) {
+        if !take_event(&mut window, *event) {
             return None;
         }
     }

@@ -1,22 +1,43 @@
-use Rattle.tmw_part.proofs.Shared.{arith, false, inl, inr, length, length-transactions_push, sym, transactions, true, ◌∙◌, ◌≡◌}
-use Rattle.tmw_part.proofs.violated.take_event.Goals.{else-note-via-then-note+else-count-ge-MOST_TRANSACTIONS, else-note-via-else-note}
+-- With the event there is one transaction more where it begins one, for which the window has room; or the events are ill-formed with it,
+-- or have too many.
+use Rattle.tmw_part.proofs.Shared.{AreUnfit, Event, IsTrue, List, [], ap, arith, inl, inr, length, sym, transactions, true, ◌++◌, ◌+◌, ◌∙◌, ◌∷◌, ◌≡◌, ◌≤◌}
+use Rattle.tmw_events.specs.declared.registers.Registers.{Registers}
+use Rattle.tmw_wellformed.specs.Faults.{Refuses}
+use Rattle.tmw_cuts.specs.Standing.{IsNext, begun_by}
+use Rattle.tmw_cuts.specs.declared.turn.Move.TheVariants.{Begin}
+use Rattle.tmw_cuts.proofs.Following.{follows-events}
+use Rattle.tmw_cuts.proofs.Standings.{formed-next, grows}
+use Rattle.tmw_part.proofs.violated.take_event.Goals.{else-begins-via-then-begins+else-count-ge-MOST_TRANSACTIONS, else-begins-via-else-begins}
 use Rattle.tmw_part.proofs.violated.take_event.Goals as goal
 
 pub returns-clause-takes : goal.returns-clause-takes
-returns-clause-takes c is registers history taken =
-    let notes = c.in-Ok.ensures.notes registers history taken.tracks in
+returns-clause-takes c is registers events taken =
+    let next = c.in-Ok.ensures.ok in
+    let takes = c.take.ensures.takes events taken.stands next in
     let few = taken.few in
+    let more = grows events c.args.event c.args.window.now c.in-Ok.step taken.stands next in
     record {
-      tracks = c.in-Ok.ensures.takes registers history taken.tracks;
-      stands = c.push.ensures.stands history taken.stands notes;
-      few = elim (length-transactions_push history c.args.event) [
-        | inl same ↦ omega (arith, same, few)
-        | inr more ↦ elim c.else-note.branch [
-          | else-note-via-then-note+else-count-ge-MOST_TRANSACTIONS w ↦
-              let count : w.count.result ≡ length (transactions history) = w.count.ensures.stands history taken.stands in
-              let room = w.if-count-ge-MOST_TRANSACTIONS.false in
-              omega (arith, more, count, room)
-          | else-note-via-else-note w ↦ let bad : true ≡ false = sym (notes.begins.1 more) ∙ w.if-note.false in absurd (cc)
-        ]
+      number = ap (λ (r : Registers). r.number) c.take.ensures.registers ∙ taken.number;
+      stands = takes.stands;
+      few = elim c.else-begins.branch [
+        | else-begins-via-then-begins+else-count-ge-MOST_TRANSACTIONS w ↦
+            let count : w.count.result ≡ length (transactions events) = w.count.ensures.stands events taken.stands in
+            let room = w.if-count-ge-MOST_TRANSACTIONS.false in
+            let one = ap begun_by (c.begins.ensures.begins w.if-begins.true) in
+            omega (arith, more, count, room, one)
+        | else-begins-via-else-begins w ↦
+            let none = c.begins.ensures.others w.if-begins.false in
+            omega (arith, more, few, none)
       ];
     }
+
+pub returns-then-count-ge-MOST_TRANSACTIONS-clause-refuses : goal.returns-then-count-ge-MOST_TRANSACTIONS-clause-refuses
+returns-then-count-ge-MOST_TRANSACTIONS-clause-refuses c is registers events taken =
+    let next : IsNext c.args.window.now c.args.event Begin = rw (c.begins.ensures.begins c.if-begins.true) at c.in-Ok.ensures.ok in
+    let more = grows events c.args.event c.args.window.now Begin taken.stands next in
+    let count : c.count.result ≡ length (transactions events) = c.count.ensures.stands events taken.stands in
+    let full = c.if-count-ge-MOST_TRANSACTIONS.true in
+    inr (omega (arith, more, count, full))
+
+pub returns-in_default-clause-refuses : goal.returns-in_default-clause-refuses
+returns-in_default-clause-refuses c is registers events taken = ?
