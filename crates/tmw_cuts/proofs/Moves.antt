@@ -17,17 +17,11 @@ use Rattle.tmw_cuts.specs.Turns.{after_call, call_in, move_of, numbered}
 abbrev pub ends_at : Kind → Bool
 ends_at k = is_over (status_after (Some k))
 
+-- a call does not end its transaction
 pub asked_on : (k : Kind) → asks k ≡ true → ends_at k ≡ false
 asked_on C h = cc
 asked_on A h = cc
 asked_on _ h = refl
-
--- an answer that makes an operation does not end its transaction; each other does
-answer_ends : (c k : Kind) → answers c k ≡ true → (op : Op) → operation c k ≡ op ∷ [] → ends_at k ≡ false
-answer_ends (R r) (V v) h op is = refl
-answer_ends (W r v) K h op is = refl
-answer_ends (N r d) (V v) h op is = refl
-answer_ends _ _ h op is = cc
 
 -- What a move says of the event.
 abbrev pub Means : Option (Ix × Option Kind) → Kind → Move → Type 0

@@ -100,53 +100,6 @@ descriptors_of-push events e =
     rw same at (lies-transactions 0 0 [] events (omega arith) tt) in
     rw (transactions-push events e) (views-add (length events) e (transactions events) (transactions events) lies lies)
 
-length-push_views_none : (e : Event) (before : ℕ) (vs : List Descriptor) → IsFalse (list_any (is_open_for e.thread.number) vs)
-    → length (push_descriptors e before vs) ≡ length vs + 1
-length-push_views_none e before [] none = refl
-length-push_views_none e before (v ∷ vs) none =
-    let (past, rest) = or_parts (is_open_for e.thread.number v) _ none in
-    rw past (let r : length (push_descriptors e before vs) ≡ length vs + 1 = length-push_views_none e before vs rest in omega arith)
-
-length-push_views_some : (e : Event) (before : ℕ) (vs : List Descriptor) → IsTrue (list_any (is_open_for e.thread.number) vs)
-    → length (push_descriptors e before vs) ≡ length vs
-length-push_views_some e before [] some = absurd (cc)
-length-push_views_some e before (v ∷ vs) some =
-    elim (cases_Bool (is_open_for e.thread.number v)) [
-      | inl here ↦ rw here refl
-      | inr past ↦ let rest : IsTrue (list_any (is_open_for e.thread.number) vs) = rw past at some in
-          rw past (ap (λ n. suc n) (length-push_views_some e before vs rest))
-    ]
-
-pub length-descriptors_of : (events : List Event) → length (descriptors_of events) ≡ length (transactions events)
-length-descriptors_of events = length-map (transactions events) (descriptor_of (transactions events))
-
--- the note tells whether no transaction is open for the event
-pub begins_none_open : (events : List Event) (e : Event) (note : Note) (vs : List Descriptor) → vs ≡ descriptors_of events → Notes events e note
-    → list_any (is_open_for e.thread.number) vs ≡ not note.begins
-begins_none_open events e note vs shows notes =
-    let n : length (descriptors_of (events ++ e ∷ [])) ≡ length (transactions (events ++ e ∷ [])) = length-descriptors_of (events ++ e ∷ []) in
-    let m : length vs ≡ length (transactions events) = ap length shows ∙ length-descriptors_of events in
-    let pushed : length (descriptors_of (events ++ e ∷ [])) ≡ length (push_descriptors e (completed_in vs) vs) =
-    ap length (descriptors_of-push events e) ∙ ap (λ ws. length (push_descriptors e (completed_in ws) ws)) (sym shows) in
-    elim (cases_Bool (list_any (is_open_for e.thread.number) vs)) [
-      | inl some ↦
-          let kept : length (push_descriptors e (completed_in vs) vs) ≡ length vs = length-push_views_some e (completed_in vs) vs some in
-          let none_begins : note.begins ≡ false = false_from_ne_true note.begins (λ begins.
-          let grown : length (transactions (events ++ e ∷ [])) ≡ length (transactions events) + 1 = notes.begins.0 begins in
-          omega arith) in
-          some ∙ sym (not_from_false _ none_begins)
-      | inr none ↦
-          let grown : length (push_descriptors e (completed_in vs) vs) ≡ length vs + 1 = length-push_views_none e (completed_in vs) vs none in
-          let longer_by_one : length (transactions (events ++ e ∷ [])) ≡ length (transactions events) + 1 = omega arith in
-          none ∙ sym (not_from_true _ (notes.begins.1 longer_by_one))
-    ]
-
--- what was shown of the events is what is to be shown of them and one more, with that one
-pub shows-push : (events : List Event) (e : Event) (old new : List Descriptor) → new ≡ push_descriptors e (completed_in old) old → old ≡ descriptors_of events
-    → new ≡ descriptors_of (events ++ e ∷ [])
-shows-push events e old new pushed shows =
-    pushed ∙ ap (λ vs. push_descriptors e (completed_in vs) vs) shows ∙ sym (descriptors_of-push events e)
-
 -- no transaction of the events is live where each that is shown has completed
 pub is_cut-views : (events : List Event) → list_all (λ v. is_over v.status) (descriptors_of events) ≡ is_cut events
 is_cut-views events = list_all-map (λ v. is_over v.status) (descriptor_of (transactions events)) (transactions events)

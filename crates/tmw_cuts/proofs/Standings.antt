@@ -18,7 +18,7 @@ use Rattle.tmw_cuts.specs.declared.turn.Move.TheVariants.{Begin, Ask, Answer, En
 use Rattle.tmw_cuts.specs.declared.turn.Turn.{Turn}
 use Rattle.tmw_cuts.specs.declared.turn.Turn.TheVariants.{Between}
 use Rattle.tmw_cuts.specs.declared.window.Window.{Window}
-use Rattle.tmw_cuts.specs.Standing.{is_end, IsNext, StandsFor, Takes, begun_by, turn_at, txns_of, views}
+use Rattle.tmw_cuts.specs.Standing.{is_end, IsNext, StandsFor, begun_by, turn_at, txns_of, views}
 use Rattle.tmw_cuts.specs.Turns.{Found, call_in, change, find_open, found_after, found_in, further, kept_in, numbered, ops_of, place_of, views_after}
 use Rattle.tmw_cuts.proofs.Changes.{length-change}
 use Rattle.tmw_cuts.proofs.Moves.{Is, Means, accepts, asked_on, ends_at}
@@ -312,20 +312,14 @@ pub begun : (events : List Event) (e : Event) (old new : Window) (next : Turn) �
     → new.registers ≡ old.registers → new.turns ≡ slice_set old.turns e.thread.number next
     → (asks e.kind ≡ true → found_in next ≡ Some (length (txns_of old), Some e.kind))
     → views new ≡ views old ++ new_view e.kind old.completed ∷ []
-    → new.completed ≡ old.completed → Takes new events e Begin
+    → new.completed ≡ old.completed → StandsFor new (events ++ e ∷ [])
 begun events e old new next stands is long low same turns asked shows masks =
     let (none, asks_it) = (moves e old Begin is).is in
     let on : ends_at e.kind ≡ false = asked_on e.kind asks_it in
     let at : found_in (turn_at old e.thread.number) ≡ None = ap (option_map numbered) none in
     let goes : goes_on old.registers.number None e.kind ≡ true
     = ap (λ f. goes_on old.registers.number (call_in f) e.kind) (sym at) ∙ (moves e old Begin is).goes in
-    let after : StandsFor new (events ++ e ∷ [])
-    = stands-with events e old new next None stands at goes long low same turns (rw on (asked asks_it)) shows (rw on masks) in
-    record {
-      stands = after;
-      begun = grows events e old Begin stands is;
-      uncut = uncut-next events e old Begin stands is;
-    }
+    stands-with events e old new next None stands at goes long low same turns (rw on (asked asks_it)) shows (rw on masks)
 
 -- it stays in its transaction
 pub stays : (events : List Event) (e : Event) (old new : Window) (next : Turn) (move : Move) (p : Ix) (call later : Option Kind) → StandsFor old events
@@ -333,36 +327,26 @@ pub stays : (events : List Event) (e : Event) (old new : Window) (next : Turn) (
     → length old.turns ≡ 8 → new.registers ≡ old.registers → new.turns ≡ slice_set old.turns e.thread.number next
     → found_in next ≡ Some (p.number, later) → later ≡ next_call call e.kind
     → views new ≡ change p.number (next_view e.kind (answered_ops call e.kind)) (views old)
-    → new.completed ≡ old.completed → Takes new events e move
+    → new.completed ≡ old.completed → StandsFor new (events ++ e ∷ [])
 stays events e old new next move p call later stands is kept on long same turns found later_is shows masks =
     let at : found_in (turn_at old e.thread.number) ≡ Some (p.number, call) = ap (option_map numbered) kept in
     let goes : goes_on old.registers.number call e.kind ≡ true
     = ap (λ f. goes_on old.registers.number (call_in f) e.kind) (sym at) ∙ (moves e old move is).goes in
-    let after : StandsFor new (events ++ e ∷ [])
-    = stands-with events e old new next (Some (p.number, call)) stands at goes long p.below same turns
-    (rw on (found ∙ ap (λ c. Some (p.number, c)) later_is)) shows (rw on masks) in
-    record {
-      stands = after;
-      begun = grows events e old move stands is;
-      uncut = uncut-next events e old move stands is;
-    }
+    stands-with events e old new next (Some (p.number, call)) stands at goes long p.below same turns
+    (rw on (found ∙ ap (λ c. Some (p.number, c)) later_is)) shows (rw on masks)
 
 -- it ends its transaction
 pub ends_its : (events : List Event) (e : Event) (old new : Window) (p : Ix) → StandsFor old events → IsNext old e (End p)
     → length old.turns ≡ 8 → new.registers ≡ old.registers → new.turns ≡ slice_set old.turns e.thread.number Between
     → views new ≡ change p.number (next_view e.kind []) (views old)
-    → new.completed ≡ bit_or old.completed (1 * 2 ^ p.number % 2 ^ 8) → Takes new events e (End p)
+    → new.completed ≡ bit_or old.completed (1 * 2 ^ p.number % 2 ^ 8) → StandsFor new (events ++ e ∷ [])
 ends_its events e old new p stands is long same turns shows masks =
     let (c, (kept, (makes, over))) = (moves e old (End p) is).is in
     let at : found_in (turn_at old e.thread.number) ≡ Some (p.number, Some c) = ap (option_map numbered) kept in
     let goes : goes_on old.registers.number (Some c) e.kind ≡ true
     = ap (λ f. goes_on old.registers.number (call_in f) e.kind) (sym at) ∙ (moves e old (End p) is).goes in
-    record {
-      stands = stands-with events e old new Between (Some (p.number, Some c)) stands at goes long p.below same turns (rw over refl)
-          (shows ∙ ap (λ ops. change p.number (next_view e.kind ops) (views old)) (sym makes)) (rw over masks);
-      begun = grows events e old (End p) stands is;
-      uncut = λ bad. cc;
-    }
+    stands-with events e old new Between (Some (p.number, Some c)) stands at goes long p.below same turns (rw over refl)
+    (shows ∙ ap (λ ops. change p.number (next_view e.kind ops) (views old)) (sym makes)) (rw over masks)
 
 -- the events are at a cut with one that ends a transaction where the mask is full with its place
 pub cut_with : (events : List Event) (e : Event) (w : Window) (p : Ix) → StandsFor w events → IsNext w e (End p) → length (txns_of w) ≡ w.count
@@ -383,88 +367,3 @@ cut_with events e w p stands is len few =
     ap (λ (m : ℕ). bit_or w.completed (1 * 2 ^ p.number % 2 ^ 8) + 1 == m) (shift_small w.count few)
     ∙ ap (λ m. m + 1 == 2 ^ w.count) mask ∙ ap (λ n. completed_in all + 1 == 2 ^ n) size
     ∙ full_mask all ∙ is_cut-views (events ++ e ∷ [])
-
--- the thread awaits the answer of a commit request where the transaction at its place does
-abbrev awaits : (t : ℕ) (d : Descriptor) → Bool
-awaits t d = (d.thread == t) && is_pending d.status
-
-not_awaiting : (t : ℕ) (d : Descriptor) → is_open_for t d ≡ false → awaits t d ≡ false
-not_awaiting t d past = by_status d.status past
-  where
-    by_status : (s : Status) → ((d.thread == t) && not (is_over s)) ≡ false → ((d.thread == t) && is_pending s) ≡ false
-    by_status Pending closed = closed
-    by_status Live closed = and_right (d.thread == t) _ refl
-    by_status Committed closed = and_right (d.thread == t) _ refl
-    by_status Aborted closed = and_right (d.thread == t) _ refl
-
-none_awaiting : (t : ℕ) (ds : List Descriptor) → list_any (is_open_for t) ds ≡ false → list_any (awaits t) ds ≡ false
-none_awaiting t [] none = refl
-none_awaiting t (d ∷ ds) none =
-    let (past, rest) = or_parts (is_open_for t d) _ none in
-    rw (not_awaiting t d past) (none_awaiting t ds rest)
-
-found_awaiting : (t : ℕ) (ds : List Descriptor) (f : ℕ × Option Kind) (v : View) → Alone t ds → find_open t ds ≡ Some f
-    → slice_get (map view_in ds) f.0 ≡ Some v → list_any (awaits t) ds ≡ is_pending v.status
-found_awaiting t [] f v alone is at = cc
-found_awaiting t (d ∷ ds) f v alone is at =
-    elim (cases_Bool (is_open_for t d)) [
-      | inl here ↦
-          let same : Some (0, d.call) ≡ Some f = sym (find_here t d ds here) ∙ is in
-          let zero_is : (0, d.call) ≡ f = cc in
-          let first : Some (view_in d) ≡ Some v = rw (← zero_is) at at in
-          let view_is : view_in d ≡ v = cc in
-          let thread : (d.thread == t) ≡ true = (and_parts (d.thread == t) _ here).0 in
-          ap (λ b. awaits t d || b) (none_awaiting t ds (alone.0 here)) ∙ or_false (awaits t d)
-          ∙ ap (λ b. b && is_pending d.status) thread ∙ ap (λ (x : View). is_pending x.status) view_is
-      | inr past ↦
-          rw (not_awaiting t d past) (behind (find_open t ds) (sym (find_past t d ds past) ∙ is)
-          (λ h found there. found_awaiting t ds h v alone.1 found there) refl)
-    ]
-  where
-    or_false : (b : Bool) → (b || false) ≡ b
-    or_false true = refl
-    or_false false = refl
-
-    behind : (g : Found) → option_map further g ≡ Some f
-        → ((h : ℕ × Option Kind) → find_open t ds ≡ Some h → slice_get (map view_in ds) h.0 ≡ Some v → list_any (awaits t) ds ≡ is_pending v.status)
-        → g ≡ find_open t ds → list_any (awaits t) ds ≡ is_pending v.status
-    behind None shifted there same = cc
-    behind (Some h) shifted there same =
-        let f_is : further h ≡ f = cc in
-        there h (sym same) (rw (← f_is) at at)
-
-any_told : (t : ℕ) (all ts : List Txn) → list_any (awaits t) (map (descriptor_of all) ts) ≡ awaits_commit ts t
-any_told t all [] = refl
-any_told t all (u ∷ ts) = ap (λ b. ((u.thread == t) && is_pending (status_of u.text)) || b) (any_told t all ts)
-
-pub awaiting : (events : List Event) (t : ℕ) (w : Window) (p : Ix) (call : Option Kind) (v : View) → StandsFor w events → t < 8
-    → kept_in (turn_at w t) ≡ Some (p, call) → (p.number < length (views w) → slice_get (views w) p.number ≡ Some v)
-    → is_pending v.status ≡ awaits_commit (transactions events) t
-awaiting events t w p call v stands below kept at =
-    let ds = descriptors_of events in
-    let found : find_open t ds ≡ Some (p.number, call) = sym (stands.turns t below) ∙ ap (option_map numbered) kept in
-    let low : p.number < length ds = found_within t ds (p.number, call) found in
-    let shown : slice_get (views w) p.number ≡ Some v
-    = at (omega (arith, low, length-told events, ap length stands.shows, length-views_of events)) in
-    let told : slice_get (map view_in ds) p.number ≡ Some v = ap (λ vs. slice_get vs p.number) (views-told events ∙ sym stands.shows) ∙ shown in
-    sym (found_awaiting t ds (p.number, call) v (alone-descriptors_of t events) found told)
-    ∙ any_told t (transactions events) (transactions events)
-
-pub none_awaits : (events : List Event) (t : ℕ) (w : Window) → StandsFor w events → t < 8 → kept_in (turn_at w t) ≡ None
-    → awaits_commit (transactions events) t ≡ false
-none_awaits events t w stands below kept =
-    let ds = descriptors_of events in
-    sym (any_told t (transactions events) (transactions events))
-    ∙ none_awaiting t ds (none_found t ds (sym (stands.turns t below) ∙ ap (option_map numbered) kept))
-  where
-    none_further : (h : Found) → option_map further h ≡ None → h ≡ None
-    none_further None is = refl
-    none_further (Some f) is = cc
-
-    none_found : (thread : ℕ) (es : List Descriptor) → find_open thread es ≡ None → list_any (is_open_for thread) es ≡ false
-    none_found thread [] is = refl
-    none_found thread (d ∷ es) is =
-        elim (cases_Bool (is_open_for thread d)) [
-          | inl here ↦ let bad : Some (0, d.call) ≡ None = sym (find_here thread d es here) ∙ is in cc
-          | inr past ↦ rw past (none_found thread es (none_further (find_open thread es) (sym (find_past thread d es past) ∙ is)))
-        ]

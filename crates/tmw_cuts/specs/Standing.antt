@@ -2,7 +2,6 @@
 use Rattle.std.specs.Prelude.{◌≡◌, ◌+◌, ◌*◌, ◌<◌, ◌++◌, ℕ, List, [], ◌∷◌, length, map, take, slice_index_or, Ok, false, true, IsTrue, Bool, Option, option_map}
 use Rattle.tmw_events.specs.declared.event.Event.{Event}
 use Rattle.tmw_events.specs.declared.event.Kind.{Kind}
-use Rattle.tmw_defs.specs.Cuts.{is_cut}
 use Rattle.tmw_defs.specs.History.{Txn, operations, status_of, transactions, is_well_formed}
 use Rattle.tmw_defs.specs.Opaque.{precedes}
 use Rattle.tmw_wellformed.specs.Faults.{lacks_register}
@@ -84,12 +83,6 @@ begun_by _ = 0
 abbrev pub is_end : Move → Bool
 is_end (End p) = true
 is_end _ = false
-
--- The window stands for the events with this one too; there is one transaction more if it begins one, and no cut unless it ends one.
-pub record Takes (window : Window) (events : List Event) (event : Event) (move : Move) : Type 0 where
-  pub stands : StandsFor window (events ++ event ∷ [])
-  pub begun : length (transactions (events ++ event ∷ [])) ≡ length (transactions events) + begun_by move
-  pub uncut : is_end move ≡ false → is_cut (events ++ event ∷ []) ≡ false
 
 -- The calls of a thread's open transaction that have no answer: none, or one, or that it has no open transaction.
 abbrev pub calls_in : Found → Option (Option Kind)

@@ -1,7 +1,7 @@
 -- What a turn tells of a thread: the place of its open transaction and its pending call.
 use Rattle.std.specs.Prelude.{ℕ, zero, suc, List, [], ◌∷◌, ◌++◌, Option, Some, None, option_map, Result, Ok, Err, if◌then◌else◌}
 use Rattle.tmw_events.specs.declared.event.Kind.{Kind}
-use Rattle.tmw_events.specs.declared.event.Kind.TheVariants.{R, W, T, X, N}
+use Rattle.tmw_events.specs.declared.event.Kind.TheVariants.{A, R, W, T, X, N}
 use Rattle.tmw_events.specs.declared.ix.Ix.{Ix}
 use Rattle.tmw_defs.specs.declared.op.Op.{Op}
 use Rattle.tmw_defs.specs.History.{answers, is_over, status_after, operation}
@@ -59,6 +59,11 @@ after_call None k = if asks k then Ok Begin else Err Idle
 after_call (Some (p, None)) k = if asks k then Ok (Ask p) else Err Idle
 after_call (Some (p, Some c)) k =
     if asks k then Err Busy else if answers c k then Ok (move_of p (operation c k)) else Err Mismatch
+
+-- What an event is where a call is pending that it does not answer but for aborting.
+abbrev pub end_at : Ix → Kind → Result Move Malformed
+end_at p A = Ok (End p)
+end_at p k = if asks k then Err Busy else Err Mismatch
 
 -- What is found of its thread after the event, where there were so many transactions.
 abbrev pub found_after : Found → ℕ → Kind → Found

@@ -1,9 +1,9 @@
 //! Where a thread is between its events, and what its next event is.
-ghost use Rattle.std.specs.Prelude.{◌≡◌, Some, IsTrue, IsFalse, option_map};
+ghost use Rattle.std.specs.Prelude.{◌≡◌, Some, IsTrue, IsFalse};
 ghost use Rattle.tmw_wellformed.specs.Faults.{asks};
 ghost use Rattle.tmw_cuts.specs.declared.turn.Move.TheVariants.{Begin};
 ghost use Rattle.tmw_cuts.specs.Standing.{begun_by};
-ghost use Rattle.tmw_cuts.specs.Turns.{after_call, found_in, kept_in};
+ghost use Rattle.tmw_cuts.specs.Turns.{after_call, end_at, found_in, kept_in};
 
 use tmw_defs::Op;
 use tmw_events::{Ix, Kind};
@@ -53,60 +53,59 @@ impl Move {
 }
 
 impl Turn {
-    /// Returns the place of the thread's open transaction, if it has one.
-    #[inline(always)]
-    pub fn place(self) -> Option<Ix>
-        ensures { result ≡ option_map (λ kept. kept.0) (kept_in self) }
-    {
-        match self {
-            Turn::Between => None,
-            Turn::Within(place)
-            | Turn::Reading(place, _)
-            | Turn::Adding(place, _, _)
-            | Turn::Writing(place, _, _)
-            | Turn::Committing(place)
-            | Turn::Aborting(place) => Some(place),
-        }
-    }
-
     /// Returns what an event of this kind is to the thread, or its fault. Whether a call's register is one of the run's is
     /// tested elsewhere.
     #[inline(always)]
     pub fn next(self, kind: Kind) -> Result<Move, Malformed>
         ensures { result ≡ after_call (kept_in self) kind }
     {
-        match (self, kind) {
-            (Turn::Between, Kind::R(_) | Kind::N(_, _) | Kind::W(_, _) | Kind::T | Kind::X) => Ok(
-                Move::Begin,
-            ),
-            (Turn::Within(place), Kind::R(_) | Kind::N(_, _) | Kind::W(_, _) | Kind::T | Kind::X) =>
-                Ok(Move::Ask(place)),
-            (Turn::Between | Turn::Within(_), _) => Err(Malformed::Idle),
-            (_, Kind::R(_) | Kind::N(_, _) | Kind::W(_, _) | Kind::T | Kind::X) => Err(
-                Malformed::Busy,
-            ),
-            (Turn::Reading(place, register), Kind::V(value)) => Ok(Move::Answer(
-                place,
-                Op::Read(register, value),
-            )),
-            (Turn::Adding(place, register, added), Kind::V(value)) => {
-                Ok(Move::Answer(place, Op::Add(register, added, value)))
-            }
-            (Turn::Writing(place, register, value), Kind::K) => Ok(Move::Answer(
-                place,
-                Op::Write(register, value),
-            )),
-            (Turn::Committing(place), Kind::C) => Ok(Move::End(place)),
-            (
-                Turn::Reading(place, _)
-                | Turn::Adding(place, _, _)
-                | Turn::Writing(place, _, _)
-                | Turn::Committing(place)
-                | Turn::Aborting(place),
-                Kind::A,
-            ) => Ok(Move::End(place)),
-            _ => Err(Malformed::Mismatch),
+        match self {
+            Turn::Between if asks(kind) => Ok(Move::Begin),
+            Turn::Within(place) if asks(kind) => Ok(Move::Ask(place)),
+            Turn::Between | Turn::Within(_) => Err(Malformed::Idle),
+            Turn::Reading(place, register) => match kind {
+                Kind::V(value) => Ok(Move::Answer(place, Op::Read(register, value))),
+                _ => end_at(place, kind),
+            },
+            Turn::Adding(place, register, added) => match kind {
+                Kind::V(value) => Ok(Move::Answer(place, Op::Add(register, added, value))),
+                _ => end_at(place, kind),
+            },
+            Turn::Writing(place, register, value) => match kind {
+                Kind::K => Ok(Move::Answer(place, Op::Write(register, value))),
+                _ => end_at(place, kind),
+            },
+            Turn::Committing(place) => match kind {
+                Kind::C => Ok(Move::End(place)),
+                _ => end_at(place, kind),
+            },
+            Turn::Aborting(place) => end_at(place, kind),
         }
+    }
+}
+
+/// Whether an event of this kind is a call.
+#[inline(always)]
+fn asks(kind: Kind) -> bool
+    ensures { result ≡ asks kind }
+{
+    matches!(
+        kind,
+        Kind::R(_) | Kind::N(_, _) | Kind::W(_, _) | Kind::T | Kind::X
+    )
+}
+
+/// What an event of this kind is where a call is pending that it does not answer, unless it aborts the transaction at the place.
+#[inline(always)]
+fn end_at(place: Ix, kind: Kind) -> Result<Move, Malformed>
+    ensures { result ≡ end_at place kind }
+{
+    if asks(kind) {
+        Err(Malformed::Busy)
+    } else if matches!(kind, Kind::A) {
+        Ok(Move::End(place))
+    } else {
+        Err(Malformed::Mismatch)
     }
 }
 

@@ -6,7 +6,7 @@ ghost use Rattle.tmw_cuts.specs.Views.{next_view, view};
 
 use crate::turn::{Move, Turn, asking};
 use crate::txn::Txn;
-use tmw_defs::{Criterion, Op, Status};
+use tmw_defs::Op;
 use tmw_events::{Event, Ix, Kind, Registers};
 use tmw_wellformed::{Malformed, Note};
 
@@ -88,14 +88,12 @@ fn lacks_register(registers: Registers, kind: Kind) -> bool
 
 impl Window {
     ghost use Rattle.tmw_events.specs.declared.event.Event.{Event};
-    ghost use Rattle.tmw_defs.specs.Criteria.{is_quiet_by};
     ghost use Rattle.tmw_defs.specs.Cuts.{is_cut};
-    ghost use Rattle.tmw_defs.specs.Quiet.{awaits_commit};
     ghost use Rattle.tmw_defs.specs.History.{is_well_formed, transactions};
     ghost use Rattle.tmw_wellformed.specs.Faults.{Refuses};
     ghost use Rattle.tmw_wellformed.specs.Notes.{Notes};
-    ghost use Rattle.tmw_cuts.specs.declared.turn.Move.TheVariants.{End};
-    ghost use Rattle.tmw_cuts.specs.Standing.{Follows, IsNext, StandsFor, Takes, begun_by, count_of, turn_at, views, views_of};
+    ghost use Rattle.tmw_cuts.specs.declared.turn.Move.TheVariants.{Answer, Ask, Begin, End};
+    ghost use Rattle.tmw_cuts.specs.Standing.{Follows, IsNext, StandsFor, begun_by, count_of, turn_at, views, views_of};
 
     /// Makes the window of no event.
     pub fn open(registers: Registers) -> Window
@@ -180,35 +178,67 @@ impl Window {
         self.turn_of(event.thread).next(event.kind)
     }
 
+    /// Takes the next event, which begins a transaction.
+    #[inline(always)]
+    pub fn begin(&mut self, event: Event)
+        requires room { count_of self.old < 8 }
+        ensures stands { (events : List Event) → StandsFor self.old events
+            → IsNext self.old event Begin → StandsFor self.new (events ++ event ∷ []) }
+        ensures registers { self.new.registers ≡ self.old.registers }
+    {
+        let place = Ix { number: self.count };
+        self.slots[place.get() as usize].begin(event.kind, self.completed);
+        self.count += 1;
+        self.turns[event.thread.get() as usize] = asking(place, event.kind);
+    }
+
+    /// Takes the next event, a call of the transaction at the place.
+    #[inline(always)]
+    pub fn ask(&mut self, event: Event, place: Ix)
+        ensures stands { (events : List Event) → StandsFor self.old events
+            → IsNext self.old event (Ask place) → StandsFor self.new (events ++ event ∷ []) }
+        ensures registers { self.new.registers ≡ self.old.registers }
+    {
+        put(&mut self.slots, place, event.kind, None);
+        self.turns[event.thread.get() as usize] = asking(place, event.kind);
+    }
+
+    /// Takes the next event, an answer of the transaction at the place, which makes this operation.
+    #[inline(always)]
+    pub fn answer(&mut self, event: Event, place: Ix, op: Op)
+        ensures stands { (events : List Event) → StandsFor self.old events
+            → IsNext self.old event (Answer place op) → StandsFor self.new (events ++ event ∷ []) }
+        ensures registers { self.new.registers ≡ self.old.registers }
+    {
+        put(&mut self.slots, place, event.kind, Some(op));
+        self.turns[event.thread.get() as usize] = Turn::Within(place);
+    }
+
+    /// Takes the next event, which ends the transaction at the place.
+    #[inline(always)]
+    pub fn end(&mut self, event: Event, place: Ix)
+        ensures stands { (events : List Event) → StandsFor self.old events
+            → IsNext self.old event (End place) → StandsFor self.new (events ++ event ∷ []) }
+        ensures registers { self.new.registers ≡ self.old.registers }
+    {
+        put(&mut self.slots, place, event.kind, None);
+        self.turns[event.thread.get() as usize] = Turn::Between;
+        self.completed |= bit_of(place);
+    }
+
     /// Takes the next event, which is this to its thread.
     #[inline(always)]
     pub fn take(&mut self, event: Event, step: Move)
         requires room { count_of self.old + begun_by step ≤ 8 }
-        ensures takes { (events : List Event) → StandsFor self.old events
-            → IsNext self.old event step → Takes self.new events event step }
+        ensures stands { (events : List Event) → StandsFor self.old events
+            → IsNext self.old event step → StandsFor self.new (events ++ event ∷ []) }
         ensures registers { self.new.registers ≡ self.old.registers }
     {
-        let thread = event.thread.get() as usize;
         match step {
-            Move::Begin => {
-                let place = Ix { number: self.count };
-                self.slots[place.get() as usize].begin(event.kind, self.completed);
-                self.count += 1;
-                self.turns[thread] = asking(place, event.kind);
-            }
-            Move::Ask(place) => {
-                put(&mut self.slots, place, event.kind, None);
-                self.turns[thread] = asking(place, event.kind);
-            }
-            Move::Answer(place, op) => {
-                put(&mut self.slots, place, event.kind, Some(op));
-                self.turns[thread] = Turn::Within(place);
-            }
-            Move::End(place) => {
-                put(&mut self.slots, place, event.kind, None);
-                self.turns[thread] = Turn::Between;
-                self.completed |= bit_of(place);
-            }
+            Move::Begin => self.begin(event),
+            Move::Ask(place) => self.ask(event, place),
+            Move::Answer(place, op) => self.answer(event, place, op),
+            Move::End(place) => self.end(event, place),
         }
     }
 
@@ -225,32 +255,6 @@ impl Window {
         };
         if note.begins || !matches!(step, Move::Begin) {
             self.take(event, step);
-        }
-    }
-
-    /// Whether the thread has a transaction that is commit-pending.
-    fn awaits_commit(&self, thread: Ix) -> bool
-        ensures { (events : List Event) → StandsFor self.now events
-            → result ≡ awaits_commit (transactions events) thread.number }
-    {
-        match self.turn_of(thread).place() {
-            Some(place) => matches!(self.slot(place).status, Status::Pending),
-            None => false,
-        }
-    }
-
-    /// Tells whether the event can't break the criterion. Such an event answers no commit request; by opacity it is
-    /// no value either, which answers a read or an add.
-    #[inline(always)]
-    pub fn is_quiet(&self, criterion: Criterion, event: Event) -> bool
-        ensures { (events : List Event) → StandsFor self.now events
-            → result ≡ is_quiet_by criterion (transactions events) event.thread.number event.kind }
-    {
-        match event.kind {
-            Kind::V(_) => criterion == Criterion::Strict,
-            Kind::C => false,
-            Kind::A => !self.awaits_commit(event.thread),
-            _ => true,
         }
     }
 

@@ -1,34 +1,52 @@
 -- An event that is taken at once leaves the history fine: where it leads to no cut, and where the only transaction ends with it.
 use Rattle.tmw_witness.specs.declared.witness.Witness.{Witness}
-use Rattle.tmw_monitor.proofs.Shared.{Begin, Closes, Contains, End, EndsOf, Event, IsNext, IsTrue, Keeps, List, Move, None, Open, Outcome, Rules, StandsFor, State, StaysOpen, Takes, TellsWrong, Witnesses, [], ap, arith, contains_here, drop, false, inl, inr, is_cut, is_end, is_quiet_by, is_well_formed, length, members, refl, subst, sym, transactions, true, views_of, ◌++◌, ◌+◌, ◌<◌, ◌∙◌, ◌∷◌, ◌≡◌, ◌≤◌, ◌⊎◌}
+use Rattle.tmw_monitor.proofs.Shared.{is_end, ℕ, Begin, Closes, Contains, End, EndsOf, Event, IsNext, IsTrue, Keeps, List, Move, None, Open, Outcome, Rules, StandsFor, State, StaysOpen, States, Criterion, ends-by, committed_of, rank_of, state_of, TellsWrong, Witnesses, [], ap, arith, contains_here, drop, false, inl, inr, is_cut, is_quiet_by, is_well_formed, length, members, refl, subst, sym, transactions, true, views_of, ◌++◌, ◌+◌, ◌<◌, ◌∙◌, ◌∷◌, ◌≡◌, ◌≤◌, ◌⊎◌}
+use Rattle.tmw_events.specs.declared.event.Kind.{Kind}
+use Rattle.tmw_events.specs.declared.event.Kind.TheVariants.{A, C, V}
 use Rattle.tmw_events.specs.declared.ix.Ix.{Ix}
+use Rattle.tmw_defs.specs.History.{Txn}
+use Rattle.tmw_defs.specs.declared.criterion.Criterion.TheVariants.{Opacity, Strict}
+use Rattle.tmw_wellformed.specs.Faults.{asks}
 use Rattle.tmw_events.specs.declared.registers.Registers.{Registers}
 use Rattle.tmw_search.proofs.ForcedEnds.{alone-end}
-use Rattle.tmw_cuts.proofs.Standings.{grows}
+use Rattle.tmw_search.proofs.WindowViews.{shows-views_of}
+use Rattle.tmw_witness.proofs.Path.{witness-ends}
+use Rattle.tmw_cuts.proofs.Standings.{grows, uncut-next}
+use Rattle.tmw_witness.specs.Witnessing.{ExplainsWith}
+use Rattle.tmw_monitor.specs.AtOnce.{Continues}
 use Rattle.tmw_monitor.proofs.Opening.{formed_whole, narrow-push}
 use Rattle.tmw_monitor.proofs.Told.{follows-told}
 
+-- a serial order that is known leads to an end state
+pub explained : (criterion : Criterion) (states : States) (events : List Event) (w : Witness) → IsTrue w.known
+    → Witnesses (members states) (views_of events) w → EndsOf criterion states events (state_of w w.top)
+explained criterion states events w known witness =
+    ends-by criterion (Contains (members states)) (transactions events) (state_of w w.top)
+    (witness-ends (Contains (members states)) (views_of events) (transactions events) (rank_of w) (committed_of w) (state_of w) w.top
+    (witness known) (shows-views_of events))
+
 -- the event leads to no cut, and is quiet or has left an end state
 pub open-fine : (rules : Rules) (h : List Event) (e : Event) (old new : Open) (keeps : Keeps rules h old) (move : Move)
-    → Takes new.window (drop keeps.cut h) e move → new.window.registers ≡ old.window.registers → is_end move ≡ false ⊎ (is_cut (drop keeps.cut h ++ e ∷ []) ≡ false)
+    → IsNext old.window e move → StandsFor new.window (drop keeps.cut h ++ e ∷ []) → new.window.registers ≡ old.window.registers
+    → is_cut (drop keeps.cut h ++ e ∷ []) ≡ false
     → (move ≡ Begin → length (transactions (drop keeps.cut h)) < rules.window)
     → (IsTrue (is_quiet_by rules.criterion (transactions (drop keeps.cut h)) e.thread.number e.kind)
     ⊎ ((end : State) × EndsOf rules.criterion old.states (drop keeps.cut h ++ e ∷ []) end))
     → members new.states ≡ members old.states
     → Witnesses (members old.states) (views_of (drop keeps.cut h ++ e ∷ [])) new.witness → TellsWrong rules (h ++ e ∷ []) new None
-open-fine rules h e old new keeps move takes same uncut room ends states witness =
+open-fine rules h e old new keeps move next stands same uncut room ends states witness =
     let S = Contains (members old.states) in
     let rest = drop keeps.cut h in
     let all = rest ++ e ∷ [] in
     let number : new.window.registers.number ≡ rules.registers = ap (λ (r : Registers). r.number) same ∙ keeps.number in
-    let formed = formed_whole rules S keeps.cut h e keeps.sums_up (rw number at takes.stands.formed) in
-    let narrow = narrow-push rules S keeps.cut h e move keeps.sums_up takes.begun room in
+    let formed = formed_whole rules S keeps.cut h e keeps.sums_up (rw number at stands.formed) in
+    let narrow = narrow-push rules S keeps.cut h e move keeps.sums_up (grows rest e old.window move keeps.stands next) room in
     let quiet = is_quiet_by rules.criterion (transactions rest) e.thread.number e.kind in
     let stays : StaysOpen rules.criterion old.states quiet all new = record {
-      uncut = elim uncut [ inl goes_on ↦ takes.uncut goes_on | inr is ↦ is ];
+      uncut = uncut;
       ends = ends;
       states = states;
-      stands = takes.stands;
+      stands = stands;
       witness = subst (λ (xs : List State). Witnesses xs (views_of all) new.witness) (sym states) witness;
     } in
     follows-told rules h e old keeps (length h + 1) rules.states quiet new Outcome refl refl formed number narrow refl (inl stays)
@@ -73,3 +91,35 @@ keeps-order rules h old w keeps witness = record {
   stands = keeps.stands;
   witness = witness;
 }
+
+-- what goes on neither begins nor ends a transaction
+pub not_end : (move : Move) → Continues move → is_end move ≡ false
+not_end move (inl (p, is)) = ap is_end is
+not_end move (inr (p, op, is)) = ap is_end is
+
+pub not_begin : (move : Move) → Continues move → move ≡ Begin → ⊥
+not_begin move (inl (p, is)) begins = absurd (cc)
+not_begin move (inr (p, op, is)) begins = absurd (cc)
+
+-- an event that goes on and is explained leaves the history fine
+pub explained-fine : (rules : Rules) (h : List Event) (e : Event) (old new : Open) (keeps : Keeps rules h old) (move : Move) → Continues move
+    → IsNext old.window e move → StandsFor new.window (drop keeps.cut h ++ e ∷ []) → new.window.registers ≡ old.window.registers
+    → IsTrue old.witness.known → ExplainsWith old.witness old.window e move → members new.states ≡ members old.states
+    → new.witness ≡ old.witness → TellsWrong rules (h ++ e ∷ []) new None
+explained-fine rules h e old new keeps move goes_on next stands same known explains states kept =
+    let rest = drop keeps.cut h in
+    let witness = explains (members old.states) rest keeps.stands next keeps.witness in
+    open-fine rules h e old new keeps move next stands same (uncut-next rest e old.window move keeps.stands next (not_end move goes_on))
+    (λ begins. absurd (not_begin move goes_on begins))
+    (inr (_, explained rules.criterion old.states (rest ++ e ∷ []) old.witness known witness)) states
+    (subst (λ (w : Witness). Witnesses (members old.states) (views_of (rest ++ e ∷ [])) w) (sym kept) witness)
+
+-- a call is quiet
+pub asked_quiet : (criterion : Criterion) (ts : List Txn) (thread : ℕ) (kind : Kind) → asks kind ≡ true → IsTrue (is_quiet_by criterion ts thread kind)
+asked_quiet Opacity ts thread (V v) asked = cc
+asked_quiet Opacity ts thread C asked = cc
+asked_quiet Opacity ts thread A asked = cc
+asked_quiet Opacity ts thread _ asked = refl
+asked_quiet Strict ts thread C asked = cc
+asked_quiet Strict ts thread A asked = cc
+asked_quiet Strict ts thread _ asked = refl

@@ -7,7 +7,7 @@ pub use Rattle.std.specs.List.{Contains}
 pub use Rattle.std.specs.Prelude.{is_some, remove, slice_get}
 pub use Rattle.tmw_cuts.proofs.FirstMembers.{contains_here}
 pub use Rattle.tmw_cuts.specs.Members.{members}
-pub use Rattle.tmw_cuts.specs.Standing.{Follows, IsNext, StandsFor, Takes, begun_by, is_end, views, views_of}
+pub use Rattle.tmw_cuts.specs.Standing.{Follows, IsNext, StandsFor, begun_by, is_end, views, views_of}
 pub use Rattle.tmw_cuts.specs.declared.turn.Move.{Move}
 pub use Rattle.tmw_cuts.specs.declared.turn.Move.TheVariants.{Answer, Ask, Begin, End}
 pub use Rattle.tmw_cuts.specs.declared.window.Window.{Window}

@@ -8,6 +8,7 @@ ghost use Rattle.tmw_monitor.specs.AtOnce.{Continues, StaysFine, StaysKept};
 
 use crate::bounds::Bounds;
 use crate::open::Open;
+use crate::quiet::is_quiet;
 use tmw_cuts::Move;
 use tmw_defs::Criterion;
 use tmw_events::{Event, Ix};
@@ -22,9 +23,21 @@ pub fn take_at_once(kept: &mut Open, bounds: Bounds, criterion: Criterion, event
 {
     match kept.window.next(event) {
         Ok(Move::Begin) => begin_at_once(kept, bounds, event),
-        Ok(Move::Ask(place)) => go_on_at_once(kept, criterion, event, Move::Ask(place)),
+        Ok(Move::Ask(place)) => {
+            if kept.witness.explains_ask(&kept.window, event, place) {
+                kept.window.ask(event, place);
+                true
+            } else {
+                go_on_quietly(kept, criterion, event, Move::Ask(place))
+            }
+        }
         Ok(Move::Answer(place, op)) => {
-            go_on_at_once(kept, criterion, event, Move::Answer(place, op))
+            if kept.witness.explains_answer(&kept.window, event, place, op) {
+                kept.window.answer(event, place, op);
+                true
+            } else {
+                go_on_quietly(kept, criterion, event, Move::Answer(place, op))
+            }
         }
         Ok(Move::End(place)) => end_at_once(kept, event, place),
         Err(_) => false,
@@ -43,25 +56,22 @@ fn begin_at_once(kept: &mut Open, bounds: Bounds, event: Event) -> bool
     if count >= bounds.window {
         return false;
     }
-    kept.window.take(event, Move::Begin);
+    kept.window.begin(event);
     kept.witness.begin(count);
     true
 }
 
-/// Takes at once an event of an open transaction that does not end it, if the serial order that is kept explains it or it is quiet.
-#[inline(always)]
-fn go_on_at_once(kept: &mut Open, criterion: Criterion, event: Event, step: Move) -> bool
+/// Takes at once an event of an open transaction that does not end it, if it is quiet. It is asked if the order, as it stands, does not
+/// explain the event.
+#[inline(never)]
+fn go_on_quietly(kept: &mut Open, criterion: Criterion, event: Event, step: Move) -> bool
     requires next { IsNext kept.old.window event step }
     requires goes_on { Continues step }
     ensures taken { IsTrue result → (bounds : Bounds)
         → StaysFine criterion bounds event kept.old kept.new }
     ensures left { IsFalse result → kept.new ≡ kept.old }
 {
-    if kept.witness.explains(&kept.window, event, step) {
-        kept.window.take(event, step);
-        return true;
-    }
-    if !kept.window.is_quiet(criterion, event) {
+    if !is_quiet(criterion, event.kind) {
         return false;
     }
     kept.window.take(event, step);
@@ -79,11 +89,11 @@ fn end_at_once(kept: &mut Open, event: Event, place: Ix) -> bool
     ensures left { IsFalse result → StaysKept kept.old kept.new }
 {
     kept.witness.hold_pending(&kept.window, event, place);
-    if !kept.witness.explains(&kept.window, event, Move::End(place)) {
+    if !kept.witness.explains_end(&kept.window, event, place) {
         return false;
     }
     if !kept.window.is_cut_with(place) {
-        kept.window.take(event, Move::End(place));
+        kept.window.end(event, place);
         return true;
     }
     if kept.window.count() != 1 || kept.states.len() != 1 || kept.witness.top >= 9 {

@@ -8,6 +8,7 @@ mod judging;
 mod monitor;
 mod next;
 mod open;
+mod quiet;
 mod so_far;
 mod taken;
 mod weigh;

@@ -10,6 +10,7 @@ ghost use Rattle.tmw_witness.specs.Witnessing.{Witnesses};
 ghost use Rattle.tmw_monitor.specs.Weighing.{WeighsNext};
 
 use crate::open::Open;
+use crate::quiet::is_quiet;
 use crate::weigh::{close, search};
 use crate::weighed::Weighed;
 use std::alloc::{AllocError, Global};
@@ -61,7 +62,7 @@ fn take_open(criterion: Criterion, kept: &mut Open, event: Event, step: Move) ->
         kept.old kept.new result }
     ensures registers { kept.new.window.registers ≡ kept.old.window.registers }
 {
-    let quiet = kept.window.is_quiet(criterion, event);
+    let quiet = is_quiet(criterion, event.kind);
     kept.window.take(event, step);
     kept.witness.follow(&kept.window, event, step);
     if quiet {

@@ -1,9 +1,9 @@
 //! Decides in few steps, before an event is taken, whether the known order is one with it too, as it stands.
-ghost use Rattle.std.specs.Prelude.{◌≡◌, ◌++◌, [], ◌∷◌, List, IsTrue};
+ghost use Rattle.std.specs.Prelude.{◌≡◌, ◌++◌, [], ◌∷◌, IsTrue};
 ghost use Rattle.tmw_defs.specs.Opaque.{State, reads_hold, after_writes};
 
 use crate::witness::Witness;
-use tmw_cuts::{Move, State, Txn, Window};
+use tmw_cuts::{State, Txn, Window};
 use tmw_defs::Op;
 use tmw_events::{Event, Ix, Kind};
 
@@ -18,9 +18,8 @@ fn leaves(item: &Txn, state: &State) -> bool
 }
 
 impl Witness {
-    ghost use Rattle.tmw_witness.specs.Witnessing.{Witnesses, rank_of, committed_of, state_of};
-    ghost use Rattle.tmw_events.specs.declared.event.Event.{Event};
-    ghost use Rattle.tmw_cuts.specs.Standing.{IsNext, StandsFor, views_of};
+    ghost use Rattle.tmw_cuts.specs.declared.turn.Move.TheVariants.{Answer, Ask, End};
+    ghost use Rattle.tmw_witness.specs.Witnessing.{ExplainsWith, rank_of, committed_of, state_of};
 
     /// Whether the transaction is taken as committed.
     #[inline(always)]
@@ -57,32 +56,45 @@ impl Witness {
         }
     }
 
-    /// Tells whether an order is known and, as it stands, is one with the next event too, which is this to its thread. After `false`
-    /// it may still be one.
+    /// Tells whether an order is known and, as it stands, is one with the next event too, a call of the transaction at the place. After
+    /// `false` it may still be one, as below.
     #[inline(always)]
-    pub fn explains(&self, window: &Window, event: Event, step: Move) -> bool
+    pub fn explains_ask(&self, window: &Window, event: Event, place: Ix) -> bool
         ensures known { IsTrue result → IsTrue self.now.known }
-        ensures stands { IsTrue result → (starts : List State) (events : List Event)
-            → StandsFor window.now events → IsNext window.now event step
-            → Witnesses starts (views_of events) self.now
-            → Witnesses starts (views_of (events ++ event ∷ [])) self.now }
+        ensures stands { IsTrue result → ExplainsWith self.now window.now event (Ask place) }
     {
         if !self.known {
             return false;
         }
-        match step {
-            Move::Begin => false,
-            Move::Ask(place) => !self.is_held(place),
-            Move::Answer(place, op) => {
-                !self.is_held(place) && self.has_answer(window.slot(place), place, op)
-            }
-            Move::End(place) => {
-                if matches!(event.kind, Kind::C) {
-                    self.is_held(place) || self.leaves_nothing(window.slot(place), place)
-                } else {
-                    !self.is_held(place)
-                }
-            }
+        !self.is_held(place)
+    }
+
+    /// Tells whether an order is known and, as it stands, is one with the next event too, an answer of the transaction at the place, which
+    /// makes this operation.
+    #[inline(always)]
+    pub fn explains_answer(&self, window: &Window, event: Event, place: Ix, op: Op) -> bool
+        ensures known { IsTrue result → IsTrue self.now.known }
+        ensures stands { IsTrue result → ExplainsWith self.now window.now event (Answer place op) }
+    {
+        if !self.known {
+            return false;
+        }
+        !self.is_held(place) && self.has_answer(window.slot(place), place, op)
+    }
+
+    /// Tells whether an order is known and, as it stands, is one with the next event too, which ends the transaction at the place.
+    #[inline(always)]
+    pub fn explains_end(&self, window: &Window, event: Event, place: Ix) -> bool
+        ensures known { IsTrue result → IsTrue self.now.known }
+        ensures stands { IsTrue result → ExplainsWith self.now window.now event (End place) }
+    {
+        if !self.known {
+            return false;
+        }
+        if matches!(event.kind, Kind::C) {
+            self.is_held(place) || self.leaves_nothing(window.slot(place), place)
+        } else {
+            !self.is_held(place)
         }
     }
 }

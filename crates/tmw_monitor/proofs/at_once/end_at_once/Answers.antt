@@ -1,13 +1,11 @@
 -- An end that the order explains leaves the history fine; where it ends the only transaction, the order leads to the only outcome.
-use Rattle.tmw_monitor.proofs.Shared.{Contains, End, Ends, [], arith, committed_of, contains_here, drop, ends-by, inr, members, rank_of, refl, state_of, sym, transactions, views_of, ◌++◌, ◌∙◌, ◌∷◌, ◌≡◌}
-use Rattle.tmw_search.proofs.WindowViews.{shows-views_of}
+use Rattle.tmw_monitor.proofs.Shared.{End, [], arith, contains_here, drop, inr, members, refl, state_of, sym, ◌++◌, ◌∙◌, ◌∷◌, ◌≡◌}
 use Rattle.tmw_cuts.proofs.Standings.{formed-next}
-use Rattle.tmw_witness.proofs.Path.{witness-ends}
-use Rattle.tmw_monitor.proofs.AtOnce.{keeps-order, open-fine, last-fine}
+use Rattle.tmw_monitor.proofs.AtOnce.{explained, keeps-order, open-fine, last-fine}
 use Rattle.tmw_monitor.proofs.at_once.end_at_once.Goals as goal
 
-pub returns-then-not-explains-clause-left : goal.returns-then-not-explains-clause-left
-returns-then-not-explains-clause-left c = λ none rules history keeps.
+pub returns-then-not-explains_end-clause-left : goal.returns-then-not-explains_end-clause-left
+returns-then-not-explains_end-clause-left c = λ none rules history keeps.
     keeps-order rules history c.args.kept.now c.hold_pending.new.self keeps
     (c.hold_pending.ensures.stands (members c.args.kept.now.states) (drop keeps.cut history) keeps.stands c.requires.next keeps.witness)
 
@@ -19,20 +17,15 @@ returns-then-count-ne1-clause-left c = λ none rules history keeps.
 pub returns-then-not-is_cut_with-clause-taken : goal.returns-then-not-is_cut_with-clause-taken
 returns-then-not-is_cut_with-clause-taken c took criterion bounds rules history by window states keeps =
     let old = c.args.kept.now in
-    let w = c.hold_pending.new.self in
     let starts = members old.states in
     let e = c.args.event in
     let rest = drop keeps.cut history in
-    let all = rest ++ e ∷ [] in
-    let explained = c.if-not-explains.false in
+    let fits = c.if-not-explains_end.false in
     let next = c.requires.next in
-    let witness = c.explains.ensures.stands explained starts rest keeps.stands next (c.hold_pending.ensures.stands starts rest keeps.stands next keeps.witness) in
-    let ends : Ends (Contains starts) (transactions all) (state_of w w.top) =
-    witness-ends (Contains starts) (views_of all) (transactions all) (rank_of w) (committed_of w) (state_of w) w.top
-    (witness (c.explains.ensures.known explained)) (shows-views_of all) in
-    open-fine rules history e old _ keeps (End c.args.place) (c.take.ensures.takes rest keeps.stands next) c.take.ensures.registers
-    (inr (sym (c.is_cut_with.ensures rest e keeps.stands next) ∙ c.if-not-is_cut_with.true)) (λ begins. absurd (cc))
-    (inr (state_of w w.top, ends-by rules.criterion (Contains starts) (transactions all) (state_of w w.top) ends)) refl witness
+    let witness = c.explains_end.ensures.stands fits starts rest keeps.stands next (c.hold_pending.ensures.stands starts rest keeps.stands next keeps.witness) in
+    open-fine rules history e old _ keeps (End c.args.place) next (c.end.ensures.stands rest keeps.stands next) c.end.ensures.registers
+    (sym (c.is_cut_with.ensures rest e keeps.stands next) ∙ c.if-not-is_cut_with.true) (λ begins. absurd (cc))
+    (inr (_, explained rules.criterion old.states (rest ++ e ∷ []) c.hold_pending.new.self (c.explains_end.ensures.known fits) witness)) refl witness
 
 pub returns-clause-taken : goal.returns-clause-taken
 returns-clause-taken c took criterion bounds rules history by window states keeps =
@@ -41,13 +34,9 @@ returns-clause-taken c took criterion bounds rules history by window states keep
     let starts = members old.states in
     let e = c.args.event in
     let rest = drop keeps.cut history in
-    let all = rest ++ e ∷ [] in
-    let explained = c.if-not-explains.false in
+    let fits = c.if-not-explains_end.false in
     let next = c.requires.next in
-    let witness = c.explains.ensures.stands explained starts rest keeps.stands next (c.hold_pending.ensures.stands starts rest keeps.stands next keeps.witness) in
-    let ends : Ends (Contains starts) (transactions all) (state_of w w.top) =
-    witness-ends (Contains starts) (views_of all) (transactions all) (rank_of w) (committed_of w) (state_of w) w.top
-    (witness (c.explains.ensures.known explained)) (shows-views_of all) in
+    let witness = c.explains_end.ensures.stands fits starts rest keeps.stands next (c.hold_pending.ensures.stands starts rest keeps.stands next keeps.witness) in
     let only : members c.put_only.new.self ≡ state_of w w.top ∷ [] = rw (← c.restart_at_end-end.ensures.end) c.put_only.ensures in
     let positive = bounds.some_states in
     last-fine rules history e old _ keeps c.args.place (state_of w w.top) next
@@ -55,5 +44,5 @@ returns-clause-taken c took criterion bounds rules history by window states keep
     (sym (c.is_cut_with.ensures rest e keeps.stands next) ∙ c.if-not-is_cut_with.false) c.clear.ensures.registers
     (omega (arith, positive, states)) (sym (c.count.ensures.stands rest keeps.stands) ∙ c.if-count-ne1.false)
     (sym c.len.ensures ∙ c.if-len-ne1.false)
-    (ends-by rules.criterion (Contains starts) (transactions all) (state_of w w.top) ends) only c.clear.ensures.stands
+    (explained rules.criterion old.states (rest ++ e ∷ []) w (c.explains_end.ensures.known fits) witness) only c.clear.ensures.stands
     (c.restart_at_end-end.ensures.witnesses (members c.put_only.new.self) (rw c.put_only.ensures (contains_here c.restart_at_end-end.result [])))

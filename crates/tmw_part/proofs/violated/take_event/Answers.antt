@@ -13,12 +13,11 @@ use Rattle.tmw_part.proofs.violated.take_event.Goals as goal
 pub returns-clause-takes : goal.returns-clause-takes
 returns-clause-takes c is registers events taken =
     let next = c.in-Ok.ensures.ok in
-    let takes = c.take.ensures.takes events taken.stands next in
     let few = taken.few in
     let more = grows events c.args.event c.args.window.now c.in-Ok.step taken.stands next in
     record {
       number = ap (λ (r : Registers). r.number) c.take.ensures.registers ∙ taken.number;
-      stands = takes.stands;
+      stands = c.take.ensures.stands events taken.stands next;
       few = elim c.else-begins.branch [
         | else-begins-via-then-begins+else-count-ge-MOST_TRANSACTIONS w ↦
             let count : w.count.result ≡ length (transactions events) = w.count.ensures.stands events taken.stands in

@@ -1,0 +1,17 @@
+-- The thread asks on.
+use Rattle.tmw_cuts.proofs.Shared.{None, Some, ap, length, refl, rules, slice_set, ◌≡◌}
+use Rattle.tmw_cuts.specs.declared.turn.Move.TheVariants.{Ask}
+use Rattle.tmw_cuts.proofs.Moves.{asked_on}
+use Rattle.tmw_cuts.proofs.Standings.{moves, stays}
+use Rattle.tmw_cuts.proofs.window.Window.ask.Goals as goal
+
+pub returns-clause-stands : goal.returns-clause-stands
+returns-clause-stands c events stands next =
+    let e = c.args.event in
+    let old = c.args.self.now in
+    let p = c.args.place in
+    let long : length old.turns ≡ 8 = search rules in
+    let (kept, asks_it) = (moves e old (Ask p) next).is in
+    stays events e old _ c.asking.result (Ask p) p None (Some e.kind) stands next kept (asked_on e.kind asks_it) long refl
+    (ap (λ n. slice_set old.turns n c.asking.result) c.get.ensures.value)
+    (c.asking.ensures asks_it) refl (c.put.ensures.shown old.count old.few) refl

@@ -1,0 +1,22 @@
+-- The event begins a transaction at the first free place.
+use Rattle.tmw_cuts.proofs.Shared.{Some, [], ap, arith, length, length-map, map, map-append, refl, rules, slice_set, sym, take, view, ◌++◌, ◌+◌, ◌<◌, ◌∙◌, ◌∷◌, ◌≡◌}
+use Rattle.std.proofs.lemmas.List.{length-take-le, take_more_set}
+use Rattle.tmw_cuts.specs.Standing.{txns_of, views}
+use Rattle.tmw_cuts.proofs.Standings.{begun}
+use Rattle.tmw_cuts.proofs.window.Window.begin.Goals as goal
+
+pub returns-clause-stands : goal.returns-clause-stands
+returns-clause-stands c events stands next =
+    let e = c.args.event in
+    let old = c.args.self.now in
+    let long : length old.turns ≡ 8 = search rules in
+    let len : length (txns_of old) ≡ old.count = length-take-le old.count old.slots (omega (arith, old.eight, old.few)) in
+    let room = c.requires.room in
+    let low : old.count < 8 = omega (arith, room, len, length-map (txns_of old) view) in
+    begun events e old _ c.asking.result stands next long (omega (arith, len, low)) refl
+    (ap (λ n. slice_set old.turns n c.asking.result) c.get-2.ensures.value)
+    (λ asks_it. c.asking.ensures asks_it ∙ ap (λ n. Some (n, Some e.kind)) (sym len))
+    (ap (λ n. map view (take (old.count + 1) (slice_set old.slots n c.begin.new.self))) c.get.ensures.value
+    ∙ ap (map view) (take_more_set old.slots old.count c.begin.new.self (omega (arith, old.eight, low)))
+    ∙ map-append view (txns_of old) (c.begin.new.self ∷ []) ∙ ap (λ v. views old ++ v ∷ []) c.begin.ensures)
+    refl

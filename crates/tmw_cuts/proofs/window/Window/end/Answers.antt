@@ -1,0 +1,13 @@
+-- The thread's transaction ends.
+use Rattle.tmw_cuts.proofs.Shared.{ap, bit_or, length, refl, rules, slice_set, ◌≡◌}
+use Rattle.tmw_cuts.specs.declared.turn.Turn.TheVariants.{Between}
+use Rattle.tmw_cuts.proofs.Standings.{ends_its}
+use Rattle.tmw_cuts.proofs.window.Window.end.Goals as goal
+
+pub returns-clause-stands : goal.returns-clause-stands
+returns-clause-stands c events stands next =
+    let old = c.args.self.now in
+    let long : length old.turns ≡ 8 = search rules in
+    ends_its events c.args.event old _ c.args.place stands next long refl
+    (ap (λ n. slice_set old.turns n Between) c.get.ensures.value)
+    (c.put.ensures.shown old.count old.few) (ap (bit_or old.completed) c.bit_of.ensures)
