@@ -55,3 +55,10 @@ slice_get-change_other f (x ∷ xs) zero zero other = absurd (other refl)
 slice_get-change_other f (x ∷ xs) zero (suc j) other = refl
 slice_get-change_other f (x ∷ xs) (suc i) zero other = refl
 slice_get-change_other f (x ∷ xs) (suc i) (suc j) other = slice_get-change_other f xs i j (λ same. other (ap suc same))
+
+-- what is changed and changed back stays
+pub change-back : {A : Type 0} (f g : A → A) (xs : List A) (i : ℕ) → ((x : A) → slice_get xs i ≡ Some x → g (f x) ≡ x)
+    → change i g (change i f xs) ≡ xs
+change-back f g [] i back = refl
+change-back f g (x ∷ xs) zero back = ap (λ y. y ∷ xs) (back x refl)
+change-back f g (x ∷ xs) (suc i) back = ap (λ ys. x ∷ ys) (change-back f g xs i back)

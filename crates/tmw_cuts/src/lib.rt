@@ -3,6 +3,7 @@
 
 mod effect;
 mod kinds;
+mod mark;
 mod mask;
 mod operations;
 mod states;
@@ -12,6 +13,7 @@ mod window;
 
 pub use effect::Effect;
 pub use kinds::{operation, status_after};
+pub use mark::Mark;
 pub use mask::lowest;
 pub use operations::Operations;
 pub use states::{State, States};

@@ -27,7 +27,7 @@ pub struct Txn {
 }
 
 impl Txn {
-    ghost use Rattle.tmw_cuts.specs.Views.{effect_of, new_view, next_view, view};
+    ghost use Rattle.tmw_cuts.specs.Views.{effect_of, new_view, next_view, view, with_status};
 
     /// Makes one that begins with an event of this kind, where those in the mask have completed.
     pub(crate) fn new(kind: Kind, before: u8) -> Txn
@@ -62,6 +62,14 @@ impl Txn {
             self.effect.add(op);
         }
         self.status = status_after(kind);
+    }
+
+    /// Gives it this status.
+    #[inline(always)]
+    pub(crate) fn put_status(&mut self, status: Status)
+        ensures { view self.new ≡ with_status status (view self.old) }
+    {
+        self.status = status;
     }
 
     /// Returns what its operations need and leave.

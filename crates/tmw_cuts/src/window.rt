@@ -2,11 +2,12 @@ ghost use Rattle.std.specs.Prelude.{Some, slice_get, ◌≡◌, ◌*◌, ◌%◌
 ghost use Rattle.std.specs.Option.{option_to_list};
 ghost use Rattle.tmw_wellformed.specs.Faults.{lacks_register};
 ghost use Rattle.tmw_cuts.specs.Turns.{change};
-ghost use Rattle.tmw_cuts.specs.Views.{next_view, view};
+ghost use Rattle.tmw_cuts.specs.Views.{next_view, view, with_status};
 
+use crate::mark::Mark;
 use crate::turn::{Move, Turn, asking};
 use crate::txn::Txn;
-use tmw_defs::Op;
+use tmw_defs::{Op, Status};
 use tmw_events::{Event, Ix, Kind, Registers};
 use tmw_wellformed::{Malformed, Note};
 
@@ -65,6 +66,15 @@ fn put(slots: &mut [Txn; 8], place: Ix, kind: Kind, op: Option<Op>)
     slots[place.get() as usize].add(kind, op);
 }
 
+/// Gives the transaction at the place this status.
+fn put_status(slots: &mut [Txn; 8], place: Ix, status: Status)
+    ensures shown { (count : ℕ) → count ≤ 8 → map view (take count slots.new)
+        ≡ change place.number (with_status status) (map view (take count slots.old)) }
+    ensures eight { length slots.new ≡ 8 }
+{
+    slots[place.get() as usize].put_status(status);
+}
+
 /// The mask of this place.
 #[inline(always)]
 fn bit_of(place: Ix) -> u8
@@ -93,7 +103,7 @@ impl Window {
     ghost use Rattle.tmw_wellformed.specs.Faults.{Refuses};
     ghost use Rattle.tmw_wellformed.specs.Notes.{Notes};
     ghost use Rattle.tmw_cuts.specs.declared.turn.Move.TheVariants.{Answer, Ask, Begin, End};
-    ghost use Rattle.tmw_cuts.specs.Standing.{Follows, IsNext, StandsFor, begun_by, count_of, turn_at, views, views_of};
+    ghost use Rattle.tmw_cuts.specs.Standing.{Follows, HasEnded, IsNext, Marks, StandsFor, begun_by, count_of, turn_at, views, views_of};
 
     /// Makes the window of no event.
     pub fn open(registers: Registers) -> Window
@@ -219,11 +229,38 @@ impl Window {
     pub fn end(&mut self, event: Event, place: Ix)
         ensures stands { (events : List Event) → StandsFor self.old events
             → IsNext self.old event (End place) → StandsFor self.new (events ++ event ∷ []) }
+        ensures ended { HasEnded self.old self.new event place }
         ensures registers { self.new.registers ≡ self.old.registers }
     {
         put(&mut self.slots, place, event.kind, None);
         self.turns[event.thread.get() as usize] = Turn::Between;
         self.completed |= bit_of(place);
+    }
+
+    /// Notes what an event changes that ends the transaction at the place of the thread, so that it can be taken back.
+    #[inline(always)]
+    pub fn mark(&self, thread: Ix, place: Ix) -> Mark
+        ensures { Marks result self.now thread place }
+    {
+        Mark {
+            thread,
+            place,
+            turn: self.turn_of(thread),
+            status: self.slot(place).status,
+            completed: self.completed,
+        }
+    }
+
+    /// Takes back the event that ended a transaction, before which the mark was made.
+    pub fn take_back(&mut self, mark: Mark)
+        ensures stands { (before : Window) (event : Event) (events : List Event) (place : Ix)
+            → Marks mark before event.thread place → HasEnded before self.old event place
+            → StandsFor before events → StandsFor self.new events }
+        ensures registers { self.new.registers ≡ self.old.registers }
+    {
+        put_status(&mut self.slots, mark.place, mark.status);
+        self.turns[mark.thread.get() as usize] = mark.turn;
+        self.completed = mark.completed;
     }
 
     /// Takes the next event, which is this to its thread.

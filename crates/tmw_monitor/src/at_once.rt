@@ -28,7 +28,12 @@ pub fn take_at_once(kept: &mut Open, bounds: Bounds, criterion: Criterion, event
                 kept.window.ask(event, place);
                 true
             } else {
-                go_on_quietly(kept, criterion, event, Move::Ask(place))
+                // A copy that only this way needs, so that the event is mostly no value in memory.
+                let copied = Event {
+                    thread: event.thread,
+                    kind: event.kind,
+                };
+                go_on_quietly(kept, criterion, copied, Move::Ask(place))
             }
         }
         Ok(Move::Answer(place, op)) => {
@@ -36,7 +41,11 @@ pub fn take_at_once(kept: &mut Open, bounds: Bounds, criterion: Criterion, event
                 kept.window.answer(event, place, op);
                 true
             } else {
-                go_on_quietly(kept, criterion, event, Move::Answer(place, op))
+                let copied = Event {
+                    thread: event.thread,
+                    kind: event.kind,
+                };
+                go_on_quietly(kept, criterion, copied, Move::Answer(place, op))
             }
         }
         Ok(Move::End(place)) => end_at_once(kept, event, place),

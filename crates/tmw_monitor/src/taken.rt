@@ -4,6 +4,7 @@ ghost use Rattle.tmw_defs.specs.declared.criterion.Criterion.{Criterion};
 ghost use Rattle.tmw_defs.specs.Criteria.{is_quiet_by};
 ghost use Rattle.tmw_defs.specs.Cuts.{is_cut};
 ghost use Rattle.tmw_defs.specs.History.{transactions};
+ghost use Rattle.tmw_cuts.specs.declared.turn.Move.TheVariants.{End};
 ghost use Rattle.tmw_cuts.specs.Members.{members};
 ghost use Rattle.tmw_cuts.specs.Standing.{IsNext, StandsFor, begun_by, count_of, views_of};
 ghost use Rattle.tmw_witness.specs.Witnessing.{Witnesses};
@@ -16,7 +17,7 @@ use crate::weighed::Weighed;
 use std::alloc::{AllocError, Global};
 use tmw_cuts::Move;
 use tmw_defs::Criterion;
-use tmw_events::Event;
+use tmw_events::{Event, Ix};
 
 /// Takes the next event, which is this to its thread, into its window, and weighs the window's events from the outcomes at its
 /// beginning. After a failed allocation all is as before, but a known serial order may be forgotten.
@@ -41,12 +42,10 @@ pub fn take_event(
         → Witnesses (members kept.old.states) (views_of events) kept.old.witness
         → Witnesses (members kept.old.states) (views_of events) kept.new.witness) }
 {
-    let cut = match step {
-        Move::End(place) => kept.window.is_cut_with(place),
-        Move::Begin | Move::Ask(_) | Move::Answer(_, _) => false,
-    };
-    if cut {
-        return take_last(criterion, alloc, kept, cap, event, step);
+    if let Move::End(place) = step {
+        if kept.window.is_cut_with(place) {
+            return take_last(criterion, alloc, kept, cap, event, place);
+        }
     }
     Ok(take_open(criterion, kept, event, step))
 }
@@ -71,7 +70,7 @@ fn take_open(criterion: Criterion, kept: &mut Open, event: Event, step: Move) ->
     search(criterion, kept)
 }
 
-/// Takes an event at a cut, or not at all: after a failed allocation the window is what it was.
+/// Takes an event at a cut, which ends the transaction at the place, and takes it back after a failed allocation.
 #[inline(always)]
 fn take_last(
     criterion: Criterion,
@@ -79,12 +78,11 @@ fn take_last(
     kept: &mut Open,
     cap: u8,
     event: Event,
-    step: Move,
+    place: Ix,
 ) -> Result<Weighed, AllocError>
-    requires room { count_of kept.old.window + begun_by step ≤ 8 }
     requires cut { (events : List Event) → StandsFor kept.old.window events
-        → IsNext kept.old.window event step → IsTrue (is_cut (events ++ event ∷ [])) }
-    ensures ok { IfOk result (WeighsNext criterion cap event step
+        → IsNext kept.old.window event (End place) → IsTrue (is_cut (events ++ event ∷ [])) }
+    ensures ok { IfOk result (WeighsNext criterion cap event (End place)
         (λ events. is_quiet_by criterion (transactions events) event.thread.number event.kind)
         kept.old kept.new) }
     ensures registers { kept.new.window.registers ≡ kept.old.window.registers }
@@ -95,12 +93,13 @@ fn take_last(
         → Witnesses (members kept.old.states) (views_of events) kept.old.witness
         → Witnesses (members kept.old.states) (views_of events) kept.new.witness) }
 {
-    let before = kept.window.copy();
-    kept.window.take(event, step);
-    kept.witness.follow(&kept.window, event, step);
+    let mark = kept.window.mark(event.thread, place);
+    kept.window.end(event, place);
+    kept.witness
+        .follow(&kept.window, event, Move::End(place));
     let weighed = close(criterion, alloc, kept, cap);
     if weighed.is_err() {
-        kept.window = before;
+        kept.window.take_back(mark);
         kept.witness.forget();
     }
     weighed

@@ -49,8 +49,7 @@ pub fn close(
         → Tells criterion kept.old.states cap quiet events kept.new found) }
     ensures registers { kept.new.window.registers ≡ kept.old.window.registers }
     ensures states { OnErr result (members kept.new.states ≡ members kept.old.states) }
-    ensures window { OnErr result ((events : List Event) → StandsFor kept.old.window events
-        → StandsFor kept.new.window events) }
+    ensures window { OnErr result (kept.new.window ≡ kept.old.window) }
 {
     // An outcome that is known is mostly the only one, and then nothing is searched.
     let known = kept.witness.known_end();

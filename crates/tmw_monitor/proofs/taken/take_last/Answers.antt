@@ -5,7 +5,7 @@ use Rattle.tmw_monitor.proofs.taken.take_last.Goals as goal
 pub returns-else-is_err-clause-ok : goal.returns-else-is_err-clause-ok
 returns-else-is_err-clause-ok c =
     IfOk-weaker c.close-weighed.result _ _ (λ found told events stands next was.
-    let after = c.take.ensures.stands events stands next in
+    let after = c.end.ensures.stands events stands next in
     told _ (events ++ c.args.event ∷ []) after (c.requires.cut events stands next)
     (c.follow.ensures (members c.args.kept.now.states) c.args.kept.now.window events stands next after was))
     c.close-weighed.ensures.ok

@@ -11,3 +11,10 @@ returns-clause-stands c events stands next =
     ends_its events c.args.event old _ c.args.place stands next long refl
     (ap (λ n. slice_set old.turns n Between) c.get.ensures.value)
     (c.put.ensures.shown old.count old.few) (ap (bit_or old.completed) c.bit_of.ensures)
+
+pub returns-clause-ended : goal.returns-clause-ended
+returns-clause-ended c = record {
+  registers = refl;
+  turns = ap (λ n. slice_set c.args.self.now.turns n Between) c.get.ensures.value;
+  shows = c.put.ensures.shown c.args.self.now.count c.args.self.now.few;
+}
