@@ -1,9 +1,9 @@
 -- With the event there is one transaction more where it begins one, for which the window has room; or the events are ill-formed with it,
 -- or have too many.
-use Rattle.tmw_part.proofs.Shared.{AreUnfit, Event, IsTrue, List, [], ap, arith, inl, inr, length, sym, transactions, true, ◌++◌, ◌+◌, ◌∙◌, ◌∷◌, ◌≡◌, ◌≤◌}
+use Rattle.tmw_part.proofs.Shared.{AreUnfit, Event, IsTrue, List, [], ap, arith, inl, inr, length, subst, sym, transactions, true, ◌++◌, ◌+◌, ◌∙◌, ◌∷◌, ◌≡◌, ◌≤◌}
 use Rattle.tmw_events.specs.declared.registers.Registers.{Registers}
 use Rattle.tmw_wellformed.specs.Faults.{Refuses}
-use Rattle.tmw_cuts.specs.Standing.{IsNext, begun_by}
+use Rattle.tmw_cuts.specs.Standing.{Follows, IsNext, begun_by}
 use Rattle.tmw_cuts.specs.declared.turn.Move.TheVariants.{Begin}
 use Rattle.tmw_cuts.proofs.Following.{follows-events}
 use Rattle.tmw_cuts.proofs.Standings.{formed-next, grows}
@@ -39,4 +39,6 @@ returns-then-count-ge-MOST_TRANSACTIONS-clause-refuses c is registers events tak
     inr (omega (arith, more, count, full))
 
 pub returns-in_default-clause-refuses : goal.returns-in_default-clause-refuses
-returns-in_default-clause-refuses c is registers events taken = ?
+returns-in_default-clause-refuses c is registers events taken =
+    inl (c.in_default.ensures.err registers events
+    (subst (λ n. Follows n events c.args.window.now) taken.number (follows-events events c.args.window.now taken.stands))).ill_formed
