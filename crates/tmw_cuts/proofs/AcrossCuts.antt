@@ -1,6 +1,5 @@
 -- Over a cut the transactions of a history are those of its two parts.
-use Rattle.tmw_cuts.proofs.Shared.{Event, IsLater, IsTrue, List, Note, Notes, [], ap, append-nil, append_assoc, arith, is_cut, later-transactions, length, length-append, refl, suc, sym, transactions, transactions_from, transactions_from-append, transactions_from-ended, ◌++◌, ◌+◌, ◌∙◌, ◌∷◌, ◌≡◌}
-use Rattle.tmw_defs.proofs.Along.{Pairs}
+use Rattle.tmw_cuts.proofs.Shared.{Event, IsLater, IsTrue, List, Pairs, [], ap, append-nil, is_cut, later-transactions, length, length-append, refl, suc, sym, transactions, transactions_from, transactions_from-append, transactions_from-ended, ◌++◌, ◌+◌, ◌∙◌, ◌∷◌, ◌≡◌}
 
 length-pairs : {A B : Type 0} (Rel : A → B → Type 0) (xs : List A) (ys : List B) → Pairs Rel xs ys → length xs ≡ length ys
 length-pairs Rel [] [] pairs = refl

@@ -1,8 +1,5 @@
 -- The bits of a mask of transactions, one by one, and a mask with one more.
-use Rattle.tmw_cuts.proofs.Shared.{Bool, List, Some, [], ap, arith, before_of, bit, bit_at, bit_at-suc, bit_at_above, bit_at_lowest, bit_at_set_other, bit_at_set_same, bit_or, cases_eq, cases_lt, false, inl, inr, pow-suc, precedes, refl, same_from_bits, slice_get, suc, sym, true, w8, zero, ℕ, ◌%◌, ◌*◌, ◌+◌, ◌-◌, ◌/◌, ◌<◌, ◌^◌, ◌∙◌, ◌∷◌, ◌≡◌, ◌≤◌}
-use Rattle.std.proofs.Math.Nat.{mod-eq_of_lt}
-use Rattle.std.proofs.Math.Pow.{pow_mono}
-use Rattle.tmw_defs.specs.History.{Txn}
+use Rattle.tmw_cuts.proofs.Shared.{Bool, List, Some, Txn, [], ap, arith, before_of, bit, bit_at, bit_at-suc, bit_at_above, bit_at_lowest, bit_at_set_other, bit_at_set_same, bit_or, cases_eq, cases_lt, false, inl, inr, mod-eq_of_lt, pow-suc, pow_mono, precedes, refl, same_from_bits, slice_get, suc, sym, true, w8, zero, ℕ, ◌%◌, ◌*◌, ◌+◌, ◌-◌, ◌/◌, ◌<◌, ◌^◌, ◌∙◌, ◌∷◌, ◌≡◌, ◌≤◌}
 
 low_bit : (b : Bool) (n : ℕ) → (bit b + 2 * n) % 2 ≡ bit b
 low_bit true n = omega arith

@@ -1,8 +1,7 @@
 -- A list of transactions with one changed.
-use Rattle.tmw_cuts.proofs.Shared.{Some, slice_get, List, Txn, View, [], ap, arith, get_or, length, map, refl, slice_set, suc, sym, take, view, zero, ℕ, ◌<◌, ◌∙◌, ◌∷◌, ◌≡◌, ◌≤◌}
+use Rattle.tmw_cuts.proofs.Shared.{List, Some, View, [], ap, arith, change, get_or, length, length-take-le, map, refl, slice_get, slice_set, suc, sym, take, view, zero, ℕ, ◌<◌, ◌∙◌, ◌∷◌, ◌≡◌, ◌≤◌}
+use Rattle.tmw_cuts.specs.declared.txn.Txn.{Txn}
 use Rattle.std.proofs.Math.Seq.{take-set-lt}
-use Rattle.std.proofs.lemmas.List.{length-take-le}
-use Rattle.tmw_cuts.specs.Turns.{change}
 
 change-at : (f : View → View) (txns : List Txn) (i : ℕ) (d new : Txn) → i < length txns
     → view new ≡ f (view (get_or txns i d)) → map view (slice_set txns i new) ≡ change i f (map view txns)

@@ -1,26 +1,6 @@
 -- Where the threads are in a whole history, and with an event more.
-use Rattle.tmw_cuts.proofs.Shared.{and_parts, and_right, descriptor_of, is_ended, map, not, Err, Event, IsTrue, List, None, Option, Some, [], ap, arith, cases_Bool, completed_in, descriptors_of, eqb-false, eqb-true, false, get_or-set_other, get_or-set_same, inl, inr, is_cut, length, list_all, option_map, push_descriptors, refl, slice_set, subst, sym, transactions, true, ℕ, ◌&&◌, ◌++◌, ◌==◌, ◌∙◌, ◌∷◌, ◌≡◌}
-use Rattle.tmw_events.specs.declared.event.Kind.{Kind}
-use Rattle.tmw_events.specs.declared.registers.Registers.{Registers}
-use Rattle.tmw_defs.specs.History.{Txn, is_text, is_well_formed}
-use Rattle.tmw_wellformed.specs.Faults.{Refuses, lacks_register}
-use Rattle.tmw_wellformed.specs.Pending.{call_of, live_of, next_call, pending_call}
-use Rattle.std.proofs.lemmas.List.Folds.{list_all-append}
-use Rattle.tmw_defs.proofs.Along.{Pairs}
+use Rattle.tmw_cuts.proofs.Shared.{Answer, Ask, Begin, Between, End, Err, Event, Follows, Found, IsLater, IsNext, IsTrue, Ix, Kind, List, Malformed, Move, None, Option, Pairs, Refuses, Registers, Rejects, Some, StandsFor, Turn, Txn, Window, [], after_call, and_parts, and_right, ap, arith, call_in, call_of, calls_in, cases_Bool, completed_in, descriptor_of, descriptors_of, eqb-false, eqb-true, false, find_open, found_after, found_in, further, get_or-set_other, get_or-set_same, goes_on, inl, inr, is_cut, is_ended, is_text, is_well_formed, is_well_formed-push, kept_in, lacks_register, length, list_all, list_all-append, live_of, map, next_call, not, numbered, option_map, pending_call, push_descriptors, refl, refuses-from, slice_set, subst, sym, transactions, true, turn_at, ℕ, ◌&&◌, ◌++◌, ◌==◌, ◌∙◌, ◌∷◌, ◌≡◌}
 use Rattle.tmw_defs.proofs.CutsProof.{transactions-cut, behind, behind-later}
-use Rattle.tmw_defs.proofs.Places.{IsLater}
-use Rattle.tmw_wellformed.specs.declared.malformed.Malformed.{Malformed}
-use Rattle.tmw_wellformed.proofs.Deciding.{Rejects}
-use Rattle.tmw_wellformed.proofs.TextSteps.{goes_on}
-use Rattle.tmw_wellformed.proofs.Tracking.{is_well_formed-push, refuses-from}
-use Rattle.tmw_cuts.specs.declared.turn.Turn.{Turn}
-use Rattle.tmw_cuts.specs.declared.turn.Turn.TheVariants.{Between}
-use Rattle.tmw_cuts.specs.declared.turn.Move.{Move}
-use Rattle.tmw_cuts.specs.declared.turn.Move.TheVariants.{Begin, Ask, Answer, End}
-use Rattle.tmw_events.specs.declared.ix.Ix.{Ix}
-use Rattle.tmw_cuts.specs.declared.window.Window.{Window}
-use Rattle.tmw_cuts.specs.Standing.{Follows, IsNext, StandsFor, calls_in, turn_at}
-use Rattle.tmw_cuts.specs.Turns.{Found, after_call, call_in, find_open, found_after, found_in, further, kept_in, numbered}
 use Rattle.tmw_cuts.proofs.Moves.{Means, asked_on, ends_at, rejects}
 use Rattle.tmw_cuts.proofs.OpenOnes.{alone-descriptors_of}
 use Rattle.tmw_cuts.proofs.Pushes.{descriptors_of-push}

@@ -1,18 +1,6 @@
 -- Which events a thread's pending call lets go on, and what the others are refused for.
-use Rattle.tmw_cuts.proofs.Shared.{Bool, None, Ok, Err, Option, Some, [], cases_Bool, false, inl, inr, is_over, operation, option_map, refl, status_after, true, ℕ, ◌∷◌, ◌≡◌}
-use Rattle.tmw_events.specs.declared.event.Kind.{Kind}
+use Rattle.tmw_cuts.proofs.Shared.{Answer, Ask, Begin, Bool, Busy, End, Err, Idle, Ix, Kind, Malformed, Mismatch, Move, None, Ok, Option, Rejects, Some, [], after_call, answers, answers_asked, asks, call_in, cases_Bool, false, goes_on, inl, inr, is_call_answer, is_call_asked, is_over, lacks_register, move_of, numbered, operation, option_map, refl, status_after, true, ℕ, ◌∷◌, ◌≡◌}
 use Rattle.tmw_events.specs.declared.event.Kind.TheVariants.{R, V, W, K, T, C, X, A, N}
-use Rattle.tmw_events.specs.declared.ix.Ix.{Ix}
-use Rattle.tmw_defs.specs.declared.op.Op.{Op}
-use Rattle.tmw_defs.specs.History.{answers}
-use Rattle.tmw_wellformed.specs.declared.malformed.Malformed.{Malformed}
-use Rattle.tmw_wellformed.specs.declared.malformed.Malformed.TheVariants.{Busy, Idle, Mismatch}
-use Rattle.tmw_wellformed.specs.Faults.{asks, lacks_register}
-use Rattle.tmw_wellformed.proofs.TextSteps.{goes_on}
-use Rattle.tmw_wellformed.proofs.Deciding.{Rejects, answers_asked, is_call_answer, is_call_asked}
-use Rattle.tmw_cuts.specs.declared.turn.Move.{Move}
-use Rattle.tmw_cuts.specs.declared.turn.Move.TheVariants.{Begin, Ask, Answer, End}
-use Rattle.tmw_cuts.specs.Turns.{after_call, call_in, move_of, numbered}
 
 abbrev pub ends_at : Kind → Bool
 ends_at k = is_over (status_after (Some k))

@@ -1,5 +1,5 @@
 -- Where the transaction is that a thread has open, and which have completed, when there is one event more.
-use Rattle.tmw_cuts.proofs.Shared.{Bool, Event, List, Some, Descriptor, [], and_parts, ap, append-nil, append_assoc, arith, bit, bit_at, bit_at-suc, bit_at-zero, bit_at_lowest, bit_or, cases_Bool, completed_in, eqb-true, false, if◌then◌else◌, inl, inr, is_open_for, is_over, list_any, next_descriptor, not-true, or_parts, position_or_len, pow-suc, push_descriptors, refl, status_after, subst, suc, sym, true, descriptors_of, ℕ, ◌%◌, ◌*◌, ◌++◌, ◌+◌, ◌/◌, ◌<◌, ◌==◌, ◌^◌, ◌∙◌, ◌∷◌, ◌≡◌}
+use Rattle.tmw_cuts.proofs.Shared.{Bool, Descriptor, Event, List, Some, [], and_parts, ap, append-nil, append_assoc, arith, bit, bit_at, bit_at-suc, bit_at-zero, bit_at_lowest, bit_or, cases_Bool, completed_in, descriptors_of, eqb-true, false, if◌then◌else◌, inl, inr, is_open_for, is_over, list_any, next_descriptor, not-true, or_parts, position_or_len, pow-suc, push_descriptors, refl, status_after, subst, suc, sym, true, ℕ, ◌%◌, ◌*◌, ◌++◌, ◌+◌, ◌/◌, ◌<◌, ◌==◌, ◌^◌, ◌∙◌, ◌∷◌, ◌≡◌}
 use Rattle.tmw_cuts.proofs.Bits.{high_bits, mask-set}
 use Rattle.tmw_cuts.proofs.Found.{push_descriptors_here, push_descriptors_past}
 use Rattle.tmw_cuts.proofs.Pushes.{descriptors_of-push}

@@ -1,11 +1,7 @@
 -- What is to be shown of events when there is one more.
-use Rattle.tmw_cuts.proofs.Shared.{AllByRecursion, Bool, Event, IsFalse, IsTrue, Lies, List, Note, Notes, Descriptor, [], add_event, and_parts, and_right, answered_ops, ap, append-nil, append_assoc, arith, before_of, bit, cases_Bool, completed_in, false, false_from_ne_true, inl, inr, is_cut, is_ended, is_open_for, is_over, le-ltb, length, length-map, lies-transactions, list_all, list_all-map, list_any, lt-ltb, map, nat_lt, new_descriptor, next_descriptor, not, not-true, not_from_false, not_from_true, operation, operations, or_parts, precedes, push_descriptors, refl, suc, sym, transactions, true, descriptor_of, descriptors_of, ℕ, ◌&&◌, ◌*◌, ◌++◌, ◌+◌, ◌==◌, ◌∙◌, ◌∷◌, ◌≡◌, ◌≤◌}
-use Rattle.tmw_events.specs.declared.event.Kind.{Kind}
-use Rattle.tmw_defs.specs.History.{Txn}
+use Rattle.tmw_cuts.proofs.Shared.{AllByRecursion, Bool, Event, Kind, Lies, List, Txn, [], add_event, and_parts, and_right, answered_ops, ap, append-nil, append_assoc, arith, before_of, bit, call_of, call_of-push, cases_Bool, completed_in, descriptor_of, descriptors_of, false, inl, inr, is_cut, is_ended, is_over, le-ltb, length, lies-transactions, list_all, list_all-map, lt-ltb, map, nat_lt, new_descriptor, next_descriptor, not-true, operation, operations, precedes, push_descriptors, refl, sym, transactions, true, ℕ, ◌&&◌, ◌*◌, ◌++◌, ◌+◌, ◌==◌, ◌∙◌, ◌∷◌, ◌≡◌, ◌≤◌}
 use Rattle.tmw_defs.proofs.OneMore.{joins, add_event_here, add_event_past, transactions-push}
 use Rattle.tmw_defs.proofs.QuietTexts.{status_of-push}
-use Rattle.tmw_wellformed.specs.Pending.{call_of}
-use Rattle.tmw_wellformed.proofs.TextSteps.{call_of-push}
 use Rattle.tmw_defs.proofs.OneMore as more
 
 operations-push : (text : List Kind) (k : Kind) → operations (text ++ k ∷ []) ≡ operations text ++ answered_ops (call_of text) k

@@ -1,36 +1,48 @@
 -- What the proofs of this crate take from the libraries, from the crates below and from its specs.
-pub use Rattle.std.proofs.Common.{Bool, Err, IsFalse, IsTrue, List, None, Ok, Option, Result, Some, [], add-one, ap, append_assoc, arith, bit_or, drop, false, get_or, inl, inr, length, length-append, length-drop, map, min, nat_cmp, not, pow-suc, refl, rules, set, subst, suc, sym, take, true, w8, zero, ℕ, ◌%◌, ◌&&◌, ◌*◌, ◌++◌, ◌+◌, ◌-◌, ◌/◌, ◌<◌, ◌==◌, ◌^◌, ◌||◌, ◌↔◌, ◌∙◌, ◌∷◌, ◌≡◌, ◌≤◌, ◌⊎◌}
+pub use Rattle.std.proofs.Common.{Bool, Err, IsTrue, List, None, Ok, Option, Result, Some, [], add-one, ap, append_assoc, arith, bit_or, drop, false, get_or, inl, inr, length, length-append, map, nat_cmp, not, pow-suc, refl, rules, set, subst, suc, sym, take, true, w8, zero, ℕ, ◌%◌, ◌&&◌, ◌*◌, ◌++◌, ◌+◌, ◌-◌, ◌/◌, ◌<◌, ◌==◌, ◌^◌, ◌||◌, ◌↔◌, ◌∙◌, ◌∷◌, ◌≡◌, ◌≤◌, ◌⊎◌}
 pub use Rattle.std.proofs.Math.Bool.{and-true}
-pub use Rattle.std.proofs.Math.Seq.{take-append_seam}
-pub use Rattle.std.proofs.lemmas.Bool.{and_parts, and_right, cases_Bool, cases_eq, cases_lt, cond_both, eq-eqb, eqb-false, eqb-true, false_from_ne_true, le-ltb, lt-ltb, ltb-false, ltb-true, ne_eqb, not-true, not_from_false, not_from_true, or_parts}
+pub use Rattle.std.proofs.Math.Nat.{mod-eq_of_lt}
+pub use Rattle.std.proofs.Math.Pow.{pow_mono}
+pub use Rattle.std.proofs.lemmas.Bool.{and_parts, and_right, cases_Bool, cases_eq, cases_lt, cond_both, eq-eqb, eqb-false, eqb-true, le-ltb, lt-ltb, ne_eqb, not-true, or_parts}
 pub use Rattle.std.proofs.lemmas.Cmp.{nat_list_cmp_total, tied_itself}
-pub use Rattle.std.proofs.lemmas.List.{append-nil, drop_all, get_or-set_other, get_or-set_same, length-map, length-set, map-append, same_lists, set-get_or, take-append-drop}
-pub use Rattle.std.proofs.lemmas.List.Folds.{list_all-map}
-pub use Rattle.std.proofs.lemmas.List.Quantifiers.{position-Some}
+pub use Rattle.std.proofs.lemmas.List.{append-nil, drop_all, get_or-set_other, get_or-set_same, length-map, length-set, length-take-le, map-append, same_lists, set-get_or, take-append-drop, take-map, take_more_set}
+pub use Rattle.std.proofs.lemmas.List.Folds.{list_all-append, list_all-map}
 pub use Rattle.std.proofs.lemmas.Map.Lookups.{CmpEqualImpliesEq, exact_bytes}
 pub use Rattle.std.proofs.lemmas.Nat.Bits.{bit_at-suc, bit_at-trailing_zeros, bit_at-zero, bit_at_above, bit_at_lowest, bit_at_set_other, bit_at_set_same, same_from_bits}
 pub use Rattle.std.specs.Int.{bit_at}
-pub use Rattle.std.specs.List.{AllByRecursion, Contains, insert, list_all, list_any, position_or_len, range_with_len, refill}
+pub use Rattle.std.specs.List.{AllByRecursion, Contains, insert, list_all, list_any, position_or_len, range_with_len}
 pub use Rattle.std.specs.List.Sorted.{IsBinarySearchResult, IsNonDecreasingBy, IsPartitionPoint, IsSearchInRange}
 unfoldable pub use Rattle.std.specs.List.Sorted.{IsStrictlySortedBy}
-pub use Rattle.std.specs.Prelude.{IsSome, if◌then◌else◌, is_ok, nat_lt, option_map, position, slice_get, slice_index, slice_set, unwrap_or}
+pub use Rattle.std.specs.Prelude.{IfErr, if◌then◌else◌, is_ok, nat_lt, option_and_then, option_map, slice_get, slice_index, slice_set}
+pub use Rattle.tmw_defs.proofs.Along.{Pairs}
 pub use Rattle.tmw_defs.proofs.Places.{IsLater, Lies, later-transactions, lies-transactions, transactions_from-append, transactions_from-ended}
 pub use Rattle.tmw_defs.specs.Cuts.{is_cut}
-pub use Rattle.tmw_defs.specs.History.{add_event, is_ended, is_over, operation, operations, status_after, transactions, transactions_from}
+pub use Rattle.tmw_defs.specs.History.{Txn, add_event, answers, is_ended, is_over, is_text, is_well_formed, operation, operations, status_after, transactions, transactions_from}
 pub use Rattle.tmw_defs.specs.Opaque.{State, after_writes, precedes, reads_hold}
 pub use Rattle.tmw_defs.specs.declared.op.Op.{Op}
 pub use Rattle.tmw_defs.specs.declared.op.Op.TheVariants.{Add, Read, Write}
 pub use Rattle.tmw_events.specs.declared.event.Event.{Event}
-pub use Rattle.tmw_events.specs.declared.event.Kind.TheVariants.{A, N, R}
+pub use Rattle.tmw_events.specs.declared.event.Kind.{Kind}
 pub use Rattle.tmw_events.specs.declared.ix.Ix.{Ix}
-pub use Rattle.tmw_wellformed.specs.Notes.{Notes}
-pub use Rattle.tmw_wellformed.specs.declared.note.Note.{Note}
+pub use Rattle.tmw_events.specs.declared.registers.Registers.{Registers}
+pub use Rattle.tmw_wellformed.proofs.Deciding.{Rejects, answers_asked, is_call_answer, is_call_asked, rejects_lacking}
+pub use Rattle.tmw_wellformed.proofs.TextSteps.{call_of-push, goes_on}
+pub use Rattle.tmw_wellformed.proofs.Tracking.{is_well_formed-push, refuses-from}
+pub use Rattle.tmw_wellformed.specs.Faults.{Refuses, asks, lacks_register}
+pub use Rattle.tmw_wellformed.specs.Pending.{call_of, live_of, next_call, pending_call}
+pub use Rattle.tmw_wellformed.specs.declared.malformed.Malformed.{Malformed}
+pub use Rattle.tmw_wellformed.specs.declared.malformed.Malformed.TheVariants.{Busy, Idle, Mismatch, Register}
+pub use Rattle.tmw_cuts.specs.Descriptors.{Descriptor, answered_ops, completed_in, is_open_for, new_descriptor, next_descriptor, push_descriptors, view_in}
 pub use Rattle.tmw_cuts.specs.Effects.{IsEffectOf, SumsUp}
 pub use Rattle.tmw_cuts.specs.Registers.{IsMaskOf, have, put}
 unfoldable pub use Rattle.tmw_cuts.specs.Registers.{chosen}
-pub use Rattle.tmw_cuts.specs.Standing.{before_of, descriptor_of, descriptors_of, view_of, views_of}
-pub use Rattle.tmw_cuts.specs.Views.{View, bit, completed_mask, new_view, next_view, view}
-pub use Rattle.tmw_cuts.specs.Descriptors.{Descriptor, answered_ops, completed_in, is_open_for, new_descriptor, next_descriptor, push_descriptors, view_in}
+pub use Rattle.tmw_cuts.specs.Standing.{Follows, IsNext, StandsFor, before_of, begun_by, calls_in, count_of, descriptor_of, descriptors_of, is_end, turn_at, txns_of, view_of, views, views_of}
+pub use Rattle.tmw_cuts.specs.Turns.{Found, after_call, call_in, change, find_open, found_after, found_in, further, kept_in, move_of, numbered, ops_of, place_of, views_after}
+pub use Rattle.tmw_cuts.specs.Views.{View, bit, completed_mask, new_view, next_view, view, with_status}
 pub use Rattle.tmw_cuts.specs.Written.{needs, writes}
 pub use Rattle.tmw_cuts.specs.declared.effect.Effect.{Effect}
-pub use Rattle.tmw_cuts.specs.declared.txn.Txn.{Txn}
+pub use Rattle.tmw_cuts.specs.declared.turn.Move.{Move}
+pub use Rattle.tmw_cuts.specs.declared.turn.Move.TheVariants.{Answer, Ask, Begin, End}
+pub use Rattle.tmw_cuts.specs.declared.turn.Turn.{Turn}
+pub use Rattle.tmw_cuts.specs.declared.turn.Turn.TheVariants.{Between, Within}
+pub use Rattle.tmw_cuts.specs.declared.window.Window.{Window}

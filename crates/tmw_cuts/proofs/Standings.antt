@@ -1,28 +1,8 @@
 -- A window stands for the events with one more, where it begins a transaction, asks, answers or ends.
-use Rattle.tmw_cuts.proofs.Shared.{Bool, Descriptor, Event, List, None, Option, Some, View, [], and_parts, answered_ops, ap, arith, bit_or, cases_Bool, completed_in, completed_mask, descriptor_of, descriptors_of, eq-eqb, eqb-false, eqb-true, false, get_or-set_other, get_or-set_same, if◌then◌else◌, inl, inr, is_cut, is_open_for, is_over, length, length-append, length-map, list_all, list_any, map, or_parts, slice_get, and_right, ne_eqb, new_view, next_view, not-true, option_map, position_or_len, pow-suc, push_descriptors, refl, slice_set, subst, suc, sym, transactions, true, view, view_in, view_of, views_of, ℕ, ◌%◌, ◌&&◌, ◌||◌, not, ◌*◌, ◌++◌, ◌+◌, ◌<◌, ◌==◌, ◌^◌, ◌∙◌, ◌∷◌, ◌≡◌, ◌≤◌}
-use Rattle.std.proofs.Math.Nat.{mod-eq_of_lt}
-use Rattle.std.proofs.Math.Pow.{pow_mono}
-use Rattle.tmw_events.specs.declared.event.Kind.{Kind}
-use Rattle.tmw_events.specs.declared.ix.Ix.{Ix}
-use Rattle.tmw_events.specs.declared.registers.Registers.{Registers}
-use Rattle.tmw_defs.specs.History.{Txn, is_well_formed, status_of}
-use Rattle.tmw_defs.specs.Quiet.{awaits_commit, is_pending}
-use Rattle.tmw_defs.specs.declared.status.Status.{Status}
-use Rattle.tmw_defs.specs.declared.status.Status.TheVariants.{Aborted, Committed, Live, Pending}
-use Rattle.tmw_wellformed.specs.Faults.{asks}
-use Rattle.tmw_wellformed.specs.Pending.{next_call}
-use Rattle.tmw_wellformed.proofs.TextSteps.{goes_on}
-use Rattle.tmw_wellformed.proofs.Tracking.{is_well_formed-push}
-use Rattle.tmw_cuts.specs.declared.turn.Move.{Move}
-use Rattle.tmw_cuts.specs.declared.turn.Move.TheVariants.{Begin, Ask, Answer, End}
-use Rattle.tmw_cuts.specs.declared.turn.Turn.{Turn}
-use Rattle.tmw_cuts.specs.declared.turn.Turn.TheVariants.{Between}
-use Rattle.tmw_cuts.specs.declared.window.Window.{Window}
-use Rattle.tmw_cuts.specs.Standing.{is_end, IsNext, StandsFor, begun_by, turn_at, txns_of, views}
-use Rattle.tmw_cuts.specs.Turns.{Found, call_in, change, find_open, found_after, found_in, further, kept_in, numbered, ops_of, place_of, views_after}
+use Rattle.tmw_cuts.proofs.Shared.{Answer, Ask, Begin, Between, Bool, Descriptor, End, Event, Found, IsNext, Ix, Kind, List, Move, None, Option, Registers, Some, StandsFor, Turn, Txn, View, Window, [], and_parts, answered_ops, ap, arith, asks, begun_by, bit_or, call_in, cases_Bool, change, completed_in, completed_mask, descriptor_of, descriptors_of, eq-eqb, eqb-false, eqb-true, false, find_open, found_after, found_in, further, get_or-set_other, get_or-set_same, goes_on, if◌then◌else◌, inl, inr, is_cut, is_end, is_open_for, is_over, is_well_formed, is_well_formed-push, kept_in, length, length-append, length-map, list_all, map, mod-eq_of_lt, ne_eqb, new_view, next_call, next_view, not-true, numbered, ops_of, option_map, place_of, position_or_len, pow-suc, pow_mono, push_descriptors, refl, slice_get, slice_set, subst, suc, sym, transactions, true, turn_at, txns_of, view, view_in, view_of, views, views_after, views_of, ℕ, ◌%◌, ◌&&◌, ◌*◌, ◌++◌, ◌+◌, ◌<◌, ◌==◌, ◌^◌, ◌∙◌, ◌∷◌, ◌≡◌, ◌≤◌}
 use Rattle.tmw_cuts.proofs.Changes.{length-change}
 use Rattle.tmw_cuts.proofs.Moves.{Is, Means, accepts, asked_on, ends_at}
-use Rattle.tmw_cuts.proofs.OpenOnes.{Alone, alone-descriptors_of, masks-push}
+use Rattle.tmw_cuts.proofs.OpenOnes.{alone-descriptors_of, masks-push}
 use Rattle.tmw_cuts.proofs.Pushes.{descriptors_of-push, is_cut-views}
 use Rattle.tmw_cuts.proofs.TurnSteps.{call-found, find_here, find_open-other, find_open-own, find_past, place-found, place_in, views-push}
 

@@ -1,12 +1,7 @@
 -- What one event more makes of what is found of a thread, and of what is shown of the transactions.
-use Rattle.tmw_cuts.proofs.Shared.{Bool, Descriptor, Event, List, None, Some, View, [], and_parts, ap, arith, cases_Bool, eq-eqb, eqb-true, false, if◌then◌else◌, inl, inr, is_ended, is_open_for, is_over, length, list_any, map, new_descriptor, next_descriptor, not, option_map, or_parts, position_or_len, push_descriptors, refl, status_after, suc, sym, transactions, true, descriptor_of, descriptors_of, view_in, ℕ, ◌&&◌, ◌+◌, ◌==◌, ◌∙◌, ◌∷◌, ◌≡◌}
-use Rattle.std.specs.Prelude.{option_and_then}
-use Rattle.tmw_events.specs.declared.event.Kind.{Kind}
-use Rattle.tmw_defs.specs.History.{Txn}
-use Rattle.tmw_wellformed.specs.Pending.{call_of, live_of, pending_call}
+use Rattle.tmw_cuts.proofs.Shared.{Bool, Descriptor, Event, Found, Kind, List, None, Some, Txn, View, [], and_parts, ap, arith, call_in, call_of, cases_Bool, descriptor_of, descriptors_of, eq-eqb, eqb-true, false, find_open, found_after, further, if◌then◌else◌, inl, inr, is_ended, is_open_for, is_over, length, list_any, live_of, map, new_descriptor, next_descriptor, not, option_and_then, option_map, or_parts, pending_call, position_or_len, push_descriptors, refl, status_after, suc, sym, transactions, true, view_in, views_after, ℕ, ◌&&◌, ◌+◌, ◌==◌, ◌∙◌, ◌∷◌, ◌≡◌}
 use Rattle.tmw_cuts.proofs.Found.{push_descriptors_here, push_descriptors_past}
 use Rattle.tmw_cuts.proofs.OpenOnes.{Alone}
-use Rattle.tmw_cuts.specs.Turns.{Found, further, find_open, call_in, found_after, views_after}
 
 pub find_here : (t : ℕ) (v : Descriptor) (vs : List Descriptor) → is_open_for t v ≡ true → find_open t (v ∷ vs) ≡ Some (0, v.call)
 find_here t v vs here = rw here refl

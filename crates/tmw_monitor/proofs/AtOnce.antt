@@ -1,19 +1,10 @@
 -- An event that is taken at once leaves the history fine: where it leads to no cut, and where the only transaction ends with it.
-use Rattle.tmw_witness.specs.declared.witness.Witness.{Witness}
-use Rattle.tmw_monitor.proofs.Shared.{is_end, ℕ, Begin, Closes, Contains, End, EndsOf, Event, IsNext, IsTrue, Keeps, List, Move, None, Open, Outcome, Rules, StandsFor, State, StaysOpen, States, Criterion, ends-by, committed_of, rank_of, state_of, TellsWrong, Witnesses, [], ap, arith, contains_here, drop, false, inl, inr, is_cut, is_quiet_by, is_well_formed, length, members, refl, subst, sym, transactions, true, views_of, ◌++◌, ◌+◌, ◌<◌, ◌∙◌, ◌∷◌, ◌≡◌, ◌≤◌, ◌⊎◌}
+use Rattle.tmw_monitor.proofs.Shared.{Begin, Closes, Contains, Continues, Criterion, End, EndsOf, Event, ExplainsWith, IsNext, IsTrue, Ix, Keeps, List, Move, None, Opacity, Open, Outcome, Registers, Rules, StandsFor, State, States, StaysOpen, Strict, TellsWrong, Txn, Witness, Witnesses, [], ap, arith, asks, committed_of, contains_here, drop, ends-by, false, grows, inl, inr, is_cut, is_end, is_quiet_by, is_well_formed, length, members, rank_of, refl, state_of, subst, sym, transactions, true, uncut-next, views_of, ℕ, ◌++◌, ◌+◌, ◌<◌, ◌∙◌, ◌∷◌, ◌≡◌, ◌≤◌, ◌⊎◌}
 use Rattle.tmw_events.specs.declared.event.Kind.{Kind}
 use Rattle.tmw_events.specs.declared.event.Kind.TheVariants.{A, C, V}
-use Rattle.tmw_events.specs.declared.ix.Ix.{Ix}
-use Rattle.tmw_defs.specs.History.{Txn}
-use Rattle.tmw_defs.specs.declared.criterion.Criterion.TheVariants.{Opacity, Strict}
-use Rattle.tmw_wellformed.specs.Faults.{asks}
-use Rattle.tmw_events.specs.declared.registers.Registers.{Registers}
 use Rattle.tmw_search.proofs.ForcedEnds.{alone-end}
 use Rattle.tmw_search.proofs.WindowViews.{shows-views_of}
 use Rattle.tmw_witness.proofs.Path.{witness-ends}
-use Rattle.tmw_cuts.proofs.Standings.{grows, uncut-next}
-use Rattle.tmw_witness.specs.Witnessing.{ExplainsWith}
-use Rattle.tmw_monitor.specs.AtOnce.{Continues}
 use Rattle.tmw_monitor.proofs.Opening.{formed_whole, narrow-push}
 use Rattle.tmw_monitor.proofs.Told.{follows-told}
 

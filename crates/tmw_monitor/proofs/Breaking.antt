@@ -1,6 +1,5 @@
 -- The first event that fits no run, with an event more.
-use Rattle.tmw_monitor.proofs.Shared.{Broken, Event, IsBrokenAt, List, None, Option, Some, TellsFollowed, Follows, Window, [], ap, append_assoc, false, is_some, length, refl, true, ℕ, ◌++◌, ◌+◌, ◌∙◌, ◌∷◌, ◌≡◌}
-use Rattle.tmw_wellformed.specs.Faults.{Refuses}
+use Rattle.tmw_monitor.proofs.Shared.{Broken, Event, Follows, IsBrokenAt, List, None, Option, Refuses, Some, TellsFollowed, Window, [], ap, append_assoc, false, is_some, length, refl, true, ℕ, ◌++◌, ◌+◌, ◌∙◌, ◌∷◌, ◌≡◌}
 use Rattle.tmw_wellformed.specs.declared.malformed.Malformed.{Malformed}
 
 -- it stays the first

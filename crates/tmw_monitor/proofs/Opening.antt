@@ -1,9 +1,6 @@
 -- The open window of a history that is summed up: it is narrow.
-use Rattle.tmw_monitor.proofs.Shared.{Answer, Ask, Begin, End, Event, Follows, IsFine, IsTrue, List, Move, Rules, StandsFor, State, SumsUp, Window, [], ap, append_assoc, arith, begun_by, cases_lt, drop, inl, inr, is_well_formed, length, refl, subst, sym, take, take-append-drop, take_all, transactions, ℕ, ◌++◌, ◌+◌, ◌<◌, ◌∙◌, ◌∷◌, ◌≡◌, ◌≤◌}
+use Rattle.tmw_monitor.proofs.Shared.{Answer, Ask, Begin, Criterion, End, Event, Follows, IsFinalBy, IsFine, IsTrue, List, Move, Opacity, Rules, StandsFor, State, Strict, SumsUp, Window, [], ap, append_assoc, arith, begun_by, cases_lt, drop, inl, inr, is_well_formed, length, refl, subst, sym, take, take-append-drop, take_all, transactions, ℕ, ◌++◌, ◌+◌, ◌<◌, ◌∙◌, ◌∷◌, ◌≡◌, ◌≤◌}
 use Rattle.tmw_cuts.proofs.Following.{follows-cut, formed-append}
-use Rattle.tmw_defs.specs.Criteria.{IsFinalBy}
-use Rattle.tmw_defs.specs.declared.criterion.Criterion.{Criterion}
-use Rattle.tmw_defs.specs.declared.criterion.Criterion.TheVariants.{Opacity, Strict}
 
 formed-final : (criterion : Criterion) (registers : ℕ) (start : State) (h : List Event) → IsFinalBy criterion registers start h
     → IsTrue (is_well_formed registers h)

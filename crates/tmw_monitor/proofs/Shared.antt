@@ -1,34 +1,40 @@
 -- What the proofs of this crate take from the libraries, from the crates below and from its specs.
-pub use Rattle.std.proofs.Common.{All, AllPairs, Bool, IfSome, IsFalse, IsTrue, List, None, Option, Some, [], ap, append_assoc, arith, drop, false, get_or, inl, inr, length, refl, rules, subst, suc, sym, take, true, zero, ℕ, ◌++◌, ◌+◌, ◌<◌, ◌==◌, ◌↔◌, ◌∙◌, ◌∷◌, ◌≡◌, ◌≢◌, ◌≤◌, ◌⊎◌}
-pub use Rattle.std.proofs.lemmas.Bool.{cases_Bool, cases_lt, eq-eqb, ne_eqb}
-pub use Rattle.std.proofs.lemmas.List.{drop-append-le, drop_all, take-append-drop, take_all, take_more}
+pub use Rattle.std.proofs.Common.{All, AllPairs, Bool, IfSome, IsFalse, IsTrue, List, None, Option, Some, [], ap, append_assoc, arith, drop, false, get_or, inl, inr, length, refl, rules, subst, suc, sym, take, true, zero, ℕ, ◌++◌, ◌+◌, ◌<◌, ◌↔◌, ◌∙◌, ◌∷◌, ◌≡◌, ◌≢◌, ◌≤◌, ◌⊎◌}
+pub use Rattle.std.proofs.lemmas.Bool.{cases_lt}
+pub use Rattle.std.proofs.lemmas.List.{append-nil, drop-append-le, drop_all, take-append-drop, take_all, take_more}
 pub use Rattle.std.proofs.lemmas.Result.{IfOk-weaker, err_from_is_err_and}
 pub use Rattle.std.specs.List.{Contains}
 pub use Rattle.std.specs.Prelude.{is_some, remove, slice_get}
 pub use Rattle.tmw_cuts.proofs.FirstMembers.{contains_here}
+pub use Rattle.tmw_cuts.proofs.Standings.{formed-next, found-begun, grows, length-views_of, uncut-next}
 pub use Rattle.tmw_cuts.specs.Members.{members}
-pub use Rattle.tmw_cuts.specs.Standing.{Follows, IsNext, StandsFor, begun_by, is_end, views, views_of}
+pub use Rattle.tmw_cuts.specs.Standing.{Follows, IsNext, StandsFor, begun_by, is_end, views_of}
+pub use Rattle.tmw_cuts.specs.declared.states.States.{States}
 pub use Rattle.tmw_cuts.specs.declared.turn.Move.{Move}
 pub use Rattle.tmw_cuts.specs.declared.turn.Move.TheVariants.{Answer, Ask, Begin, End}
 pub use Rattle.tmw_cuts.specs.declared.window.Window.{Window}
-pub use Rattle.tmw_cuts.specs.declared.states.States.{States}
-pub use Rattle.tmw_defs.proofs.OneMore.{length-transactions_push}
-pub use Rattle.tmw_defs.proofs.VerdictProof.{IsFirst-push, so_far-fine, sums_up-cut, sums_up-new, sums_up-open, sums_up-quiet, verdict-many, verdict-violated, verdict-wide}
+pub use Rattle.tmw_defs.proofs.VerdictProof.{IsFirst-push, so_far-fine, sums_up-cut, sums_up-new, sums_up-open, sums_up-quiet, verdict-malformed, verdict-many, verdict-violated, verdict-wide}
 pub use Rattle.tmw_defs.proofs.Weaker.{ends-by}
-pub use Rattle.tmw_defs.specs.Criteria.{EndsBy, is_quiet_by, outcomes_by, so_far}
+pub use Rattle.tmw_defs.specs.Criteria.{EndsBy, IsFinalBy, is_quiet_by, outcomes_by, so_far}
 pub use Rattle.tmw_defs.specs.Cuts.{is_cut}
-pub use Rattle.tmw_defs.specs.History.{is_well_formed, transactions}
+pub use Rattle.tmw_defs.specs.History.{Txn, is_well_formed, transactions}
 pub use Rattle.tmw_defs.specs.Opaque.{State}
 pub use Rattle.tmw_defs.specs.Outcomes.{Ends, MoreThan}
 pub use Rattle.tmw_defs.specs.Summary.{SumsUp}
 pub use Rattle.tmw_defs.specs.Verdict.{IsFine, IsMalformed, IsTooMany, IsTooWide, IsVerdict, IsViolated, Rules}
 pub use Rattle.tmw_defs.specs.declared.criterion.Criterion.{Criterion}
+pub use Rattle.tmw_defs.specs.declared.criterion.Criterion.TheVariants.{Opacity, Strict}
 pub use Rattle.tmw_defs.specs.declared.verdict.Verdict.{Verdict}
 pub use Rattle.tmw_defs.specs.declared.verdict.Verdict.TheVariants.{Malformed, OpaqueSoFar, StrictSoFar, Undecided, Violated}
 pub use Rattle.tmw_events.specs.declared.event.Event.{Event}
+pub use Rattle.tmw_events.specs.declared.ix.Ix.{Ix}
+pub use Rattle.tmw_events.specs.declared.registers.Registers.{Registers}
 pub use Rattle.tmw_search.specs.Ended.{EndsOf, HasMoreThan}
-pub use Rattle.tmw_witness.specs.Witnessing.{Witnesses, committed_of, rank_of, state_of}
-pub use Rattle.tmw_monitor.specs.Breaking.{IsBrokenAt, TellsFollowed}
+pub use Rattle.tmw_wellformed.specs.Faults.{Refuses, asks}
+pub use Rattle.tmw_witness.specs.Witnessing.{ExplainsWith, Witnesses, committed_of, rank_of, state_of}
+pub use Rattle.tmw_witness.specs.declared.witness.Witness.{Witness}
+pub use Rattle.tmw_monitor.specs.AtOnce.{Continues, StaysKept}
+pub use Rattle.tmw_monitor.specs.Breaking.{IsBrokenAt, TellsBroken, TellsFollowed}
 pub use Rattle.tmw_monitor.specs.Fitting.{Fits, Keeps, KeepsNothing, TellsWrong, rules_for}
 pub use Rattle.tmw_monitor.specs.Weighing.{Closes, StaysOpen, Tells, wrong_of}
 pub use Rattle.tmw_monitor.specs.declared.broken.Broken.{Broken}

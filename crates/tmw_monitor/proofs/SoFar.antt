@@ -1,6 +1,5 @@
 -- The verdict where nothing is wrong is that of the criterion, and no verdict that something is.
-use Rattle.tmw_monitor.proofs.Shared.{Malformed, Undecided, Violated, inl, inr, refl, ◌⊎◌, Criterion, Event, IsVerdict, List, OpaqueSoFar, Rules, StrictSoFar, Verdict, so_far, sym, ◌≡◌}
-use Rattle.tmw_defs.specs.declared.criterion.Criterion.TheVariants.{Opacity, Strict}
+use Rattle.tmw_monitor.proofs.Shared.{Criterion, Event, IsVerdict, List, Malformed, Opacity, OpaqueSoFar, Rules, Strict, StrictSoFar, Undecided, Verdict, Violated, inl, inr, refl, so_far, sym, ◌≡◌, ◌⊎◌}
 
 pub so_far-apart : (criterion : Criterion) (verdict : Verdict) → (verdict ≡ OpaqueSoFar → ⊥) → (verdict ≡ StrictSoFar → ⊥)
     → verdict ≡ so_far criterion → ⊥

@@ -95,8 +95,7 @@ fn take_last(
 {
     let mark = kept.window.mark(event.thread, place);
     kept.window.end(event, place);
-    kept.witness
-        .follow(&kept.window, event, Move::End(place));
+    kept.witness.follow(&kept.window, event, Move::End(place));
     let weighed = close(criterion, alloc, kept, cap);
     if weighed.is_err() {
         kept.window.take_back(mark);

@@ -1,12 +1,15 @@
 -- What one event more makes of the views of a window's transactions: one of them turns, or one begins.
-use Rattle.tmw_witness.proofs.Shared.{C, Kind, slice_get_some, slice_get_within, subst, length-map, Begin, Bool, Event, IsNext, Ix, List, Move, PrecedesNone, Some, StandsFor, TurnsAt, Txn, View, Window, [], and_parts, ap, arith, bit, bit_at, bit_at_above, cases_lt, change, completed_mask, descriptors_of, false, inl, inr, is_ended, is_over, length, map, new_view, next_view, ops_of, place_of, pow-suc, precedes, refl, same_place, slice_get, suc, sym, transactions, true, view_of, views_after, views_of, zero, ℕ, ◌++◌, ◌<◌, ◌≤◌, ◌^◌, ◌∙◌, ◌∷◌, ◌≡◌}
+use Rattle.tmw_witness.proofs.Shared.{Begin, Bool, C, IsNext, List, PrecedesNone, Some, StandsFor, TurnsAt, Txn, View, [], and_parts, ap, arith, bit, bit_at, bit_at_above, cases_lt, completed_mask, count_of, descriptors_of, ends_at, false, found-begun, found-moved, found_lives, found_within, inl, inr, is_ended, is_over, length, length-map, map, new_view, next_view, pow-suc, precedes, refl, same_place, slice_get, slice_get_some, slice_get_within, subst, suc, sym, transactions, true, view_of, views, views-told, views_of, views_of-push, zero, ℕ, ◌++◌, ◌<◌, ◌^◌, ◌∙◌, ◌∷◌, ◌≡◌, ◌≤◌}
+use Rattle.tmw_events.specs.declared.event.Kind.{Kind}
+use Rattle.tmw_events.specs.declared.event.Event.{Event}
+use Rattle.tmw_events.specs.declared.ix.Ix.{Ix}
+use Rattle.tmw_cuts.specs.declared.turn.Move.{Move}
+use Rattle.tmw_cuts.specs.declared.window.Window.{Window}
+use Rattle.tmw_cuts.specs.Turns.{change, ops_of, place_of, views_after}
 use Rattle.tmw_cuts.proofs.Bits.{bit_at-before_of}
 use Rattle.tmw_cuts.proofs.Changes.{length-change, slice_get-change_here, slice_get-change_other}
 use Rattle.tmw_cuts.proofs.Masks.{bit-le}
-use Rattle.tmw_cuts.proofs.Moves.{ends_at}
 use Rattle.tmw_cuts.specs.Descriptors.{view_in}
-use Rattle.tmw_cuts.specs.Standing.{count_of, views}
-use Rattle.tmw_cuts.proofs.Standings.{found-begun, found-moved, found_lives, found_within, views_of-push, views-told}
 
 -- the view at a place is that of the transaction there
 view-at : (all ts : List Txn) (i : ℕ) (x : View) → slice_get (map (view_of all) ts) i ≡ Some x

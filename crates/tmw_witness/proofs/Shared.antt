@@ -1,28 +1,23 @@
 -- What the proofs of this crate take from the libraries, from the crates below and from its specs.
-pub use Rattle.std.proofs.Common.{Bool, IfSome, IsTrue, List, None, Option, Some, [], ap, arith, bit_or, false, get_or, if◌then◌else◌, inl, inr, length, map, pow-suc, refl, rules, subst, suc, sym, true, w8, zero, ℕ, ◌%◌, ◌*◌, ◌++◌, ◌+◌, ◌-◌, ◌/◌, ◌<◌, ◌==◌, ◌^◌, ◌∙◌, ◌∷◌, ◌≡◌, ◌≤◌, ◌⊎◌}
+pub use Rattle.std.proofs.Common.{Bool, IfSome, IsTrue, List, None, Option, Some, [], ap, arith, bit_or, false, if◌then◌else◌, inl, inr, length, map, pow-suc, refl, rules, subst, suc, sym, true, w8, zero, ℕ, ◌%◌, ◌*◌, ◌++◌, ◌+◌, ◌-◌, ◌/◌, ◌<◌, ◌^◌, ◌∙◌, ◌∷◌, ◌≡◌, ◌≤◌, ◌⊎◌}
 pub use Rattle.std.proofs.Math.Nat.{div-lt_iff_lt-mul, le-max_left, le-max_right, mod-eq_of_lt}
-pub use Rattle.std.proofs.lemmas.Bool.{and_parts, cases_Bool, cases_lt, eqb-true, false_from_ne_true, ltb-true, not-true}
+pub use Rattle.std.proofs.lemmas.Bool.{and_parts, cases_Bool, cases_lt, eqb-true, ltb-true, not-true}
 pub use Rattle.std.proofs.lemmas.List.{append-nil, get_or-set_other, get_or-set_same, length-append, length-map}
 pub use Rattle.std.proofs.lemmas.Nat.Bits.{bit_at-zero, bit_at_above, bit_at_ones, bit_at_set_other, bit_at_set_same, shr_and_one}
-pub use Rattle.std.proofs.lemmas.Option.{get_or_from_slice_get, slice_get-get_or, slice_get_within}
+pub use Rattle.std.proofs.lemmas.Option.{get_or_from_slice_get, slice_get_within}
 pub use Rattle.std.specs.Int.{bit_at}
-pub use Rattle.std.specs.List.{Contains, list_any}
-pub use Rattle.std.specs.Prelude.{position, slice_get, slice_set}
-pub use Rattle.tmw_cuts.specs.Standing.{IsNext, StandsFor, descriptors_of, view_of, views_of}
-pub use Rattle.tmw_cuts.specs.Turns.{change, find_open, ops_of, place_of, views_after}
-pub use Rattle.tmw_cuts.specs.declared.turn.Move.{Move}
-pub use Rattle.tmw_cuts.specs.declared.turn.Move.TheVariants.{Answer, Ask, Begin, End}
-pub use Rattle.tmw_cuts.specs.declared.window.Window.{Window}
-pub use Rattle.tmw_events.specs.declared.event.Event.{Event}
-pub use Rattle.tmw_events.specs.declared.ix.Ix.{Ix}
+pub use Rattle.std.specs.List.{Contains}
+pub use Rattle.std.specs.Prelude.{slice_get, slice_set}
+pub use Rattle.tmw_cuts.proofs.Moves.{asked_on, ends_at}
+pub use Rattle.tmw_cuts.proofs.Standings.{found-begun, found-moved, found_lives, found_within, moves, views-told, views_of-push}
+pub use Rattle.tmw_cuts.specs.Standing.{IsNext, StandsFor, count_of, descriptors_of, view_of, views, views_of}
 pub use Rattle.tmw_cuts.specs.Views.{View, bit, completed_mask, new_view, next_view, view}
-pub use Rattle.tmw_defs.proofs.QuietProof.{left_out, reads_hold-write}
-pub use Rattle.tmw_defs.proofs.QuietTexts.{AddsAWrite, tells_no_value}
-pub use Rattle.tmw_defs.specs.History.{Txn, is_ended, is_over, operation, status_of, transactions}
+pub use Rattle.tmw_cuts.specs.declared.turn.Move.TheVariants.{Answer, Ask, Begin, End}
+pub use Rattle.tmw_defs.proofs.QuietProof.{left_out}
+pub use Rattle.tmw_defs.specs.History.{Txn, is_ended, is_over, status_after, status_of, transactions}
 pub use Rattle.tmw_defs.specs.Opaque.{State, after, after_writes, may_hold, precedes, reads_hold}
 pub use Rattle.tmw_defs.specs.Outcomes.{Ends, Leads}
-pub use Rattle.tmw_events.specs.declared.event.Kind.{Kind}
-pub use Rattle.tmw_events.specs.declared.event.Kind.TheVariants.{A, C, K, N, R, T, V, W}
+pub use Rattle.tmw_events.specs.declared.event.Kind.TheVariants.{C}
 pub use Rattle.tmw_search.proofs.Bits.{bit_cases, same_place}
 pub use Rattle.tmw_search.proofs.LayerSteps.{slice_get_some}
 pub use Rattle.tmw_search.proofs.WindowViews.{shown_at, shows-views_of}

@@ -37,7 +37,10 @@ impl Witness {
             → IsTrue (reads_hold (state_of self.now (rank_of self.now place.number))
             (item.now.ops.items ++ op ∷ [])) }
     {
-        match self.states.get(usize::from(self.ranks[place.get() as usize])) {
+        match self
+            .states
+            .get(usize::from(self.ranks[place.get() as usize]))
+        {
             Some(state) => item.fits_more(state, op),
             None => false,
         }
@@ -50,7 +53,10 @@ impl Witness {
             → after_writes (state_of self.now (rank_of self.now place.number)) item.now.ops.items
             ≡ state_of self.now (rank_of self.now place.number) }
     {
-        match self.states.get(usize::from(self.ranks[place.get() as usize])) {
+        match self
+            .states
+            .get(usize::from(self.ranks[place.get() as usize]))
+        {
             Some(state) => leaves(item, state),
             None => false,
         }

@@ -1,7 +1,5 @@
 -- The transaction at the place is changed, if it is one of them.
-use Rattle.tmw_cuts.proofs.Shared.{ap, arith, cases_lt, inl, inr, length-map, map, sym, take, view, ◌∙◌}
-use Rattle.std.proofs.lemmas.List.{length-take-le}
-use Rattle.tmw_cuts.specs.Views.{with_status}
+use Rattle.tmw_cuts.proofs.Shared.{ap, arith, cases_lt, inl, inr, length-map, length-take-le, map, sym, take, view, with_status, ◌∙◌}
 use Rattle.tmw_cuts.proofs.Changes.{taken-change, change-past, take-set-past}
 use Rattle.tmw_cuts.proofs.window.put_status.Goals as goal
 

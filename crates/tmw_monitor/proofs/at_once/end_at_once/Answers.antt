@@ -1,6 +1,5 @@
 -- An end that the order explains leaves the history fine; where it ends the only transaction, the order leads to the only outcome.
-use Rattle.tmw_monitor.proofs.Shared.{End, [], arith, contains_here, drop, inr, members, refl, state_of, sym, ◌++◌, ◌∙◌, ◌∷◌, ◌≡◌}
-use Rattle.tmw_cuts.proofs.Standings.{formed-next}
+use Rattle.tmw_monitor.proofs.Shared.{End, [], arith, contains_here, drop, formed-next, inr, members, refl, state_of, sym, ◌++◌, ◌∙◌, ◌∷◌, ◌≡◌}
 use Rattle.tmw_monitor.proofs.AtOnce.{explained, keeps-order, open-fine, last-fine}
 use Rattle.tmw_monitor.proofs.at_once.end_at_once.Goals as goal
 

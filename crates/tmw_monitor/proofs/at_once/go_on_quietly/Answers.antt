@@ -1,6 +1,5 @@
 -- A quiet event that ends no transaction leaves the history fine.
-use Rattle.tmw_monitor.proofs.Shared.{drop, inl, members, refl, transactions}
-use Rattle.tmw_cuts.proofs.Standings.{uncut-next}
+use Rattle.tmw_monitor.proofs.Shared.{drop, inl, members, refl, transactions, uncut-next}
 use Rattle.tmw_monitor.proofs.AtOnce.{not_begin, not_end, open-fine}
 use Rattle.tmw_monitor.proofs.at_once.go_on_quietly.Goals as goal
 

@@ -1,13 +1,10 @@
 -- An event that is refused makes the history ill-formed, one that begins one transaction too many makes the window too wide, and else
 -- what is found of the window tells the verdict.
-use Rattle.tmw_monitor.proofs.Shared.{IsNext, Begin, Contains, Follows, Keeps, List, Rules, Event, Open, ap, arith, begun_by, drop, length, members, refl, sym, transactions, verdict-wide, ◌∙◌, ◌≡◌}
-use Rattle.tmw_defs.proofs.VerdictProof.{verdict-malformed}
-use Rattle.tmw_cuts.proofs.Standings.{formed-next, grows}
+use Rattle.tmw_monitor.proofs.Shared.{Begin, Contains, Event, Follows, IsNext, Keeps, List, Open, Registers, Rules, ap, arith, begun_by, drop, formed-next, grows, length, members, refl, sym, transactions, verdict-malformed, verdict-wide, ◌∙◌, ◌≡◌}
 use Rattle.tmw_monitor.proofs.Breaking.{broken-here}
 use Rattle.tmw_monitor.proofs.Opening.{follows_whole, formed_whole, narrow-push}
 use Rattle.tmw_monitor.proofs.SoFar.{so_far-apart}
 use Rattle.tmw_monitor.proofs.Told.{follows-told, follows-found}
-use Rattle.tmw_events.specs.declared.registers.Registers.{Registers}
 use Rattle.tmw_monitor.proofs.next.next_wrong.Goals.{else-begins-via-then-begins+else-count-bounds, else-begins-via-else-begins}
 use Rattle.tmw_monitor.proofs.next.next_wrong.Goals as goal
 
@@ -19,9 +16,10 @@ follows-kept rules history kept keeps =
 pub returns-in-Err-clause-ok : goal.returns-in-Err-clause-ok
 returns-in-Err-clause-ok c rules history criterion window states at keeps =
     let S = Contains (members c.args.kept.now.states) in
-    let refused = c.in-Err.ensures.err rules.registers history (follows-kept rules history c.args.kept.now keeps) in
-    (rw at (verdict-malformed rules S keeps.cut history c.args.event keeps.sums_up refused.ill_formed),
-    so_far-apart rules.criterion _ (λ is. cc) (λ is. cc))
+    let refused = c.in-Err.ensures.err rules.registers history (follows-kept rules history c.args.kept.now keeps) in (
+      rw at (verdict-malformed rules S keeps.cut history c.args.event keeps.sums_up refused.ill_formed),
+      so_far-apart rules.criterion _ (λ is. cc) (λ is. cc),
+    )
 
 pub returns-in-Err-clause-breaks : goal.returns-in-Err-clause-breaks
 returns-in-Err-clause-breaks c rules history criterion window states at none keeps =
@@ -40,9 +38,10 @@ returns-then-count-bounds-clause-ok c rules history criterion window states at k
     (rw keeps.number at (formed-next rest e old.window Begin keeps.stands next)) in
     let count : c.count.result ≡ length (transactions rest) = c.count.ensures.stands rest keeps.stands in
     let full = c.if-count-bounds.true in
-    let more = grows rest e old.window Begin keeps.stands next in
-    (rw at (verdict-wide rules S keeps.cut history e keeps.sums_up formed (omega (arith, count, full, window, more))),
-    so_far-apart rules.criterion _ (λ is. cc) (λ is. cc))
+    let more = grows rest e old.window Begin keeps.stands next in (
+      rw at (verdict-wide rules S keeps.cut history e keeps.sums_up formed (omega (arith, count, full, window, more))),
+      so_far-apart rules.criterion _ (λ is. cc) (λ is. cc),
+    )
 
 pub returns-then-count-bounds-clause-breaks : goal.returns-then-count-bounds-clause-breaks
 returns-then-count-bounds-clause-breaks c rules history criterion window states at none keeps =

@@ -1,7 +1,5 @@
 -- The event leads to no cut, since the mask has told that it does not, or since it ends no transaction.
-use Rattle.tmw_monitor.proofs.Shared.{End, IsNext, Move, ap, false, is_end, refl, subst, sym, ◌∙◌, ◌≡◌}
-use Rattle.tmw_events.specs.declared.ix.Ix.{Ix}
-use Rattle.tmw_cuts.proofs.Standings.{uncut-next}
+use Rattle.tmw_monitor.proofs.Shared.{End, IsNext, Ix, Move, ap, false, is_end, refl, subst, sym, uncut-next, ◌∙◌, ◌≡◌}
 use Rattle.tmw_monitor.proofs.taken.take_event.Goals.{in-End+else-is_cut_with, in_default}
 use Rattle.tmw_monitor.proofs.taken.take_event.Goals as goal
 

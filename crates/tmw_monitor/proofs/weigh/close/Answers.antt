@@ -1,6 +1,5 @@
 -- No outcome is a violation, and else the set becomes that of the outcomes.
-use Rattle.tmw_monitor.proofs.Shared.{Contains, Criterion, Ends, EndsOf, Event, IfSome, List, None, Option, Some, State, States, Witnesses, [], arith, ends-by, false, inr, members, refl, subst, sym, transactions, true, views_of, ◌∙◌, ◌∷◌, ◌≡◌}
-use Rattle.tmw_witness.specs.declared.witness.Witness.{Witness}
+use Rattle.tmw_monitor.proofs.Shared.{Contains, Criterion, Ends, EndsOf, Event, IfSome, List, None, Option, Some, State, States, Witness, Witnesses, [], arith, ends-by, false, inr, members, refl, subst, sym, transactions, true, views_of, ◌∙◌, ◌∷◌, ◌≡◌}
 use Rattle.tmw_monitor.proofs.weigh.close.Goals as goal
 
 first_of : (xs : List State) → (xs ≡ [] → ⊥) → (x : State) × Contains xs x

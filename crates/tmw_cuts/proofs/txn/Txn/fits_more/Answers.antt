@@ -1,5 +1,5 @@
 -- A read or an add is answered what its register holds after the operations before.
-use Rattle.tmw_cuts.proofs.Shared.{Write, refl, [], ◌∷◌, inl, inr}
+use Rattle.tmw_cuts.proofs.Shared.{Write, [], inl, inr, refl, ◌∷◌}
 use Rattle.tmw_cuts.proofs.Effects.{answer-read, answer-add, reads_hold-append}
 use Rattle.tmw_cuts.proofs.txn.Txn.fits_more.Goals as goal
 

@@ -1,9 +1,5 @@
 -- The thread's call is answered.
-use Rattle.tmw_cuts.proofs.Shared.{None, Some, ap, length, next_view, refl, rules, slice_set, sym, ◌∙◌, ◌≡◌}
-use Rattle.tmw_cuts.specs.declared.turn.Move.TheVariants.{Answer}
-use Rattle.tmw_cuts.specs.declared.turn.Turn.TheVariants.{Within}
-use Rattle.tmw_cuts.specs.Standing.{views}
-use Rattle.tmw_cuts.specs.Turns.{change}
+use Rattle.tmw_cuts.proofs.Shared.{Answer, None, Some, Within, ap, change, length, next_view, refl, rules, slice_set, sym, views, ◌∙◌, ◌≡◌}
 use Rattle.tmw_cuts.proofs.Standings.{moves, stays}
 use Rattle.tmw_cuts.proofs.window.Window.answer.Goals as goal
 

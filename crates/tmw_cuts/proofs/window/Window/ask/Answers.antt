@@ -1,6 +1,5 @@
 -- The thread asks on.
-use Rattle.tmw_cuts.proofs.Shared.{None, Some, ap, length, refl, rules, slice_set, ◌≡◌}
-use Rattle.tmw_cuts.specs.declared.turn.Move.TheVariants.{Ask}
+use Rattle.tmw_cuts.proofs.Shared.{Ask, None, Some, ap, length, refl, rules, slice_set, ◌≡◌}
 use Rattle.tmw_cuts.proofs.Moves.{asked_on}
 use Rattle.tmw_cuts.proofs.Standings.{moves, stays}
 use Rattle.tmw_cuts.proofs.window.Window.ask.Goals as goal

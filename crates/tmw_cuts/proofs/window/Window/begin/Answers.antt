@@ -1,7 +1,5 @@
 -- The event begins a transaction at the first free place.
-use Rattle.tmw_cuts.proofs.Shared.{Some, [], ap, arith, length, length-map, map, map-append, refl, rules, slice_set, sym, take, view, ◌++◌, ◌+◌, ◌<◌, ◌∙◌, ◌∷◌, ◌≡◌}
-use Rattle.std.proofs.lemmas.List.{length-take-le, take_more_set}
-use Rattle.tmw_cuts.specs.Standing.{txns_of, views}
+use Rattle.tmw_cuts.proofs.Shared.{Some, [], ap, arith, length, length-map, length-take-le, map, map-append, refl, rules, slice_set, sym, take, take_more_set, txns_of, view, views, ◌++◌, ◌+◌, ◌<◌, ◌∙◌, ◌∷◌, ◌≡◌}
 use Rattle.tmw_cuts.proofs.Standings.{begun}
 use Rattle.tmw_cuts.proofs.window.Window.begin.Goals as goal
 

@@ -1,6 +1,5 @@
 -- The transactions that are used show the same.
-use Rattle.tmw_cuts.proofs.Shared.{ap, sym, take, view, ◌∙◌}
-use Rattle.std.proofs.lemmas.List.{take-map}
+use Rattle.tmw_cuts.proofs.Shared.{ap, sym, take, take-map, view, ◌∙◌}
 use Rattle.tmw_cuts.proofs.window.Window.copy.Goals as goal
 
 pub returns-clause-shown : goal.returns-clause-shown

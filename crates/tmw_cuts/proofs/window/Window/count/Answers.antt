@@ -1,8 +1,5 @@
 -- It shows as many transactions as are counted.
-use Rattle.tmw_cuts.proofs.Shared.{length-map, sym, view, ap, length, ◌∙◌, ◌≡◌, arith}
-use Rattle.std.proofs.lemmas.List.{length-take-le}
-use Rattle.tmw_cuts.specs.Standing.{count_of, txns_of}
-use Rattle.tmw_cuts.specs.declared.window.Window.{Window}
+use Rattle.tmw_cuts.proofs.Shared.{Window, ap, arith, count_of, length, length-map, length-take-le, sym, txns_of, view, ◌∙◌, ◌≡◌}
 use Rattle.tmw_cuts.proofs.Standings.{length-views_of}
 use Rattle.tmw_cuts.proofs.window.Window.count.Goals as goal
 

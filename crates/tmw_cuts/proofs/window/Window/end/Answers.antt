@@ -1,6 +1,5 @@
 -- The thread's transaction ends.
-use Rattle.tmw_cuts.proofs.Shared.{ap, bit_or, length, refl, rules, slice_set, ◌≡◌}
-use Rattle.tmw_cuts.specs.declared.turn.Turn.TheVariants.{Between}
+use Rattle.tmw_cuts.proofs.Shared.{Between, ap, bit_or, length, refl, rules, slice_set, ◌≡◌}
 use Rattle.tmw_cuts.proofs.Standings.{ends_its}
 use Rattle.tmw_cuts.proofs.window.Window.end.Goals as goal
 

@@ -1,8 +1,5 @@
 -- The thread's turn is the next, and those of the others stay.
-use Rattle.tmw_cuts.proofs.Shared.{ap, length, refl, rules, slice_set, sym, ◌∙◌, ◌≡◌}
-use Rattle.tmw_cuts.specs.declared.turn.Move.TheVariants.{Begin, Ask}
-use Rattle.tmw_cuts.specs.Standing.{IsNext, calls_in, turn_at}
-use Rattle.tmw_cuts.specs.Turns.{found_in, kept_in}
+use Rattle.tmw_cuts.proofs.Shared.{Ask, Begin, IsNext, ap, calls_in, found_in, kept_in, length, refl, rules, slice_set, sym, turn_at, ◌∙◌, ◌≡◌}
 use Rattle.tmw_cuts.proofs.Following.{called_by, calls-moved, follows-push}
 use Rattle.tmw_cuts.proofs.Standings.{moves}
 use Rattle.tmw_cuts.proofs.window.Window.follow.Goals.{in-Begin, in-Ask, in-Answer, in-End}

@@ -1,7 +1,6 @@
 -- The status is that of the transaction at the place, if there is one.
-use Rattle.tmw_cuts.proofs.Shared.{Some, View, ap, refl, slice_get, sym, view, ◌∙◌, ◌≡◌}
+use Rattle.tmw_cuts.proofs.Shared.{View, ap, refl, view, views, ◌≡◌}
 use Rattle.std.proofs.lemmas.Option.{slice_get_within}
-use Rattle.tmw_cuts.specs.Standing.{views}
 use Rattle.tmw_cuts.proofs.window.Window.mark.Goals as goal
 
 pub returns : goal.returns

@@ -1,15 +1,5 @@
 -- The event is refused for the fault that it has by what the turn tells of the pending call.
-use Rattle.tmw_cuts.proofs.Shared.{Err, Event, List, Ok, Result, ap, sym, ℕ, ◌∙◌, ◌≡◌}
-use Rattle.std.specs.Prelude.{IfErr}
-use Rattle.tmw_wellformed.proofs.Deciding.{rejects_lacking}
-use Rattle.tmw_wellformed.proofs.Tracking.{refuses-from}
-use Rattle.tmw_wellformed.specs.Faults.{Refuses, lacks_register}
-use Rattle.tmw_wellformed.specs.Pending.{pending_call}
-use Rattle.tmw_wellformed.specs.declared.malformed.Malformed.{Malformed}
-use Rattle.tmw_wellformed.specs.declared.malformed.Malformed.TheVariants.{Register}
-use Rattle.tmw_cuts.specs.declared.turn.Move.{Move}
-use Rattle.tmw_cuts.specs.Standing.{Follows, turn_at}
-use Rattle.tmw_cuts.specs.Turns.{after_call, kept_in}
+use Rattle.tmw_cuts.proofs.Shared.{Err, Event, Follows, IfErr, List, Malformed, Move, Ok, Refuses, Register, Result, after_call, ap, kept_in, lacks_register, pending_call, refuses-from, rejects_lacking, sym, turn_at, ℕ, ◌∙◌, ◌≡◌}
 use Rattle.tmw_cuts.proofs.Following.{refused}
 use Rattle.tmw_cuts.proofs.window.Window.next.Goals as goal
 

@@ -1,11 +1,5 @@
 -- The thread is where it was, and the transaction has its status again.
-use Rattle.tmw_cuts.proofs.Shared.{Ix, View, [], append-nil, ap, arith, cases_Bool, eqb-false, eqb-true, get_or-set_other, get_or-set_same, inl, inr, length, next_view, refl, rules, subst, sym, true, ◌==◌, ◌∙◌, ◌≡◌}
-use Rattle.tmw_events.specs.declared.registers.Registers.{Registers}
-use Rattle.tmw_defs.specs.History.{is_well_formed}
-use Rattle.tmw_cuts.specs.Standing.{turn_at, views}
-use Rattle.tmw_cuts.specs.Turns.{change, found_in}
-use Rattle.tmw_cuts.specs.Views.{with_status}
-use Rattle.tmw_cuts.specs.declared.turn.Turn.TheVariants.{Between}
+use Rattle.tmw_cuts.proofs.Shared.{Between, Ix, Registers, [], ap, append-nil, arith, cases_Bool, eqb-false, eqb-true, found_in, get_or-set_other, get_or-set_same, inl, inr, is_well_formed, length, next_view, refl, rules, subst, sym, true, views, with_status, ◌==◌, ◌∙◌, ◌≡◌}
 use Rattle.tmw_cuts.proofs.Changes.{change-back}
 use Rattle.tmw_cuts.proofs.window.Window.take_back.Goals as goal
 

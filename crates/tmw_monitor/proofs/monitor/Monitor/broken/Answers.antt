@@ -1,6 +1,5 @@
 -- Where nothing is wrong, the history is well-formed, and else it is as told.
-use Rattle.tmw_monitor.proofs.Shared.{Broken, Contains, Event, List, None, Option, Some, TellsFollowed, Window, inl, inr, members, ℕ}
-use Rattle.tmw_monitor.specs.Breaking.{TellsBroken}
+use Rattle.tmw_monitor.proofs.Shared.{Broken, Contains, Event, List, None, Option, Some, TellsBroken, TellsFollowed, Window, inl, inr, members, ℕ}
 use Rattle.tmw_monitor.proofs.Opening.{follows_whole}
 use Rattle.tmw_monitor.proofs.SoFar.{so_far-or}
 use Rattle.tmw_monitor.proofs.monitor.Monitor.broken.Goals as goal

@@ -1,9 +1,5 @@
 -- What was taken at once left the history fine. What was not is of the history as before.
-use Rattle.tmw_monitor.proofs.Shared.{Fits, List, Monitor, Rules, [], ap, err_from_is_err_and, so_far, sym, ◌++◌, ◌∙◌, ◌∷◌, ◌≡◌}
-use Rattle.tmw_monitor.specs.AtOnce.{StaysKept}
-use Rattle.tmw_monitor.specs.declared.open.Open.{Open}
-use Rattle.tmw_events.specs.declared.event.Event.{Event}
-use Rattle.tmw_defs.specs.declared.criterion.Criterion.{Criterion}
+use Rattle.tmw_monitor.proofs.Shared.{Criterion, Event, Fits, List, Monitor, Open, Rules, StaysKept, [], ap, err_from_is_err_and, so_far, sym, ◌++◌, ◌∙◌, ◌∷◌, ◌≡◌}
 use Rattle.tmw_monitor.proofs.Feeding.{fits-next, fits-kept}
 use Rattle.tmw_monitor.proofs.OnlyOpen.{keeps_only_open}
 use Rattle.tmw_monitor.proofs.SoFar.{so_far-tells}

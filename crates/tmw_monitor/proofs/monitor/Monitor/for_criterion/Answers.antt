@@ -1,6 +1,5 @@
 -- Nothing is wrong with no event, with the start state as its one outcome.
-use Rattle.tmw_monitor.proofs.Shared.{[], ap, contains_here, members, refl, rules_for, so_far-fine}
-use Rattle.tmw_events.specs.declared.registers.Registers.{Registers}
+use Rattle.tmw_monitor.proofs.Shared.{Registers, [], ap, contains_here, members, refl, rules_for, so_far-fine}
 use Rattle.tmw_monitor.proofs.Fresh.{sums_up-one}
 use Rattle.tmw_monitor.proofs.OnlyOpen.{keeps_only_open}
 use Rattle.tmw_monitor.proofs.monitor.Monitor.for_criterion.Goals as goal

@@ -1,6 +1,5 @@
 -- The state of its rank has the answer.
-use Rattle.tmw_witness.proofs.Shared.{Answer, inl, left_out, refl, sym, view, views_of, ◌∙◌}
-use Rattle.tmw_cuts.proofs.Standings.{moves}
+use Rattle.tmw_witness.proofs.Shared.{Answer, inl, left_out, moves, refl, sym, view, views_of, ◌∙◌}
 use Rattle.tmw_witness.proofs.Kept.{left_out-kept}
 use Rattle.tmw_witness.proofs.Pushed.{no_commit, slot-shown, turns-next}
 use Rattle.tmw_witness.proofs.witness.Witness.explains_answer.Goals as goal

@@ -1,7 +1,5 @@
 -- A call adds no operation.
-use Rattle.tmw_witness.proofs.Shared.{Ask, append-nil, inl, left_out, not-true, refl, sym, views_of, ◌∙◌}
-use Rattle.tmw_cuts.proofs.Moves.{asked_on}
-use Rattle.tmw_cuts.proofs.Standings.{moves}
+use Rattle.tmw_witness.proofs.Shared.{Ask, append-nil, asked_on, inl, left_out, moves, not-true, refl, sym, views_of, ◌∙◌}
 use Rattle.tmw_witness.proofs.Kept.{left_out-kept}
 use Rattle.tmw_witness.proofs.Pushed.{no_commit, turned}
 use Rattle.tmw_witness.proofs.witness.Witness.explains_ask.Goals as goal
