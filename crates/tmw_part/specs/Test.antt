@@ -1,6 +1,6 @@
 -- The test of a part: each of its transactions is left of one of the whole, the others may go, and the precedence is the same.
 use Rattle.std.specs.Prelude.{◌==◌, ◌&&◌, ◌||◌, ◌+◌, ℕ, Bool, true, false, not, List, [], ◌∷◌, map, slice_index_or, Option, Some, None, if◌then◌else◌}
-use Rattle.std.specs.List.{list_all}
+use Rattle.std.specs.List.{list_all, list_any}
 use Rattle.tmw_defs.specs.declared.op.Op.{Op}
 use Rattle.tmw_defs.specs.declared.op.Op.TheVariants.{Read, Write, Add}
 use Rattle.tmw_defs.specs.declared.status.Status.{Status}
@@ -94,8 +94,7 @@ are_same_rows ts us (a ∷ as') (b ∷ bs) = is_same_row a b ts us && are_same_r
 
 -- The number is one of these; and they without the first that is this one.
 abbrev pub is_among : ℕ → List ℕ → Bool
-is_among n [] = false
-is_among n (p ∷ places) = (p == n) || is_among n places
+is_among n places = list_any (λ p. p == n) places
 
 abbrev pub without_number : ℕ → List ℕ → List ℕ
 without_number n [] = []

@@ -10,12 +10,7 @@ use std::alloc::{AllocError, Global};
 fn is_among(number: usize, places: &[usize]) -> bool
     ensures { result ≡ is_among number places.now }
 {
-    for place in places {
-        if *place == number {
-            return true;
-        }
-    }
-    false
+    places.iter().any(|place| *place == number)
 }
 
 /// Returns these numbers without the first that is this one.
