@@ -1,5 +1,5 @@
 -- What `show` promises: from the bytes that its source tells to what its sink takes and the exit status.
-use Rattle.std.specs.Prelude.{◌≡◌, ℕ, List, ◌++◌, Option, Some, None, Result, Ok, Err}
+use Rattle.std.specs.Prelude.{◌≡◌, ◌+◌, ℕ, List, ◌++◌, Option, Some, None, Result, Ok, Err}
 use Rattle.tmw_lines.specs.TextFault.{HasTextFault}
 use Rattle.tmw_trace.specs.Text.{trace_grammar, trace_text, AreEvents}
 use Rattle.tmw_trace.specs.declared.header.Header.{Header}

@@ -21,14 +21,13 @@ use Rattle.tmw_show.specs.Values.{value_text}
 abbrev pub so_text : ℕ → ℕ → List ℕ
 so_text one other = codes ": " ++ (name_text one ++ (codes " before " ++ name_text other))
 
+-- what is said of a transaction and a value
+abbrev pub said_text : List ℕ → ℕ → List ℕ → ℕ → List ℕ
+said_text values place said value = name_text place ++ (said ++ value_text values value)
+
 -- what was read
 abbrev pub read_text : List ℕ → ℕ → ℕ → ℕ → List ℕ
-read_text values reader value register =
-    name_text reader ++ (codes " read " ++ (value_text values value ++ (codes " from register " ++ decimal register)))
-
--- who left a value
-abbrev pub left_text : List ℕ → ℕ → ℕ → List ℕ
-left_text values writer value = name_text writer ++ (codes " left " ++ value_text values value)
+read_text values reader value register = said_text values reader (codes " read ") value ++ (codes " from register " ++ decimal register)
 
 -- The one had ended before the other began.
 abbrev pub real_time_text : ℕ → ℕ → List ℕ
@@ -45,7 +44,7 @@ source_text values s (Some writer) =
 abbrev pub read_first_text : List ℕ → Source → ℕ → ℕ → List ℕ
 read_first_text values s rival left =
     read_text values s.reader s.value s.register.number
-    ++ (codes ", where " ++ (left_text values rival left ++ so_text s.reader rival))
+    ++ (codes ", where " ++ (said_text values rival (codes " left ") left ++ so_text s.reader rival))
 
 -- The rival changed the register before the writer of the value.
 abbrev pub later_text : ℕ → Option ℕ → List ℕ
@@ -54,9 +53,9 @@ later_text rival (Some writer) = so_text rival writer
 
 abbrev pub changed_first_text : List ℕ → ℕ → ℕ → Source → List ℕ
 changed_first_text values rival left s =
-    left_text values rival left
-    ++ (codes " in register " ++ (decimal s.register.number ++ (codes ", where " ++ (name_text s.reader
-    ++ (codes " read " ++ (value_text values s.value ++ later_text rival s.writer))))))
+    said_text values rival (codes " left ") left
+    ++ (codes " in register " ++ (decimal s.register.number
+    ++ (codes ", where " ++ (said_text values s.reader (codes " read ") s.value ++ later_text rival s.writer))))
 
 -- The sentence of a step. What follows through a third transaction is in the sentences of the others, and that a value stood there from the
 -- start is in the sentence that tells who changed it.

@@ -28,7 +28,8 @@ fn push_put(text: &mut Vec<u8>, values: &[u64], register: Ix, value: u64) -> Res
 {
     push_value(text, values, value)?;
     text.extend_from_slice(b" into register ")?;
-    push_number(text, register.get() as u128)
+    push_number(text, register.get() as u128)?;
+    Ok(())
 }
 
 /// Adds where a value comes from in a window before which so many events stand.

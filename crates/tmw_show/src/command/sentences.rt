@@ -1,7 +1,7 @@
 //! The sentences that tell why a window is violated. Values that are among some have names.
-ghost use Rattle.std.specs.Prelude.{◌≡◌, ◌++◌, OnOk, Some};
+ghost use Rattle.std.specs.Prelude.{◌≡◌, ◌++◌, [], OnOk, Some};
 ghost use Rattle.tmw_show.specs.Names.{name_text};
-ghost use Rattle.tmw_show.specs.Sentences.{changed_first_text, clause_text, clauses_text, end_text, left_text, read_first_text, read_text, real_time_text, reason_text, sentence_line, so_text, source_text, step_text};
+ghost use Rattle.tmw_show.specs.Sentences.{changed_first_text, clause_text, clauses_text, end_text, later_text, read_first_text, read_text, real_time_text, reason_text, said_text, sentence_line, so_text, source_text, step_text};
 
 use crate::command::names::push_name;
 use crate::command::numbers::push_number;
@@ -36,7 +36,8 @@ pub fn push_clauses(text: &mut Vec<u8>, told: &[u8], reason: &Reason) -> Result<
 {
     push_each(text, &StepClause, &reason.steps)?;
     push_clause(text, told)?;
-    push_end(text, &[], &reason.end)
+    push_end(text, &[], &reason.end)?;
+    Ok(())
 }
 
 /// The clause of a step.
@@ -112,6 +113,21 @@ fn push_so(text: &mut Vec<u8>, one: usize, other: usize) -> Result<(), AllocErro
     push_name(text, other)
 }
 
+/// Adds what is said of a transaction and a value.
+fn push_said(
+    text: &mut Vec<u8>,
+    values: &[u64],
+    place: usize,
+    said: &[u8],
+    value: u64,
+) -> Result<(), AllocError>
+    ensures { OnOk result
+        (text.new.items ≡ text.old.items ++ said_text values.now place said.now value) }
+{
+    push_named(text, place, said)?;
+    push_value(text, values, value)
+}
+
 /// Adds what was read.
 fn push_read(
     text: &mut Vec<u8>,
@@ -123,24 +139,10 @@ fn push_read(
     ensures { OnOk result
         (text.new.items ≡ text.old.items ++ read_text values.now reader value register.number) }
 {
-    push_named(text, reader, b" read ")?;
-    push_value(text, values, value)?;
+    push_said(text, values, reader, b" read ", value)?;
     text.extend_from_slice(b" from register ")?;
-    push_number(text, register.get() as u128)
-}
-
-/// Adds who left a value.
-fn push_left(
-    text: &mut Vec<u8>,
-    values: &[u64],
-    writer: usize,
-    value: u64,
-) -> Result<(), AllocError>
-    ensures { OnOk result
-        (text.new.items ≡ text.old.items ++ left_text values.now writer value) }
-{
-    push_named(text, writer, b" left ")?;
-    push_value(text, values, value)
+    push_number(text, register.get() as u128)?;
+    Ok(())
 }
 
 /// Adds the sentence of a step.
@@ -164,7 +166,8 @@ fn push_real_time(text: &mut Vec<u8>, one: usize, other: usize) -> Result<(), Al
 {
     push_named(text, one, b" ended before ")?;
     push_named(text, other, b" began")?;
-    push_so(text, one, other)
+    push_so(text, one, other)?;
+    Ok(())
 }
 
 /// Adds who left a value that was read, if it did not stand there from the start.
@@ -177,8 +180,10 @@ fn push_source(text: &mut Vec<u8>, values: &[u64], source: &Source) -> Result<()
     };
     push_read(text, values, source.reader, source.value, source.register)?;
     text.extend_from_slice(b", which ")?;
-    push_named(text, writer, b" left there")?;
-    push_so(text, writer, source.reader)
+    push_name(text, writer)?;
+    text.extend_from_slice(b" left there")?;
+    push_so(text, writer, source.reader)?;
+    Ok(())
 }
 
 /// Adds that a value was read before the rival changed it.
@@ -194,7 +199,7 @@ fn push_read_first(
 {
     push_read(text, values, source.reader, source.value, source.register)?;
     text.extend_from_slice(b", where ")?;
-    push_left(text, values, rival, left)?;
+    push_said(text, values, rival, b" left ", left)?;
     push_so(text, source.reader, rival)
 }
 
@@ -209,13 +214,20 @@ fn push_changed_first(
     ensures { OnOk result
         (text.new.items ≡ text.old.items ++ changed_first_text values.now rival left source.now) }
 {
-    push_left(text, values, rival, left)?;
+    push_said(text, values, rival, b" left ", left)?;
     text.extend_from_slice(b" in register ")?;
     push_number(text, source.register.get() as u128)?;
     text.extend_from_slice(b", where ")?;
-    push_named(text, source.reader, b" read ")?;
-    push_value(text, values, source.value)?;
-    match source.writer {
+    push_said(text, values, source.reader, b" read ", source.value)?;
+    push_later(text, rival, source.writer)?;
+    Ok(())
+}
+
+/// Adds that the rival comes before the writer, if there is one.
+fn push_later(text: &mut Vec<u8>, rival: usize, writer: Option<usize>) -> Result<(), AllocError>
+    ensures { OnOk result (text.new.items ≡ text.old.items ++ later_text rival writer) }
+{
+    match writer {
         Some(writer) => push_so(text, rival, writer),
         None => Ok(()),
     }

@@ -7,4 +7,4 @@ pub returns : goal.returns
 returns c =
     let reason = c.args.reason.now in
     three c.args.text.now.items (flat_map (λ step. clause_text (step_text [] step)) reason.steps.items) (clause_text c.args.told.now)
-    (rw c.deref.ensures.value at c.in_ok-push_each.ensures) c.in_ok-push_clause.ensures (end_text [] reason.end) c.push_end.ensures
+    (rw c.deref.ensures.value at c.in_ok-push_each.ensures) c.in_ok-push_clause.ensures (end_text [] reason.end) c.in_ok-push_end.ensures
