@@ -21,7 +21,7 @@ _tmwatch() {
         return
         ;;
     judge) options='--criterion --summary --first --window --states' ;;
-    show) options='--criterion --trace --page --why --window --states' ;;
+    show) options='--criterion --trace --page --why --from --window --states' ;;
     drive) options='--memory --trace --trace-only --summary --window --states' ;;
     bench) options='--memory --trace --trace-only --summary --show --why --quiet --ring --patience --rounds --window --states' ;;
     steps) ;;
@@ -34,7 +34,7 @@ _tmwatch() {
         _tmwatch_offer "$options"
         ;;
     --memory) _tmwatch_offer 'norec lock torn' ;;
-    --window | --states | --ring | --patience | --rounds) ;;
+    --from | --window | --states | --ring | --patience | --rounds) ;;
     *)
         # An option is given once.
         options=" $options --help "

@@ -23,6 +23,7 @@ complete -c tmwatch -n $show -l criterion -x -a 'opacity strict' -d 'By opacity 
 complete -c tmwatch -n $show -l trace -d 'Write only the window, as traces'
 complete -c tmwatch -n $show -l page -d 'Write the window as a page of HTML'
 complete -c tmwatch -n $show -l why -d 'Show a part that is violated by itself'
+complete -c tmwatch -n $show -l from -x -d 'Events before the trace, 0 to 10^15'
 
 set -l run '__fish_seen_subcommand_from drive bench'
 complete -c tmwatch -n $run -l memory -x -a 'norec lock torn' -d 'Memory: norec, lock or torn (faulty)'

@@ -56,6 +56,8 @@ tested 'a right memory' 0 'ok 1 - ./norec-NONE --seed 7 --seconds 1' ./norec-NON
 tested 'a wrong one beside it' 1 'ok 1 - ./norec-NONE --seed 7 --seconds 1
 not ok 2 - ./norec-READS --seed 7 --seconds 1' ./norec-NONE ./norec-READS
 ends 'its reason as a page' 0 grep -q 'left there\|calls make it' out/2.html
+at=$(sed -n 's/^{"at":\([0-9]*\),.*/\1/p' out/2.json)
+ends 'its event, counted in the run' 0 grep -q "\"mark\":$at," out/2.html
 ends 'its trace' 1 "$program" judge <out/2.trace
 ends 'what its run was' 0 grep -q '"again"' out/2.trace.run
 again=$(sed -n 's/.*"again":"\([^"]*\)".*/\1/p' out/2.json)

@@ -313,6 +313,8 @@ expect_usage "error: invalid value '65' for '--states <N>': 65 is not in 1..=64"
 expect_usage "error: invalid value 'serial' for '--criterion <CRITERION>'" judge --criterion serial
 expect_usage "error: invalid value 'both' for '--criterion <CRITERION>'" show --criterion both
 expect_usage "error: the argument '--trace' cannot be used multiple times" show --trace --trace
+expect_usage "error: invalid value '1000000000000001' for '--from <N>': 1000000000000001 is not in 0..=1000000000000000" show --from 1000000000000001
+expect_usage "error: unexpected argument '--from' found" judge --from 8
 expect_usage "error: the argument '--criterion <CRITERION>' cannot be used multiple times" judge --criterion strict --criterion strict
 expect_usage "error: unexpected argument '--criterion' found" drive --criterion strict
 expect_usage "error: invalid value 'norec2' for '--memory <MEMORY>'" drive --memory norec2

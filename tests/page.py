@@ -107,21 +107,21 @@ def operations_of(transaction):
     return found
 
 
-def wanted(trace, text):
-    """What is to be drawn of a trace: its window, transactions, operations, states and mark."""
+def wanted(trace, text, before):
+    """What is to be drawn of a trace before which so many events come: its window, transactions, operations, states and mark."""
     lines = text.split('\n')
     report = json.loads(lines[0])
     with open(trace, encoding='ascii') as source:
         events = source.read().split('\n')[1:-1]
-    end = report.get('at', len(events))
-    active, cut = set(), 0
-    for number, line in enumerate(events[:end - 1], 1):
+    end = before + report.get('at', len(events))
+    active, cut = set(), before
+    for number, line in enumerate(events[:end - before - 1], before + 1):
         (active.discard if line[2] in 'CA' else active.add)(line[0])
         if not active:
             cut = number
     current, transactions = {}, []
     for number in range(cut + 1, end + 1):
-        thread, *words = events[number - 1].split()
+        thread, *words = events[number - before - 1].split()
         if thread not in current:
             current[thread] = {'thread': thread, 'events': []}
             transactions.append(current[thread])
@@ -142,8 +142,8 @@ def wanted(trace, text):
     why = [re.sub(r'\bv\d+', lambda name: names[name[0]], line) for line in why]
     return {'why': '; '.join(why) or None, 'needed': ''.join('01'[number in rows] for number in range(cut + 1, end + 1)) if is_part else None,
             'report': report, 'line': lines[0], 'start': max(cut + 1, end - MOST + 1), 'cut': cut, 'end': end, 'transactions': transactions,
-            'events': events[cut:end], 'states': [line.split()[1:] for line in lines if line.startswith('    state')],
-            'mark': report.get('at'), 'told': mark and mark.group(1)}
+            'events': events[cut - before:end - before], 'states': [line.split()[1:] for line in lines if line.startswith('    state')],
+            'mark': end if 'at' in report else None, 'told': mark and mark.group(1)}
 
 
 def differences(page, text, want):
@@ -234,7 +234,8 @@ def compare(program, browser, words):
     if not page.startswith('<!DOCTYPE html>'):
         print(f'{words}: no page: {page[:200]!r}')
         return False
-    want, found = wanted(trace, shown(program, trace, *options)), []
+    before = int(options[options.index('--from') + 1]) if '--from' in options else 0
+    want, found = wanted(trace, shown(program, trace, *options), before), []
     # A browser on busy processors may open a page without the focus, and no focus event comes: the page is opened anew.
     for _ in range(3):
         found = differences(page, opened(browser, page.replace('</body>', PROBE), '--dump-dom'), want)

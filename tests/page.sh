@@ -48,7 +48,8 @@ printf '%s\n' 'opacity-trace 1 1' '1 R 0' '0 W 0 1' '0 C' >"$folder/commit.trace
 } >"$folder/pending.trace"
 traces=("$top"/examples/*.trace "$folder"/*.trace)
 python3 "$top/tests/page.py" "$program" "$browser" "${traces[@]}" "${traces[@]/%/ --criterion strict}" "${traces[@]/%/ --why}" \
-    "$top/examples/two_writers.trace --states 1" "$top/examples/left_open.trace --window 2" >"$folder/pages" || true
+    "$top/examples/two_writers.trace --states 1" "$top/examples/left_open.trace --window 2" \
+    "$top/examples/ghc_stm.trace --why --from 1000000000000000" >"$folder/pages" || true
 sed '$d' "$folder/pages"
 read -r well _ badly _ <<<"$(tail -n 1 "$folder/pages")"
 passed=$((passed + well)) failed=$((failed + badly))

@@ -69,7 +69,8 @@ for words in "${tests[@]}"; do
         [ "$why" = violated ] && status=1 || status=$((status == 1 ? 1 : 2))
     fi
     if [ "$why" = violated ] && command -v "$tmwatch" >/dev/null; then
-        "$tmwatch" show --page --why <"$out/$number.trace" >"$out/$number.html" || true
+        from=$(sed -n 's/.*"from":\([0-9]*\).*/\1/p' "$out/$number.json")
+        "$tmwatch" show --page --why --from "${from:-0}" <"$out/$number.trace" >"$out/$number.html" || true
     fi
     report $number "$words" $((SECONDS - began)) "$why" >>"$out/junit.new"
 done

@@ -8,7 +8,7 @@ use Rattle.tmw_args.specs.Counts.{Count}
 use Rattle.tmw_args.specs.Words.{◌>>=◌, bounds_of, settings_of}
 use Rattle.tmw_args.proofs.Counting.{number_of}
 
-bounds-are : (bounds : Bounds) (window : Count 8) (states : Count 64) → bounds.window ≡ window.number → bounds.states ≡ states.number
+bounds-are : (bounds : Bounds) (window : Count 1 8) (states : Count 1 64) → bounds.window ≡ window.number → bounds.states ≡ states.number
     → bounds ≡ bounds_of window states
 bounds-are bounds window states one other =
     let made : (w s : ℕ) → 0 < w → w ≤ 8 → 0 < s → s ≤ 64 → Bounds = λ w s some most any few. record {
@@ -31,7 +31,7 @@ bounds-are bounds window states one other =
     (λ any few i. made window.number bounds.states window.some window.few (le_prop bounds.some_states any i) (le_prop bounds.most_states few i))
     states.some states.few
 
-settings-are : (settings : Settings) (cells : Count 4096) (patience rounds : Count 1000000000) → settings.cells ≡ cells.number
+settings-are : (settings : Settings) (cells : Count 1 4096) (patience rounds : Count 1 1000000000) → settings.cells ≡ cells.number
     → settings.limit ≡ 2 ^ 40 → settings.patience ≡ patience.number → settings.rounds ≡ rounds.number
     → settings ≡ settings_of cells patience rounds settings.bounds
 settings-are settings cells patience rounds in_ring places tries runs =
@@ -51,27 +51,27 @@ settings-are settings cells patience rounds in_ring places tries runs =
     ∙ (λ i. made (in_ring i) (places i) (tries i) rounds.number rounds.some rounds.few)
 
 -- a number that was found is that of a count
-same : {most : ℕ} (count : Count most) (number found : ℕ) → number ≡ found → Some found ≡ number_of (Some count) → number ≡ count.number
+same : {least most : ℕ} (count : Count least most) (number found : ℕ) → number ≡ found → Some found ≡ number_of (Some count) → number ≡ count.number
 same count number found is was = is ∙ ap (λ o. unwrap_or o found) was
 
 -- ---- bounds of both numbers, or none where one lacks
 
-abbrev pub bounds_from : Option (Count 8) → Option (Count 64) → Option Bounds
+abbrev pub bounds_from : Option (Count 1 8) → Option (Count 1 64) → Option Bounds
 bounds_from window states = do
   w ← window
   s ← states
   Some (bounds_of w s)
 
-pub without_window : (window : Option (Count 8)) (states : Option (Count 64)) → None ≡ number_of window → None ≡ bounds_from window states
+pub without_window : (window : Option (Count 1 8)) (states : Option (Count 1 64)) → None ≡ number_of window → None ≡ bounds_from window states
 without_window None states none = refl
 without_window (Some w) states none = absurd (cc)
 
-pub without_states : (window : Option (Count 8)) (states : Option (Count 64)) → None ≡ number_of states → None ≡ bounds_from window states
+pub without_states : (window : Option (Count 1 8)) (states : Option (Count 1 64)) → None ≡ number_of states → None ≡ bounds_from window states
 without_states None states none = refl
 without_states (Some w) None none = refl
 without_states (Some w) (Some s) none = absurd (cc)
 
-pub with_both : (window : Option (Count 8)) (states : Option (Count 64)) (bounds : Bounds) (w s : ℕ) → bounds.window ≡ w → bounds.states ≡ s
+pub with_both : (window : Option (Count 1 8)) (states : Option (Count 1 64)) (bounds : Bounds) (w s : ℕ) → bounds.window ≡ w → bounds.states ≡ s
     → Some w ≡ number_of window → Some s ≡ number_of states → Some bounds ≡ bounds_from window states
 with_both None states bounds w s is too one other = absurd (cc)
 with_both (Some window) None bounds w s is too one other = absurd (cc)
@@ -80,7 +80,7 @@ with_both (Some window) (Some states) bounds w s is too one other =
 
 -- ---- settings of three numbers and bounds
 
-abbrev pub settings_from : Option (Count 4096) → (patience rounds : Option (Count 1000000000)) → Option Bounds → Option Settings
+abbrev pub settings_from : Option (Count 1 4096) → (patience rounds : Option (Count 1 1000000000)) → Option Bounds → Option Settings
 settings_from cells patience rounds bounds = do
   c ← cells
   p ← patience
@@ -88,25 +88,25 @@ settings_from cells patience rounds bounds = do
   b ← bounds
   Some (settings_of c p r b)
 
-pub without_cells : (cells : Option (Count 4096)) (patience rounds : Option (Count 1000000000)) (bounds : Option Bounds)
+pub without_cells : (cells : Option (Count 1 4096)) (patience rounds : Option (Count 1 1000000000)) (bounds : Option Bounds)
     → None ≡ number_of cells → None ≡ settings_from cells patience rounds bounds
 without_cells None patience rounds bounds none = refl
 without_cells (Some c) patience rounds bounds none = absurd (cc)
 
-pub without_patience : (cells : Option (Count 4096)) (patience rounds : Option (Count 1000000000)) (bounds : Option Bounds)
+pub without_patience : (cells : Option (Count 1 4096)) (patience rounds : Option (Count 1 1000000000)) (bounds : Option Bounds)
     → None ≡ number_of patience → None ≡ settings_from cells patience rounds bounds
 without_patience None patience rounds bounds none = refl
 without_patience (Some c) None rounds bounds none = refl
 without_patience (Some c) (Some p) rounds bounds none = absurd (cc)
 
-pub without_rounds : (cells : Option (Count 4096)) (patience rounds : Option (Count 1000000000)) (bounds : Option Bounds)
+pub without_rounds : (cells : Option (Count 1 4096)) (patience rounds : Option (Count 1 1000000000)) (bounds : Option Bounds)
     → None ≡ number_of rounds → None ≡ settings_from cells patience rounds bounds
 without_rounds None patience rounds bounds none = refl
 without_rounds (Some c) None rounds bounds none = refl
 without_rounds (Some c) (Some p) None bounds none = refl
 without_rounds (Some c) (Some p) (Some r) bounds none = absurd (cc)
 
-pub without_bounds : (cells : Option (Count 4096)) (patience rounds : Option (Count 1000000000)) (bounds : Option Bounds)
+pub without_bounds : (cells : Option (Count 1 4096)) (patience rounds : Option (Count 1 1000000000)) (bounds : Option Bounds)
     → None ≡ bounds → None ≡ settings_from cells patience rounds bounds
 without_bounds None patience rounds bounds none = refl
 without_bounds (Some c) None rounds bounds none = refl
@@ -114,7 +114,7 @@ without_bounds (Some c) (Some p) None bounds none = refl
 without_bounds (Some c) (Some p) (Some r) None none = refl
 without_bounds (Some c) (Some p) (Some r) (Some b) none = absurd (cc)
 
-pub with_all : (cells : Option (Count 4096)) (patience rounds : Option (Count 1000000000)) (bounds : Option Bounds) (settings : Settings)
+pub with_all : (cells : Option (Count 1 4096)) (patience rounds : Option (Count 1 1000000000)) (bounds : Option Bounds) (settings : Settings)
     → settings.limit ≡ 2 ^ 40 → Some settings.cells ≡ number_of cells → Some settings.patience ≡ number_of patience
     → Some settings.rounds ≡ number_of rounds → Some settings.bounds ≡ bounds → Some settings ≡ settings_from cells patience rounds bounds
 with_all (Some c) (Some p) (Some r) (Some b) settings places in_ring tries runs within =

@@ -37,6 +37,9 @@ faults =
     ∷ (codes "judge --first --first", ArgumentConflict ∷ [])
     ∷ (codes "judge --first=1", TooManyValues ∷ [])
     ∷ (codes "show --first", UnknownArgument ∷ [])
+    ∷ (codes "show --from 0 --why", [])
+    ∷ (codes "show --from=1000000000000001", ValueValidation ∷ [])
+    ∷ (codes "judge --from 8", UnknownArgument ∷ [])
     ∷ (codes "judge --criterion both", [])
     ∷ (codes "judge --criterion=serial", InvalidValue ∷ [])
     ∷ (codes "judge --criterion=strict --criterion=strict", ArgumentConflict ∷ [])
@@ -124,6 +127,8 @@ values =
     ∷ (codes "show", codes "trace", codes "false")
     ∷ (codes "show --states=2 --trace", codes "trace", codes "true")
     ∷ (codes "show --page --trace", codes "page", codes "true")
+    ∷ (codes "show --why", codes "from", codes "0")
+    ∷ (codes "show --from=8 --page", codes "from", codes "8")
     ∷ []
 
 values_are : map (λ row. option_and_then (λ found. one_of row.1 found.1) (subcommand_of sample (help_as_flag (said row.0)))) values

@@ -32,10 +32,6 @@ value_rule name values default = record (new_rule name) {
 abbrev pub one_to : ℕ → ValueParser
 one_to most = Signed (pos 1) (pos most)
 
--- a number of 64 bits from 1 to `most`
-abbrev pub count_to : ℕ → ValueParser
-count_to most = Unsigned 1 most
-
 -- with the two bounds
 abbrev pub with_bounds : App → App
 with_bounds app = with_rule (with_rule app (value_rule (codes "window") (one_to 8) (codes "8")))
@@ -63,9 +59,13 @@ with_memory memories app = with_run_flags (with_rule app (value_rule (codes "mem
 
 -- with the three counts of a bench
 abbrev pub with_counts : App → App
-with_counts app = with_rule (with_rule (with_rule app (value_rule (codes "ring") (count_to 4096) (codes "256")))
-    (value_rule (codes "patience") (count_to 1000000000) (codes "1000000")))
-    (value_rule (codes "rounds") (count_to 1000000000) (codes "1"))
+with_counts app = with_rule (with_rule (with_rule app (value_rule (codes "ring") (Unsigned 1 4096) (codes "256")))
+    (value_rule (codes "patience") (Unsigned 1 1000000000) (codes "1000000")))
+    (value_rule (codes "rounds") (Unsigned 1 1000000000) (codes "1"))
+
+-- with how many events of the run come before the trace
+abbrev pub with_before : App → App
+with_before app = with_rule app (value_rule (codes "from") (Unsigned 0 1000000000000000) (codes "0"))
 
 -- `judge`, by one of these criteria
 abbrev pub judge_among : ValueParser → App
@@ -75,7 +75,8 @@ judge_among criteria =
 -- `show`, by one of these criteria
 abbrev pub show_among : ValueParser → App
 show_among criteria =
-    with_bounds (with_flag (codes "why") (with_flag (codes "page") (with_flag (codes "trace") (with_criterion criteria (new_app (codes "show"))))))
+    with_bounds (with_before (with_flag (codes "why") (with_flag (codes "page") (with_flag (codes "trace")
+    (with_criterion criteria (new_app (codes "show")))))))
 
 -- `drive`, over one of these memories
 abbrev pub drive_among : ValueParser → App

@@ -1,5 +1,5 @@
 -- What the words of a command line ask for: an order, help, the version, or nothing that the program knows.
-use Rattle.std.specs.Prelude.{◌≡◌, ◌≢◌, ◌⊎◌, ◌^◌, ◌||◌, ℕ, Bool, true, false, List, [], ◌∷◌, ◌++◌, Option, Some, None, codes, if◌then◌else◌, option_and_then}
+use Rattle.std.specs.Prelude.{◌≡◌, ◌≢◌, ◌⊎◌, ◌^◌, ◌||◌, ℕ, Bool, true, false, List, [], ◌∷◌, ◌++◌, Option, Some, None, codes, if◌then◌else◌, option_and_then, option_map}
 use Rattle.std.specs.List.{remove}
 use Rattle.std.specs.Str.{bytes_eq}
 use Rattle.clap.specs.Values.{bool_text}
@@ -39,9 +39,12 @@ found >>= next = option_and_then next found
 abbrev pub flag_in : Text → List Row → Option Bool
 flag_in flag rows = one_of flag rows >>= named bool_text (true ∷ false ∷ [])
 
--- The number from 1 to `most` that was found for this option.
-abbrev pub count_in : (most : ℕ) → Text → List Row → Option (Count most)
-count_in most option rows = one_of option rows >>= counted most
+-- The number from `least` to `most` that was found for this option.
+abbrev pub count_in : (least most : ℕ) → Text → List Row → Option (Count least most)
+count_in least most option rows = one_of option rows >>= counted least most
+
+abbrev pub number_in : (least most : ℕ) → Text → List Row → Option ℕ
+number_in least most option rows = option_map (λ count. count.number) (count_in least most option rows)
 
 abbrev pub asked_in : List Row → Option Asked
 asked_in rows = first_of (codes "criterion") rows >>= asked_named
@@ -52,7 +55,7 @@ criterion_in rows = first_of (codes "criterion") rows >>= criterion_named
 abbrev pub memory_in : List Row → Option Which
 memory_in rows = first_of (codes "memory") rows >>= memory_named
 
-abbrev pub bounds_of : Count 8 → Count 64 → Bounds
+abbrev pub bounds_of : Count 1 8 → Count 1 64 → Bounds
 bounds_of window states = record {
   window = window.number;
   states = states.number;
@@ -64,8 +67,8 @@ bounds_of window states = record {
 
 abbrev pub bounds_in : List Row → Option Bounds
 bounds_in rows = do
-  window ← count_in 8 (codes "window") rows
-  states ← count_in 64 (codes "states") rows
+  window ← count_in 1 8 (codes "window") rows
+  states ← count_in 1 64 (codes "states") rows
   Some (bounds_of window states)
 
 -- The form that the flags `--trace` and `--page` of `show` ask for. Both together ask for none.
@@ -94,8 +97,9 @@ show_in rows = do
   criterion ← criterion_in rows
   form ← form_in rows
   why ← flag_in (codes "why") rows
+  before ← number_in 0 1000000000000000 (codes "from") rows
   bounds ← bounds_in rows
-  Some (Show (record { criterion = criterion; form = form; why = why; bounds = bounds }))
+  Some (Show (record { criterion = criterion; form = form; why = why; before = before; bounds = bounds }))
 
 abbrev pub run_options_in : List Row → Option RunOptions
 run_options_in rows = do
@@ -111,7 +115,7 @@ drive_in rows = do
   bounds ← bounds_in rows
   Some (Drive memory written bounds)
 
-abbrev pub settings_of : Count 4096 → Count 1000000000 → Count 1000000000 → Bounds → Settings
+abbrev pub settings_of : Count 1 4096 → Count 1 1000000000 → Count 1 1000000000 → Bounds → Settings
 settings_of cells patience rounds bounds = record {
   cells = cells.number;
   limit = 2 ^ 40;
@@ -125,9 +129,9 @@ settings_of cells patience rounds bounds = record {
 -- The settings of `bench`. Its ring takes at most 2^40 events in all.
 abbrev pub settings_in : List Row → Option Settings
 settings_in rows = do
-  cells ← count_in 4096 (codes "ring") rows
-  patience ← count_in 1000000000 (codes "patience") rows
-  rounds ← count_in 1000000000 (codes "rounds") rows
+  cells ← count_in 1 4096 (codes "ring") rows
+  patience ← count_in 1 1000000000 (codes "patience") rows
+  rounds ← count_in 1 1000000000 (codes "rounds") rows
   bounds ← bounds_in rows
   Some (settings_of cells patience rounds bounds)
 

@@ -3,7 +3,7 @@ ghost use Rattle.clap.specs.Walk.{texts};
 ghost use Rattle.clap.specs.Words.{App, Text, app_of, first_of, found_of, kind_of, rows_of, subcommand_rows_of};
 ghost use Rattle.tmw_args.specs.Program.{IsProgram};
 ghost use Rattle.tmw_args.specs.Reading.{FailsAs};
-ghost use Rattle.tmw_args.specs.Words.{Asks, asked_in, bench_in, bounds_in, count_in, criterion_in, drive_in, flag_in, form_by, form_in, help_as_flag, judge_in, memory_in, names_help, order_in, run_options_in, settings_in, show_in};
+ghost use Rattle.tmw_args.specs.Words.{Asks, asked_in, bench_in, bounds_in, criterion_in, drive_in, flag_in, form_by, form_in, help_as_flag, judge_in, memory_in, names_help, number_in, order_in, run_options_in, settings_in, show_in};
 
 use crate::bench_options::BenchOptions;
 use crate::names::{asked_named, criterion_named};
@@ -35,6 +35,9 @@ const MOST_TRANSACTIONS: u64 = 8;
 
 /// The most outcomes at a cut.
 const MOST_STATES: u64 = 64;
+
+/// The most events before a trace.
+const MOST_BEFORE: u64 = 1_000_000_000_000_000;
 
 /// Parses the words of the command line. The first is the program's name, and is passed over.
 ///
@@ -149,11 +152,13 @@ fn show_of(show: &ArgMatches<'_>) -> Option<Order>
     let criterion = criterion_of(show)?;
     let form = form_of(show)?;
     let why = flag_of(show, "why")?;
+    let before = count_of(show, "from", 0, MOST_BEFORE)?;
     let bounds = bounds_of(show)?;
     Some(Order::Show(ShowOptions {
         criterion,
         form,
         why,
+        before,
         bounds,
     }))
 }
@@ -259,9 +264,9 @@ fn flag_of(matches: &ArgMatches<'_>, name: &str) -> Option<bool>
 fn settings_of(bench: &ArgMatches<'_>) -> Option<Settings>
     ensures { result ≡ settings_in (rows_of (found_of bench.now)) }
 {
-    let cells = count_of(bench, "ring", MOST_CELLS)?;
-    let patience = count_of(bench, "patience", MOST_TIMES)?;
-    let rounds = count_of(bench, "rounds", MOST_TIMES)?;
+    let cells = count_of(bench, "ring", 1, MOST_CELLS)?;
+    let patience = count_of(bench, "patience", 1, MOST_TIMES)?;
+    let rounds = count_of(bench, "rounds", 1, MOST_TIMES)?;
     let bounds = bounds_of(bench)?;
     Some(Settings {
         cells,
@@ -272,14 +277,13 @@ fn settings_of(bench: &ArgMatches<'_>) -> Option<Settings>
     })
 }
 
-/// The number from 1 to `most` that the matches of a command hold for this option.
-fn count_of(matches: &ArgMatches<'_>, name: &str, most: u64) -> Option<u64>
-    ensures number { result
-        ≡ option_map (λ count. count.number) (count_in most name.now (rows_of (found_of matches.now))) }
-    ensures range { IfSome result (λ number. (1 ≤ number) × (number ≤ most)) }
+/// The number from `least` to `most` that the matches of a command hold for this option.
+fn count_of(matches: &ArgMatches<'_>, name: &str, least: u64, most: u64) -> Option<u64>
+    ensures number { result ≡ number_in least most name.now (rows_of (found_of matches.now)) }
+    ensures range { IfSome result (λ number. (least ≤ number) × (number ≤ most)) }
 {
     let number = matches.get_one::<u64>(name)?;
-    if number < 1 || number > most {
+    if number < least || number > most {
         return None;
     }
     Some(number)
@@ -289,8 +293,8 @@ fn count_of(matches: &ArgMatches<'_>, name: &str, most: u64) -> Option<u64>
 fn bounds_of(matches: &ArgMatches<'_>) -> Option<Bounds>
     ensures { result ≡ bounds_in (rows_of (found_of matches.now)) }
 {
-    let window = count_of(matches, "window", MOST_TRANSACTIONS)?;
-    let states = count_of(matches, "states", MOST_STATES)?;
+    let window = count_of(matches, "window", 1, MOST_TRANSACTIONS)?;
+    let states = count_of(matches, "states", 1, MOST_STATES)?;
     Some(Bounds {
         window: window as u8,
         states: states as u8,

@@ -1,7 +1,7 @@
 ghost use Rattle.std.specs.Prelude.{◌≡◌, IfOk, IsOkAnd, codes, false};
 ghost use Rattle.clap.specs.Words.{AddsSubcommand, app_of, new_app, rule_of};
-ghost use Rattle.clap.specs.declared.builder.value_parser.ValueParser.TheVariants.{Names};
-ghost use Rattle.tmw_args.specs.Program.{IsProgram, bench_among, count_to, drive_among, flag_rule, judge_among, one_to, show_among, steps, value_rule, wanting, with_bounds, with_counts, with_criterion, with_flag, with_memory, with_run_flags};
+ghost use Rattle.clap.specs.declared.builder.value_parser.ValueParser.TheVariants.{Names, Unsigned};
+ghost use Rattle.tmw_args.specs.Program.{IsProgram, bench_among, drive_among, flag_rule, judge_among, one_to, show_among, steps, value_rule, wanting, with_before, with_bounds, with_counts, with_criterion, with_flag, with_memory, with_run_flags};
 
 use clap::builder::ValueParser;
 use clap::{Arg, ArgAction, Command, value_parser};
@@ -37,6 +37,8 @@ const SHOW_TRACE_HELP: &str = "Write only the window, as traces";
 const SHOW_PAGE_HELP: &str = "Write the window as a page of HTML";
 
 const WHY_HELP: &str = "Show a part that is violated by itself";
+
+const FROM_HELP: &str = "Events before the trace, 0 to 10^15";
 
 const BENCH_SHOW_HELP: &str = "Write what `show` writes in place of the report";
 
@@ -102,6 +104,9 @@ of as few transactions and calls as it finds, and says why it is violated.
 With --trace it writes, for each state, a trace that starts with this state and
 has the events shown, and nothing else. With --page it writes one page of HTML
 that draws the window, for a browser; it needs no network.
+
+With --from N events are numbered in the whole run, of which N come before the
+trace, but for the first line. The bench in C writes this N in FILE.run.
 
 Exit status: 0 opaque (or strict) so far, 1 violated, 2 undecided, 3 malformed,
 4 for a fault, which one line on standard output names.
@@ -206,7 +211,10 @@ fn new_show<'a>(alloc: Global, criteria: &'a [&'a str]) -> Result<Command<'a>, A
     let judged = with_criterion(alloc, show, criteria, SHOW_CRITERION_HELP)?;
     let traced = with_flag(alloc, judged, "trace", SHOW_TRACE_HELP)?;
     let paged = with_flag(alloc, traced, "page", SHOW_PAGE_HELP)?;
-    with_bounds(alloc, with_flag(alloc, paged, "why", WHY_HELP)?)
+    with_bounds(
+        alloc,
+        with_before(alloc, with_flag(alloc, paged, "why", WHY_HELP)?)?,
+    )
 }
 
 /// The command `drive`, over memories of these names.
@@ -316,9 +324,23 @@ fn with_counts<'a>(alloc: Global, command: Command<'a>) -> Result<Command<'a>, A
     ensures { IfOk result (λ counted. app_of counted ≡ with_counts (app_of command.entry)) }
 {
     command
-        .arg(count_option(alloc, "ring", 4096, "256", RING_HELP))?
-        .arg(count_option(alloc, "patience", 1_000_000_000, "1000000", PATIENCE_HELP))?
-        .arg(count_option(alloc, "rounds", 1_000_000_000, "1", ROUNDS_HELP))
+        .arg(count_option(alloc, "ring", 1, 4096, "256", RING_HELP))?
+        .arg(count_option(
+            alloc,
+            "patience",
+            1,
+            1_000_000_000,
+            "1000000",
+            PATIENCE_HELP,
+        ))?
+        .arg(count_option(alloc, "rounds", 1, 1_000_000_000, "1", ROUNDS_HELP))
+}
+
+/// The command with how many events of the run come before the trace as an option.
+fn with_before<'a>(alloc: Global, command: Command<'a>) -> Result<Command<'a>, AllocError>
+    ensures { IfOk result (λ given. app_of given ≡ with_before (app_of command.entry)) }
+{
+    command.arg(count_option(alloc, "from", 0, 1_000_000_000_000_000, "0", FROM_HELP))
 }
 
 /// The command with the two bounds of judging as options.
@@ -356,25 +378,20 @@ fn number_option<'a>(
     value_option(alloc, name, "N", values, default, help)
 }
 
-/// An option that takes one large number, from 1 to `most`.
+/// An option that takes one large number, from `least` to `most`.
 fn count_option<'a>(
     alloc: Global,
     name: &'a str,
+    least: u64,
     most: u64,
     default: &'a str,
     help: &'a str,
 ) -> Arg<'a>
-    ensures rule { rule_of result ≡ value_rule name.entry.now (count_to most) default.entry.now }
+    ensures rule { rule_of result ≡ value_rule name.entry.now (Unsigned least most) default.entry.now }
     ensures local { result.global ≡ false }
 {
-    value_option(
-        alloc,
-        name,
-        "N",
-        ValueParser::unsigned(1, most),
-        default,
-        help,
-    )
+    let values = ValueParser::unsigned(least, most);
+    value_option(alloc, name, "N", values, default, help)
 }
 
 /// An option that takes one of these values, which its help names itself.

@@ -51,7 +51,7 @@ shown_form options = cond options.written.trace Traces Drawing
 -- What `show` writes of the log, by opacity, and behind what is drawn the last lines.
 abbrev pub place_text : BenchOptions → HuntRun → List ℕ
 place_text options run =
-    shown_text Opacity (shown_form options) run.shown ++ cond options.written.trace [] (last_lines options run.ends.items run.summary)
+    shown_text Opacity 0 (shown_form options) run.shown ++ cond options.written.trace [] (last_lines options run.ends.items run.summary)
 
 -- Without the log: what `show` writes of it, where that is asked for, and else the report's line and the last ones.
 abbrev pub hunt_text : BenchOptions → HuntRun → List ℕ

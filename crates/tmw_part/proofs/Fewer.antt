@@ -2,6 +2,9 @@
 use Rattle.tmw_part.proofs.Shared.{Bool, Event, List, Piece, [], all_kept, ap, arith, cases_Bool, false, inl, inr, is_of_any, kept_of, length, refl, suc, sym, true, without, without_from, ℕ, ◌+◌, ◌<◌, ◌∙◌, ◌∷◌, ◌≡◌, ◌⊎◌}
 use Rattle.std.specs.Cmp.Lexicographic.{pointwise}
 use Rattle.std.proofs.Math.Bool.{beq}
+use Rattle.std.specs.Prelude.{Decides}
+use Rattle.std.proofs.lemmas.List.{length-replicate}
+use Rattle.std.proofs.lemmas.Slice.Eq.{slice_eq-Decides}
 
 pub length-without : (pieces : List Piece) (place : ℕ) (marks : List Bool) (events : List Event) → length marks ≡ length events
     → length (without_from pieces place marks events) ≡ length events
@@ -39,23 +42,17 @@ kept-all [] = refl
 kept-all (e ∷ events) = ap (λ more. e ∷ more) (kept-all events)
 
 pub length-all : (events : List Event) → length (all_kept events) ≡ length events
-length-all [] = refl
-length-all (e ∷ events) = ap (λ n. suc n) (length-all events)
+length-all events = length-replicate (length events) true
 
 -- the test by which two lists of marks are compared
-pub same-marks : (xs ys : List Bool) → pointwise beq xs ys ≡ true → xs ≡ ys
-same-marks [] [] same = refl
-same-marks [] (y ∷ ys) same = absurd (cc)
-same-marks (x ∷ xs) [] same = absurd (cc)
-same-marks (true ∷ xs) (true ∷ ys) same = ap (λ zs. true ∷ zs) (same-marks xs ys same)
-same-marks (false ∷ xs) (false ∷ ys) same = ap (λ zs. false ∷ zs) (same-marks xs ys same)
-same-marks (true ∷ xs) (false ∷ ys) same = absurd (cc)
-same-marks (false ∷ xs) (true ∷ ys) same = absurd (cc)
+same-mark : (a b : Bool) → Decides (beq a b) (a ≡ b)
+same-mark true true = (λ _. refl, λ _. refl)
+same-mark true false = (λ same. absurd (cc), λ same. absurd (cc))
+same-mark false true = (λ same. absurd (cc), λ same. absurd (cc))
+same-mark false false = (λ _. refl, λ _. refl)
 
-itself-marks : (xs : List Bool) → pointwise beq xs xs ≡ true
-itself-marks [] = refl
-itself-marks (true ∷ xs) = itself-marks xs
-itself-marks (false ∷ xs) = itself-marks xs
+pub same-marks : (xs ys : List Bool) → Decides (pointwise beq xs ys) (xs ≡ ys)
+same-marks xs ys = slice_eq-Decides same-mark xs ys _ refl
 
 -- where the piece takes something out, fewer events are kept
 pub fewer-kept : (pieces : List Piece) (marks left : List Bool) (events : List Event) → length marks ≡ length events
@@ -64,7 +61,7 @@ fewer-kept pieces marks left events each is other =
     elim (without-fewer pieces 0 marks events each) [
       | inl same ↦
           let all : left ≡ marks = is ∙ same in
-          let bad : true ≡ false = sym (itself-marks marks) ∙ (rw all at other) in
+          let bad : true ≡ false = sym ((same-marks left marks).1 all) ∙ other in
           absurd (cc)
       | inr fewer ↦ rw is fewer
     ]

@@ -1,7 +1,7 @@
 mod Adding
 mod Closing
 mod EventsProof
-mod Fewer
+pub mod Fewer
 mod Growing
 mod ListFacts
 mod Marking

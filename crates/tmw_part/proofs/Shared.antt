@@ -28,7 +28,7 @@ pub use Rattle.tmw_part.specs.Reasons.{Changes, ComesFrom, HoldsIn, IsNeededEach
 pub use Rattle.tmw_part.specs.Shown.{answers_none, may_all_go, shown, txn_of, txns_of, unread_in}
 pub use Rattle.tmw_part.specs.Steps.{Derives, begins_before, comes_not_else, contradicts, ends_before, follows, from_else, gives, has_place, has_writer, is_asked, is_before, is_committed, is_excluded, is_held, is_known_rival, is_pair, is_rival, is_same_writer, is_some_of, may_come_from, needs, ops_at, orders, supplies, txn_at}
 pub use Rattle.tmw_part.specs.Taking.{AreTaken, AreUnfit}
-pub use Rattle.tmw_part.specs.Test.{agree, are_left_of, are_ops_left, are_placed, are_same_rows, is_among, is_left_of, is_part_at, is_same, is_same_op, is_same_row, is_same_status, nothing, staying_of, without_number}
+pub use Rattle.tmw_part.specs.Test.{agree, are_below, are_left_of, are_ops_left, are_placed, are_same_rows, is_among, is_left_of, is_part_at, is_same, is_same_op, is_same_row, is_same_status, nothing, staying_of, without_number}
 pub use Rattle.tmw_part.specs.Unlike.{first_unlike, unlike_or}
 pub use Rattle.tmw_part.specs.declared.piece.Piece.{Piece}
 pub use Rattle.tmw_part.specs.declared.step.Step.{Step}

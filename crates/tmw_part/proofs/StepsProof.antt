@@ -429,12 +429,11 @@ module _ (criterion : Criterion) (states : List State) (ts : List Txn) (steps : 
   all_hold : AllByRecursion (HoldsIn ts order) steps
   all_hold = subst (AllByRecursion (HoldsIn ts order)) (take_all (length steps) steps (omega arith)) (first_hold (length steps) (omega arith))
 
-  contradict_none : (end : Contradiction) → IsTrue (contradicts criterion states ts steps end) → ⊥
-  contradict_none = none_contradicts criterion states ts s order steps (case_at steps all_hold)
-
 pub reason_law : ReasonLaw
 reason_law criterion states ts steps begin long derives = record {
   hold = λ s order start explains.
       All-from_recursion (HoldsIn ts order) steps (all_hold criterion states ts steps begin long derives s order start explains);
-  none = λ end is s order start explains. contradict_none criterion states ts steps begin long derives s order start explains end is;
+  none = λ end is s order start explains. none_contradicts criterion states ts s order steps
+      (case_at criterion states ts steps begin long derives s order start explains steps
+      (all_hold criterion states ts steps begin long derives s order start explains)) end is;
 }

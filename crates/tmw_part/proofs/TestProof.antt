@@ -1,6 +1,7 @@
 -- The test of a part is right.
-use Rattle.tmw_part.proofs.Shared.{Aborted, Add, AreOpsLeft, AreStaying, Bool, Committed, Each, IsLeftOf, IsPart, IsTrue, List, Live, Op, Pending, Read, Some, Status, Txn, Write, [], agree, and_parts, ap, are_left_of, are_ops_left, are_placed, are_same_rows, arith, cases_Bool, eqb-true, false, inl, inr, is_among, is_left_of, is_part_at, is_same, is_same_op, is_same_row, is_same_status, is_unread, length, map, may_go, may_go_whole, nothing, operations, precedes, refl, remove, slice_get, slice_index_or, status_of, staying_of, suc, sym, true, without_number, zero, ℕ, ◌+◌, ◌<◌, ◌==◌, ◌∙◌, ◌∷◌, ◌≡◌}
+use Rattle.tmw_part.proofs.Shared.{Aborted, Add, AreOpsLeft, AreStaying, Bool, Committed, Each, IsLeftOf, IsPart, IsTrue, List, Live, Op, Pending, Read, Some, Status, Txn, Write, [], agree, and_parts, ap, are_below, are_left_of, are_ops_left, are_placed, are_same_rows, arith, cases_Bool, eqb-true, false, inl, inr, is_among, is_left_of, is_part_at, is_same, is_same_op, is_same_row, is_same_status, is_unread, length, ltb-true, map, may_go, may_go_whole, nat_lt, nothing, operations, precedes, refl, remove, slice_get, slice_index_or, status_of, staying_of, suc, sym, true, without_number, zero, ℕ, ◌+◌, ◌<◌, ◌==◌, ◌∙◌, ◌∷◌, ◌≡◌}
 use Rattle.tmw_events.proofs.Same.{same_ix}
+use Rattle.std.proofs.lemmas.List.Folds.{list_all_at}
 
 same_op : (x y : Op) → is_same_op x y ≡ true → x ≡ y
 same_op (Read q w) (Read r v) same =
@@ -147,7 +148,8 @@ goes_whole (t ∷ ts) = (
 -- What passes the test is a part.
 pub part-test : (places : List ℕ) (part whole : List Txn) → IsTrue (is_part_at places part whole) → IsPart part whole
 part-test places part whole all =
-    let (placed, others) = and_parts (are_placed (is_unread part) 0 places whole) _ all in
+    let (below, rest) = and_parts (are_below (length whole) places) _ all in
+    let (placed, others) = and_parts (are_placed (is_unread part) 0 places whole) _ rest in
     let (left, rows) = and_parts (are_left_of (is_unread part) (staying_of whole places) part) _ others in
     record {
       staying = staying_of whole places;
@@ -156,40 +158,11 @@ part-test places part whole all =
       order = rows-test (staying_of whole places) part (staying_of whole places) part rows;
     }
 
--- Each number is below the bound.
-abbrev AreBelow : ℕ → List ℕ → Type 0
-AreBelow bound places = (k d : ℕ) → k < length places → slice_index_or places k d < bound
-
-below-with : (bound n : ℕ) (places : List ℕ) → n < bound → AreBelow bound (without_number n places) → AreBelow bound places
-below-with bound n [] here below k d within = absurd (omega (arith, within))
-below-with bound n (p ∷ places) here below k d within =
-    elim (cases_Bool (p == n)) [
-      | inl is ↦ first k within (eqb-true p n is) (rw is at below)
-      | inr other ↦
-          let left : AreBelow bound (p ∷ without_number n places) = rw other at below in
-          later k within left (below-with bound n places here (λ j e in_rest. left (suc j) e (omega (arith, in_rest))))
+-- Each number that passes is below the bound.
+pub all-below : (bound : ℕ) (places : List ℕ) → IsTrue (are_below bound places) → (k d : ℕ) → k < length places
+    → slice_index_or places k d < bound
+all-below bound places all k d within =
+    elim (cases_Bool (nat_lt (slice_index_or places k d) bound)) [
+      | inl is ↦ ltb-true (slice_index_or places k d) bound is
+      | inr not_so ↦ let bad : true ≡ false = sym all ∙ list_all_at (λ n. nat_lt n bound) places k d within not_so in absurd (cc)
     ]
-  where
-    first : (k : ℕ) → k < length (p ∷ places) → p ≡ n → AreBelow bound places → slice_index_or (p ∷ places) k d < bound
-    first zero within is rest = rw is here
-    first (suc k) within is rest = rest k d (omega (arith, within))
-
-    later : (k : ℕ) → k < length (p ∷ places) → AreBelow bound (p ∷ without_number n places) → AreBelow bound places
-        → slice_index_or (p ∷ places) k d < bound
-    later zero within left rest = left zero d (omega arith)
-    later (suc k) within left rest = rest k d (omega (arith, within))
-
--- Each place is that of one of the whole.
-pub placed-below : (unread : ℕ → ℕ → Bool) (n : ℕ) (places : List ℕ) (ts : List Txn) → IsTrue (are_placed unread n places ts)
-    → AreBelow (n + length ts) places
-placed-below unread n [] [] all k d within = absurd (omega (arith, within))
-placed-below unread n (p ∷ places) [] all k d within = absurd (cc)
-placed-below unread n places (t ∷ ts) all k d within =
-    let same : n + 1 + length ts ≡ n + length (t ∷ ts) = omega arith in
-    rw (sym same) (elim (cases_Bool (is_among n places)) [
-      | inl is ↦
-          below-with (n + 1 + length ts) n places (omega arith) (placed-below unread (n + 1) (without_number n places) ts (rw is at all)) k d within
-      | inr none ↦
-          let (may, more) = and_parts (may_go_whole unread t) _ (rw none at all) in
-          placed-below unread (n + 1) places ts more k d within
-    ])

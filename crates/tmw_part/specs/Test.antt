@@ -1,6 +1,6 @@
 -- The test of a part: each of its transactions is left of one of the whole, the others may go, and the precedence is the same.
-use Rattle.std.specs.Prelude.{◌==◌, ◌&&◌, ◌||◌, ◌+◌, ℕ, Bool, true, false, not, List, [], ◌∷◌, map, slice_index_or, Option, Some, None, if◌then◌else◌}
-use Rattle.std.specs.List.{list_all}
+use Rattle.std.specs.Prelude.{◌==◌, ◌&&◌, ◌||◌, ◌+◌, ℕ, Bool, true, false, not, nat_lt, List, [], ◌∷◌, length, map, slice_index_or, Option, Some, None, if◌then◌else◌}
+use Rattle.std.specs.List.{list_all, list_any}
 use Rattle.tmw_defs.specs.declared.op.Op.{Op}
 use Rattle.tmw_defs.specs.declared.op.Op.TheVariants.{Read, Write, Add}
 use Rattle.tmw_defs.specs.declared.status.Status.{Status}
@@ -94,12 +94,15 @@ are_same_rows ts us (a ∷ as') (b ∷ bs) = is_same_row a b ts us && are_same_r
 
 -- The number is one of these; and they without the first that is this one.
 abbrev pub is_among : ℕ → List ℕ → Bool
-is_among n [] = false
-is_among n (p ∷ places) = (p == n) || is_among n places
+is_among n places = list_any (λ p. p == n) places
 
 abbrev pub without_number : ℕ → List ℕ → List ℕ
 without_number n [] = []
 without_number n (p ∷ places) = if p == n then places else p ∷ without_number n places
+
+-- Each number is below the bound.
+abbrev pub are_below : ℕ → List ℕ → Bool
+are_below bound places = list_all (λ n. nat_lt n bound) places
 
 -- Each of these, of which the first has this number, has one of the places, or may go; and each place is one of theirs.
 abbrev pub are_placed : (ℕ → ℕ → Bool) → ℕ → List ℕ → List Txn → Bool
@@ -118,6 +121,7 @@ staying_of whole places = map (λ n. slice_index_or whole n nothing) places
 
 abbrev pub is_part_at : List ℕ → List Txn → List Txn → Bool
 is_part_at places part whole =
-    are_placed (is_unread part) 0 places whole
+    are_below (length whole) places
+    && (are_placed (is_unread part) 0 places whole
     && (are_left_of (is_unread part) (staying_of whole places) part
-    && are_same_rows (staying_of whole places) part (staying_of whole places) part)
+    && are_same_rows (staying_of whole places) part (staying_of whole places) part))

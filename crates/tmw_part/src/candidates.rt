@@ -9,10 +9,7 @@ use tmw_events::Ix;
 /// Adds the steps from real time between the one and each of these transactions.
 fn push_real_times(steps: &mut Vec<Step>, drawn: &[Drawn], one: usize) -> Result<(), AllocError> {
     for other in drawn {
-        steps.push(Step::RealTime {
-            one,
-            other: other.place,
-        })?;
+        steps.push(Step::RealTime(one, other.place))?;
     }
     Ok(())
 }
@@ -84,16 +81,8 @@ fn push_firsts(steps: &mut Vec<Step>, drawn: &[Drawn], source: Source) -> Result
     for other in drawn {
         let rival = other.place;
         if let Some(left) = left_by(source.register, other.text) {
-            steps.push(Step::ReadFirst {
-                source,
-                rival,
-                left,
-            })?;
-            steps.push(Step::ChangedFirst {
-                rival,
-                left,
-                source,
-            })?;
+            steps.push(Step::ReadFirst(source, rival, left))?;
+            steps.push(Step::ChangedFirst(rival, left, source))?;
         }
     }
     Ok(())
@@ -119,11 +108,7 @@ fn push_throughs_between(
     between: usize,
 ) -> Result<(), AllocError> {
     for other in drawn {
-        steps.push(Step::Through {
-            one,
-            between,
-            other: other.place,
-        })?;
+        steps.push(Step::Through(one, between, other.place))?;
     }
     Ok(())
 }

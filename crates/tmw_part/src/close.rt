@@ -13,15 +13,10 @@ use tmw_defs::Criterion;
 /// Whether by these steps it is known what the step says.
 fn tells(steps: &[Step], step: &Step) -> bool {
     match *step {
-        Step::RealTime { one, other } => is_before(steps, one, other),
+        Step::RealTime(one, other) | Step::Through(one, _, other) => is_before(steps, one, other),
         Step::From(source) => is_given(steps, &source),
-        Step::ReadFirst { source, rival, .. } => is_before(steps, source.reader, rival),
-        Step::ChangedFirst { rival, source, .. } => ends_before(steps, rival, source.writer),
-        Step::Through {
-            one,
-            between: _between,
-            other,
-        } => is_before(steps, one, other),
+        Step::ReadFirst(source, rival, _) => is_before(steps, source.reader, rival),
+        Step::ChangedFirst(rival, _, source) => ends_before(steps, rival, source.writer),
     }
 }
 

@@ -51,9 +51,10 @@ pub(crate) fn needed_of(register: Ix, text: &[Kind]) -> Option<u64> {
     let mut rest = text;
     while let [call, answer, more @ ..] = rest {
         match operation(*call, *answer) {
-            Some(Op::Read(other, value)) if other == register => return Some(value),
-            Some(Op::Write(other, _value)) if other == register => return None,
-            Some(Op::Add(other, _added, value)) if other == register => return Some(value),
+            Some(Op::Read(other, value) | Op::Add(other, _, value)) if other == register => {
+                return Some(value);
+            }
+            Some(Op::Write(other, _)) if other == register => return None,
             _ => {}
         }
         rest = more;
@@ -87,8 +88,7 @@ pub(crate) fn writes(register: Ix, text: &[Kind]) -> bool
     let mut rest = text;
     while let [call, answer, more @ ..] = rest {
         match operation(*call, *answer) {
-            Some(Op::Write(other, _value)) if other == register => return true,
-            Some(Op::Add(other, _added, _value)) if other == register => return true,
+            Some(Op::Write(other, _) | Op::Add(other, _, _)) if other == register => return true,
             _ => {}
         }
         rest = more;
@@ -101,9 +101,8 @@ fn answer_of(register: Ix, op: Op) -> Option<u64>
     ensures { result ≡ answer_of register.number op }
 {
     let (other, value) = match op {
-        Op::Read(other, value) => (other, value),
-        Op::Write(_other, _value) => return None,
-        Op::Add(other, _added, value) => (other, value),
+        Op::Read(other, value) | Op::Add(other, _, value) => (other, value),
+        Op::Write(_, _) => return None,
     };
     if other == register { Some(value) } else { None }
 }
@@ -113,8 +112,7 @@ fn known_after(register: Ix, known: Option<u64>, op: Op) -> Option<u64>
     ensures { result ≡ known_after register.number known op }
 {
     let (other, value) = match op {
-        Op::Read(other, value) => (other, value),
-        Op::Write(other, value) => (other, value),
+        Op::Read(other, value) | Op::Write(other, value) => (other, value),
         Op::Add(other, added, value) => (other, value.wrapping_add(added)),
     };
     if other == register {

@@ -20,12 +20,7 @@ fn push_unlike(
     text: &[Kind],
 ) -> Result<(), AllocError> {
     if let Some((expected, read)) = find_unlike(register, text) {
-        ends.push(Contradiction::Unlike {
-            reader,
-            register,
-            expected,
-            read,
-        })?;
+        ends.push(Contradiction::Unlike(reader, register, expected, read))?;
     }
     Ok(())
 }
@@ -42,11 +37,7 @@ fn push_reads(
         let register = Ix { number };
         push_unlike(ends, reader, register, one.text)?;
         if let Some(value) = needed_of(register, one.text) {
-            ends.push(Contradiction::NoSource {
-                reader,
-                register,
-                value,
-            })?;
+            ends.push(Contradiction::NoSource(reader, register, value))?;
             push_unlike(ends, reader, register, text_at(window, reader))?;
         }
     }

@@ -266,33 +266,21 @@ pub(crate) fn follows(
     ensures { result ≡ follows criterion states.now (txns_of transactions.now) steps.now step.now }
 {
     match *step {
-        Step::RealTime { one, other } => one != other && precedes_at(transactions, one, other),
+        Step::RealTime(one, other) => one != other && precedes_at(transactions, one, other),
         Step::From(source) => {
             is_asked(criterion, transactions, steps, &source)
                 && may_come_from(states, transactions, &source, source.writer)
                 && is_only(states, transactions, steps, &source)
         }
-        Step::ReadFirst {
-            source,
-            rival,
-            left,
-        } => {
+        Step::ReadFirst(source, rival, left) => {
             is_known_rival(transactions, steps, &source, rival, left)
                 && begins_before(steps, source.writer, rival)
         }
-        Step::ChangedFirst {
-            rival,
-            left,
-            source,
-        } => {
+        Step::ChangedFirst(rival, left, source) => {
             is_known_rival(transactions, steps, &source, rival, left)
                 && is_late(steps, &source, rival)
         }
-        Step::Through {
-            one,
-            between,
-            other,
-        } => {
+        Step::Through(one, between, other) => {
             has_place(criterion, transactions, steps, between)
                 && is_before(steps, one, between)
                 && is_before(steps, between, other)
@@ -315,11 +303,7 @@ pub(crate) fn contradicts(
         Contradiction::Cycle(place) => {
             has_place(criterion, transactions, steps, place) && is_before(steps, place, place)
         }
-        Contradiction::NoSource {
-            reader,
-            register,
-            value,
-        } => {
+        Contradiction::NoSource(reader, register, value) => {
             let source = Source {
                 reader,
                 register,
@@ -328,12 +312,7 @@ pub(crate) fn contradicts(
             };
             is_without_source(criterion, states, transactions, steps, &source)
         }
-        Contradiction::Unlike {
-            reader,
-            register,
-            expected,
-            read,
-        } => {
+        Contradiction::Unlike(reader, register, expected, read) => {
             let unlike = find_unlike(register, text_at(transactions, reader));
             has_place(criterion, transactions, steps, reader) && is_pair(expected, read, unlike)
         }

@@ -40,15 +40,10 @@ fn orders(one: usize, other: usize, step: &Step) -> bool
     ensures { result ≡ orders one other step.now }
 {
     match *step {
-        Step::RealTime { one: a, other: b } => a == one && b == other,
+        Step::RealTime(a, b) | Step::Through(a, _, b) => a == one && b == other,
         Step::From(source) => is_at(one, source.writer) && source.reader == other,
-        Step::ReadFirst { source, rival, .. } => source.reader == one && rival == other,
-        Step::ChangedFirst { rival, source, .. } => rival == one && is_at(other, source.writer),
-        Step::Through {
-            one: a,
-            between: _between,
-            other: b,
-        } => a == one && b == other,
+        Step::ReadFirst(source, rival, _) => source.reader == one && rival == other,
+        Step::ChangedFirst(rival, _, source) => rival == one && is_at(other, source.writer),
     }
 }
 

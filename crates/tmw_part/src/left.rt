@@ -15,9 +15,8 @@ fn is_answered(register: Ix, value: u64, op: Op) -> bool
     ensures { result ≡ is_answered register.number value op }
 {
     match op {
-        Op::Read(other, answer) => other == register && answer == value,
-        Op::Write(_other, _written) => false,
-        Op::Add(other, _added, answer) => other == register && answer == value,
+        Op::Read(other, answer) | Op::Add(other, _, answer) => other == register && answer == value,
+        Op::Write(_, _) => false,
     }
 }
 
@@ -25,12 +24,7 @@ fn is_answered(register: Ix, value: u64, op: Op) -> bool
 fn answers_none(ops: &[Op], register: Ix, value: u64) -> bool
     ensures { result ≡ answers_none register.number value ops.now }
 {
-    for op in ops {
-        if is_answered(register, value, *op) {
-            return false;
-        }
-    }
-    true
+    ops.iter().all(|op| !is_answered(register, value, *op))
 }
 
 /// Whether no operation of the part was answered this value of this register.
@@ -69,8 +63,7 @@ fn is_same_op(one: Op, other: Op) -> bool
     ensures { result ≡ is_same_op one other }
 {
     match (one, other) {
-        (Op::Read(q, w), Op::Read(r, v)) => q == r && w == v,
-        (Op::Write(q, w), Op::Write(r, v)) => q == r && w == v,
+        (Op::Read(q, w), Op::Read(r, v)) | (Op::Write(q, w), Op::Write(r, v)) => q == r && w == v,
         (Op::Add(q, e, w), Op::Add(r, d, v)) => q == r && e == d && w == v,
         _ => false,
     }
@@ -131,10 +124,10 @@ fn is_same_status(one: Status, other: Status) -> bool
     ensures { result ≡ is_same_status one other }
 {
     match (one, other) {
-        (Status::Live, Status::Live) => true,
-        (Status::Pending, Status::Pending) => true,
-        (Status::Committed, Status::Committed) => true,
-        (Status::Aborted, Status::Aborted) => true,
+        (Status::Live, Status::Live)
+        | (Status::Pending, Status::Pending)
+        | (Status::Committed, Status::Committed)
+        | (Status::Aborted, Status::Aborted) => true,
         _ => false,
     }
 }
@@ -143,9 +136,7 @@ fn register_of(op: Op) -> Ix
     ensures { result.number ≡ register_of op }
 {
     match op {
-        Op::Read(register, _value) => register,
-        Op::Write(register, _value) => register,
-        Op::Add(register, _added, _value) => register,
+        Op::Read(register, _) | Op::Write(register, _) | Op::Add(register, _, _) => register,
     }
 }
 
@@ -180,13 +171,10 @@ fn is_unlike_same(left: &[Kind], whole: &[Kind], register: Ix) -> bool
 fn agree(ops: &[Op], left: &[Kind], whole: &[Kind]) -> bool
     ensures { result ≡ agree (operations left.now) (operations whole.now) ops.now }
 {
-    for op in ops {
+    ops.iter().all(|op| {
         let register = register_of(*op);
-        if !leaves_same(left, whole, register) || !is_unlike_same(left, whole, register) {
-            return false;
-        }
-    }
-    true
+        leaves_same(left, whole, register) && is_unlike_same(left, whole, register)
+    })
 }
 
 /// Whether the other is left of the one.

@@ -125,12 +125,7 @@ fn mark_at(marks: &[bool], place: usize) -> bool
 pub fn are_whole(marks: &[bool], calls: &[Piece]) -> bool
     ensures { result ≡ are_whole marks.now calls.now }
 {
-    for call in calls {
-        if mark_at(marks, call.from) != mark_at(marks, call.upto) {
-            return false;
-        }
-    }
-    true
+    calls.iter().all(|call| mark_at(marks, call.from) == mark_at(marks, call.upto))
 }
 
 /// Whether an event of this kind may be missing: it calls no write, answered or not, of a value that the part reads.

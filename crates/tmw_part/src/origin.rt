@@ -40,8 +40,8 @@ fn reads(register: Ix, value: u64, kind: Kind, next: Option<Kind>) -> bool
     ensures { result ≡ reads register.number value kind next }
 {
     match (kind, next) {
-        (Kind::R(other), Some(Kind::V(found))) => other == register && found == value,
-        (Kind::N(other, _), Some(Kind::V(found))) => other == register && found == value,
+        (Kind::R(other) | Kind::N(other, _), Some(Kind::V(found))) => other == register
+            && found == value,
         _ => false,
     }
 }
@@ -51,8 +51,8 @@ fn known_past(register: Ix, known: Option<u64>, kind: Kind, next: Option<Kind>) 
     ensures { result ≡ known_past register.number known kind next }
 {
     match (kind, next) {
-        (Kind::R(other), Some(Kind::V(value))) if other == register => Some(value),
-        (Kind::W(other, value), Some(Kind::K)) if other == register => Some(value),
+        (Kind::R(other), Some(Kind::V(value))) | (Kind::W(other, value), Some(Kind::K))
+            if other == register => { Some(value) }
         (Kind::N(other, added), Some(Kind::V(value))) if other == register => {
             Some(value.wrapping_add(added))
         }

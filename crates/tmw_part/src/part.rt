@@ -1,5 +1,5 @@
 ghost use Rattle.std.specs.Prelude.{◌≡◌, ◌<◌, All, IfOk, length};
-ghost use Rattle.tmw_part.specs.Test.{are_placed, is_among, is_part_at, staying_of, without_number};
+ghost use Rattle.tmw_part.specs.Test.{are_below, are_placed, is_among, is_part_at, staying_of, without_number};
 ghost use Rattle.tmw_part.specs.Shown.{shown, txns_of, unread_in};
 
 use crate::left::{are_left_of, are_same_rows, may_go_whole};
@@ -10,12 +10,14 @@ use std::alloc::{AllocError, Global};
 fn is_among(number: usize, places: &[usize]) -> bool
     ensures { result ≡ is_among number places.now }
 {
-    for place in places {
-        if *place == number {
-            return true;
-        }
-    }
-    false
+    places.iter().any(|place| *place == number)
+}
+
+/// Whether each of these numbers is below the bound.
+fn are_below(bound: usize, places: &[usize]) -> bool
+    ensures { result ≡ are_below bound places.now }
+{
+    places.iter().all(|place| *place < bound)
 }
 
 /// Returns these numbers without the first that is this one.
@@ -88,6 +90,9 @@ pub fn is_part(
     ensures { IfOk result (λ is. is
         ≡ is_part_at places.now (txns_of part.now) (txns_of whole.now)) }
 {
+    if !are_below(whole.len(), places) {
+        return Ok(false);
+    }
     if !are_placed(alloc, part, places, whole)? {
         return Ok(false);
     }

@@ -55,8 +55,9 @@ fn reads_put(piece: &Piece, window: &[Event], kind: Kind, next: Option<Kind>) ->
     ensures { result ≡ reads_put piece.now window.now kind next }
 {
     match (kind, next) {
-        (Kind::R(register), Some(Kind::V(value))) => is_put(piece, window, register, value),
-        (Kind::N(register, _), Some(Kind::V(value))) => is_put(piece, window, register, value),
+        (Kind::R(register) | Kind::N(register, _), Some(Kind::V(value))) => {
+            is_put(piece, window, register, value)
+        }
         _ => false,
     }
 }

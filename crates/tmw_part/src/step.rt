@@ -13,31 +13,16 @@ pub struct Source {
 /// What holds in each serial order of some transactions, and why.
 #[derive(Clone, Copy)]
 pub enum Step {
-    /// `one` stands before `other`: it was completed before `other` began.
-    RealTime {
-        one: usize,
-        other: usize,
-    },
+    /// The first stands before the second: it was completed before that began.
+    RealTime(usize, usize),
     /// The value comes from there: nobody else can have left it.
     From(Source),
-    /// The reader stands before `rival`, which leaves this other value in the register and stands after the source.
-    ReadFirst {
-        source: Source,
-        rival: usize,
-        left: u64,
-    },
-    /// `rival` stands before the source's writer: it leaves this other value in the register and stands before the reader.
-    ChangedFirst {
-        rival: usize,
-        left: u64,
-        source: Source,
-    },
-    /// `one` stands before `other`: it stands before `between`, and `between` before `other`.
-    Through {
-        one: usize,
-        between: usize,
-        other: usize,
-    },
+    /// The reader stands before the rival, which leaves this other value in the register and stands after the source.
+    ReadFirst(Source, usize, u64),
+    /// The rival stands before the source's writer: it leaves this other value in the register and stands before the reader.
+    ChangedFirst(usize, u64, Source),
+    /// The first stands before the last: it stands before the one between, and that before the last.
+    Through(usize, usize, usize),
 }
 
 /// What can be so in no serial order.
@@ -45,18 +30,9 @@ pub enum Step {
 pub enum Contradiction {
     /// The transaction at this place stands before itself.
     Cycle(usize),
-    /// The reader read the value of the register, and nobody can have left it there.
-    NoSource {
-        reader: usize,
-        register: Ix,
-        value: u64,
-    },
-    /// The transaction read `read` of the register, where by its own operations before that it had to find `expected`.
-    /// This is its first such answer of that register.
-    Unlike {
-        reader: usize,
-        register: Ix,
-        expected: u64,
-        read: u64,
-    },
+    /// The reader read this value of the register, and nobody can have left it there.
+    NoSource(usize, Ix, u64),
+    /// By its own operations before, the reader had to find the first value in the register, and read the second. This is
+    /// its first such answer of that register.
+    Unlike(usize, Ix, u64, u64),
 }

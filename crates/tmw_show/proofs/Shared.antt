@@ -33,7 +33,7 @@ pub use Rattle.tmw_show.specs.Drawing.{blanks, last_thread, rows_text}
 pub use Rattle.tmw_show.specs.Explaining.{IsNeededOf, IsShownFor, IsViolation, marks_of, reason_of}
 pub use Rattle.tmw_show.specs.Page.{about_json, criterion_json, event_json, json_text, list_json, mark_json, needed_json, state_json, told_of, why_json, window_json}
 pub use Rattle.tmw_show.specs.Running.{AnswersShow, IsShownOf, shown_events}
-pub use Rattle.tmw_show.specs.Sentences.{clause_text, end_words, step_words, told_words, word_text}
+pub use Rattle.tmw_show.specs.Sentences.{clause_text, end_text, step_text, told_sentence}
 pub use Rattle.tmw_show.specs.TracesLaw.{AreJudgedLike, IsContradictory, IsHeaderFor, TellOf, TracesLaw, rules_from}
 pub use Rattle.tmw_show.specs.Values.{long_values, names_from, values_after}
 pub use Rattle.tmw_show.specs.declared.command.needed.Needed.{Needed}

@@ -1,5 +1,5 @@
 -- The events that are shown of a trace are numbered up to the trace's length.
-use Rattle.tmw_show.proofs.Shared.{Event, IsShowing, IsShown, IsShownOf, List, Rules, ShowOptions, Showing, Shown, State, Verdict, ap, arith, length, length-drop, length-take, shown_length, take, ℕ, ◌+◌, ◌-◌, ◌^◌, ◌∙◌, ◌≤◌}
+use Rattle.tmw_show.proofs.Shared.{Event, IsShown, IsShownOf, List, Rules, ShowOptions, Shown, State, Verdict, ap, arith, length, length-drop, length-take, shown_length, take, ℕ, ◌+◌, ◌-◌, ◌^◌, ◌∙◌, ◌≤◌}
 
 -- the window ends within the history
 numbered : (rules : Rules) (history : List Event) (v : Verdict) (from : ℕ) (states : List State) (events : List Event)
@@ -12,12 +12,6 @@ numbered rules history v from states events shown =
     let inside = shown.outcomes.last.is.0 in
     let begins = shown.begins in
     omega (arith, before, all, rest, inside, begins)
-
-pub shown-within : (rules : Rules) (history : List Event) (showing : Showing) → IsShowing rules history showing
-    → showing.from + length showing.events.items ≤ showing.fed
-shown-within rules history showing is =
-    let within = numbered rules history showing.verdict showing.from _ showing.events.items is.shown in
-    omega (arith, within, is.counted)
 
 pub shown-numbered : (options : ShowOptions) (bytes : List ℕ) (shown : Shown) → IsShownOf options bytes shown
     → shown.showing.from + length shown.showing.events.items ≤ 2 ^ 40

@@ -1,6 +1,6 @@
 -- How a window is drawn: the states from which it begins, and its events in a column for each thread. Numbers are decimal, without
 -- sign and without leading zeros.
-use Rattle.std.specs.Prelude.{ℕ, Bool, true, false, ◌+◌, ◌-◌, ◌*◌, ◌==◌, List, [], ◌∷◌, ◌++◌, length, take, replicate, max, codes, Option, Some, None, if◌then◌else◌}
+use Rattle.std.specs.Prelude.{ℕ, Bool, true, false, ◌+◌, ◌-◌, ◌*◌, ◌==◌, List, [], ◌∷◌, ◌++◌, length, take, replicate, max, codes, Option, Some, None, option_map, if◌then◌else◌}
 use Rattle.std.specs.List.{flat_map}
 use Rattle.std.specs.Fmt.{decimal}
 use Rattle.tmw_events.specs.declared.event.Event.{Event}
@@ -11,7 +11,7 @@ use Rattle.tmw_defs.specs.Opaque.{State}
 use Rattle.tmw_defs.specs.declared.criterion.Criterion.{Criterion}
 use Rattle.tmw_defs.specs.declared.criterion.Criterion.TheVariants.{Opacity, Strict}
 use Rattle.tmw_defs.specs.declared.verdict.Verdict.{Verdict}
-use Rattle.tmw_defs.specs.declared.verdict.Verdict.TheVariants.{Violated, Undecided, Malformed}
+use Rattle.tmw_defs.specs.declared.verdict.Verdict.TheVariants.{OpaqueSoFar, StrictSoFar, Violated, Undecided, Malformed}
 use Rattle.tmw_defs.specs.declared.verdict.Why.{Why}
 use Rattle.tmw_defs.specs.declared.verdict.Why.TheVariants.{Transactions, States}
 use Rattle.tmw_wellformed.specs.declared.malformed.Malformed.{Malformed as Fault}
@@ -78,16 +78,35 @@ abbrev pub malformed_text : Option Broken → List ℕ
 malformed_text (Some broken) = rule_text broken.rule
 malformed_text None = codes "malformed"
 
--- the mark of the event of this number: what is wrong there, where it is the verdict's, and else nothing
-abbrev pub mark_text : Criterion → Option Broken → Verdict → ℕ → List ℕ
-mark_text criterion broken (Violated at) number = if number == at then violated_text criterion else []
-mark_text criterion broken (Undecided at why) number = if number == at then undecided_text why else []
-mark_text criterion broken (Malformed at) number = if number == at then malformed_text broken else []
-mark_text criterion broken _ number = []
+-- what is wrong by the verdict, where anything is
+abbrev pub wrong_by : Criterion → Option Broken → Verdict → List ℕ
+wrong_by criterion broken (Violated at) = violated_text criterion
+wrong_by criterion broken (Undecided at why) = undecided_text why
+wrong_by criterion broken (Malformed at) = malformed_text broken
+wrong_by criterion broken _ = []
 
--- what is told of that event
+abbrev pub wrong_text : Told → List ℕ
+wrong_text told = wrong_by told.criterion told.broken told.verdict
+
+-- the number of the event that the verdict names, if it names one
+abbrev pub settled_at : Verdict → Option ℕ
+settled_at OpaqueSoFar = None
+settled_at StrictSoFar = None
+settled_at (Violated at) = Some at
+settled_at (Undecided at why) = Some at
+settled_at (Malformed at) = Some at
+
+-- and its number in the whole run
+abbrev pub marked_at : Told → Option ℕ
+marked_at told = option_map (λ at. told.before + at) (settled_at told.verdict)
+
+-- what is told of the event of this number: what is wrong, where this one has the mark, and else nothing
+abbrev pub told_by_mark : Told → ℕ → Option ℕ → List ℕ
+told_by_mark told number None = []
+told_by_mark told number (Some at) = if at == number then wrong_text told else []
+
 abbrev pub told_text : Told → ℕ → List ℕ
-told_text told number = mark_text told.criterion told.broken told.verdict number
+told_text told number = told_by_mark told number (marked_at told)
 
 -- what is told stands two places behind the heads, or behind a row that is longer than they
 abbrev pub beside : ℕ → List ℕ → List ℕ

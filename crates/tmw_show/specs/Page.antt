@@ -11,17 +11,14 @@ use Rattle.tmw_cuts.specs.Members.{members}
 use Rattle.tmw_defs.specs.Opaque.{State}
 use Rattle.tmw_defs.specs.declared.criterion.Criterion.{Criterion}
 use Rattle.tmw_defs.specs.declared.criterion.Criterion.TheVariants.{Opacity, Strict}
-use Rattle.tmw_defs.specs.declared.verdict.Verdict.{Verdict}
-use Rattle.tmw_defs.specs.declared.verdict.Verdict.TheVariants.{OpaqueSoFar, StrictSoFar, Violated, Undecided, Malformed}
-use Rattle.tmw_show.specs.Drawing.{told_text}
+use Rattle.tmw_show.specs.Drawing.{marked_at, wrong_text}
 use Rattle.tmw_report.specs.Lines.{report_by}
 use Rattle.tmw_show.specs.declared.command.page.parts.TheConstants.{HEAD, TAIL}
 use Rattle.tmw_show.specs.declared.command.needed.Needed.{Needed}
 use Rattle.tmw_show.specs.declared.command.needed.Needed.TheVariants.{Part}
 use Rattle.tmw_part.specs.declared.reason.Reason.{Reason}
 use Rattle.tmw_show.specs.Explaining.{reason_of}
-use Rattle.tmw_show.specs.declared.command.word.Word.{Word}
-use Rattle.tmw_show.specs.Sentences.{clauses_text, told_words}
+use Rattle.tmw_show.specs.Sentences.{clauses_text, told_sentence}
 use Rattle.tmw_show.specs.declared.command.shown.Shown.{Shown}
 use Rattle.tmw_show.specs.declared.command.told.Told.{Told}
 
@@ -43,7 +40,7 @@ window_json registers states events =
     codes ",\"states\":["
     ++ (list_json (state_json registers) states ++ (codes "],\"events\":[" ++ (list_json event_json events ++ codes "]")))
 
--- the criterion, how many registers there are, and how many events stand before the window
+-- the criterion, how many registers there are, and how many events of the run stand before the window
 abbrev pub criterion_json : Criterion → List ℕ
 criterion_json Opacity = codes ",\"criterion\":\"opacity\",\"registers\":"
 criterion_json Strict = codes ",\"criterion\":\"strict\",\"registers\":"
@@ -53,30 +50,23 @@ numbers_json criterion registers from =
     criterion_json criterion ++ ((48 + registers.number) ∷ codes ",\"before\":" ++ decimal from)
 
 -- the line that `judge` writes, and these
-abbrev pub about_json : Criterion → Shown → List ℕ
-about_json criterion shown =
+abbrev pub about_json : Criterion → ℕ → Shown → List ℕ
+about_json criterion from shown =
     codes "{\"report\":"
-    ++ (report_by criterion shown.showing.fed shown.showing.verdict ++ numbers_json criterion shown.registers shown.showing.from)
+    ++ (report_by criterion shown.showing.fed shown.showing.verdict ++ numbers_json criterion shown.registers from)
 
--- the number of the event that the verdict names, if it names one
-abbrev pub settled_at : Verdict → Option ℕ
-settled_at OpaqueSoFar = None
-settled_at StrictSoFar = None
-settled_at (Violated at) = Some at
-settled_at (Undecided at why) = Some at
-settled_at (Malformed at) = Some at
-
--- What is told of the event at which something is wrong.
-abbrev pub told_of : Criterion → Shown → Told
-told_of criterion shown = record { criterion = criterion; verdict = shown.showing.verdict; broken = shown.showing.broken }
+-- What is told of the event at which something is wrong, where so many events of the run come before the trace.
+abbrev pub told_of : Criterion → ℕ → Shown → Told
+told_of criterion before shown =
+    record { criterion = criterion; before = before; verdict = shown.showing.verdict; broken = shown.showing.broken }
 
 -- that event, and what is told of it
 abbrev pub mark_at : Told → Option ℕ → List ℕ
 mark_at told None = []
-mark_at told (Some at) = codes ",\"mark\":" ++ (decimal at ++ (codes ",\"told\":\"" ++ (told_text told at ++ codes "\"")))
+mark_at told (Some at) = codes ",\"mark\":" ++ (decimal at ++ (codes ",\"told\":\"" ++ (wrong_text told ++ codes "\"")))
 
 abbrev pub mark_json : Told → List ℕ
-mark_json told = mark_at told (settled_at told.verdict)
+mark_json told = mark_at told (marked_at told)
 
 -- of a violated window of which that is asked: a digit for each event, 1 for those that contradict each other
 abbrev pub digit : Bool → ℕ
@@ -88,20 +78,21 @@ needed_json (Part marks reason) = codes ",\"needed\":\"" ++ (flat_map (λ mark. 
 needed_json _ = []
 
 -- and the reason, if one is told
-abbrev pub why_json : List Word → Option Reason → List ℕ
+abbrev pub why_json : List ℕ → Option Reason → List ℕ
 why_json told None = []
 why_json told (Some reason) = codes ",\"why\":\"" ++ (clauses_text told reason ++ codes "\"")
 
 -- what is shown, as one JSON object and a line feed
-abbrev pub json_text : Criterion → Shown → List ℕ
-json_text criterion shown =
-    about_json criterion shown
+abbrev pub json_text : Criterion → ℕ → Shown → List ℕ
+json_text criterion before shown =
+    let from = before + shown.showing.from in
+    about_json criterion from shown
     ++ (window_json shown.registers (members shown.showing.states) shown.showing.events.items
-    ++ (mark_json (told_of criterion shown)
+    ++ (mark_json (told_of criterion before shown)
     ++ (needed_json shown.needed
-    ++ (why_json (told_words shown.showing.from shown.showing.events.items (reason_of shown.needed)) (reason_of shown.needed)
+    ++ (why_json (told_sentence [] from shown.showing.events.items (reason_of shown.needed)) (reason_of shown.needed)
     ++ codes "}\n"))))
 
 -- the page
-abbrev pub page_text : Criterion → Shown → List ℕ
-page_text criterion shown = HEAD.now ++ (json_text criterion shown ++ TAIL.now)
+abbrev pub page_text : Criterion → ℕ → Shown → List ℕ
+page_text criterion before shown = HEAD.now ++ (json_text criterion before shown ++ TAIL.now)

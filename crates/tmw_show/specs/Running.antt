@@ -1,5 +1,5 @@
 -- What `show` promises: from the bytes that its source tells to what its sink takes and the exit status.
-use Rattle.std.specs.Prelude.{◌≡◌, ℕ, List, ◌++◌, Option, Some, None, Result, Ok, Err}
+use Rattle.std.specs.Prelude.{◌≡◌, ◌+◌, ℕ, List, ◌++◌, Option, Some, None, Result, Ok, Err}
 use Rattle.tmw_lines.specs.TextFault.{HasTextFault}
 use Rattle.tmw_trace.specs.Text.{trace_grammar, trace_text, AreEvents}
 use Rattle.tmw_trace.specs.declared.header.Header.{Header}
@@ -27,7 +27,7 @@ use Rattle.tmw_show.specs.declared.command.shown.Shown.{Shown}
 use Rattle.tmw_show.specs.Drawing.{states_text, window_text}
 use Rattle.tmw_show.specs.Explaining.{IsNeededOf, marks_of, needed_text, reason_of}
 use Rattle.tmw_show.specs.Page.{page_text, told_of}
-use Rattle.tmw_show.specs.Sentences.{reason_text, told_words}
+use Rattle.tmw_show.specs.Sentences.{reason_text, told_sentence}
 use Rattle.tmw_show.specs.TracesText.{traces_text}
 use Rattle.tmw_show.specs.Values.{long_values}
 
@@ -53,20 +53,22 @@ abbrev pub shown_events : Shown → List Event
 shown_events shown = kept_of (marks_of shown.needed shown.showing.events.items) shown.showing.events.items
 
 -- What is written in this form: the report's line, the states from which the last window begins, those of its events that are shown, and
--- the reason why the window is violated, where it is told; or the events alone, as traces; or a page that draws them.
-abbrev pub drawn_text : Criterion → Shown → List ℕ
-drawn_text criterion shown =
+-- the reason why the window is violated, where it is told; or the events alone, as traces; or a page that draws them. But for the report's
+-- line, which numbers events in the trace, the numbers are those in the whole run, of which so many events come before the trace.
+abbrev pub drawn_text : Criterion → ℕ → Shown → List ℕ
+drawn_text criterion before shown =
+    let from = before + shown.showing.from in
     report_by criterion shown.showing.fed shown.showing.verdict
     ++ (states_text shown.registers (members shown.showing.states)
     ++ (needed_text shown.needed shown.showing.events.items
-    ++ (window_text (told_of criterion shown) shown.showing.from (marks_of shown.needed shown.showing.events.items) shown.showing.events.items
-    ++ reason_text (long_values (shown_events shown)) (told_words shown.showing.from shown.showing.events.items (reason_of shown.needed))
-    (reason_of shown.needed))))
+    ++ (window_text (told_of criterion before shown) from (marks_of shown.needed shown.showing.events.items) shown.showing.events.items
+    ++ (let values = long_values (shown_events shown) in
+    reason_text values (told_sentence values from shown.showing.events.items (reason_of shown.needed)) (reason_of shown.needed)))))
 
-abbrev pub shown_text : Criterion → Form → Shown → List ℕ
-shown_text criterion Drawing shown = drawn_text criterion shown
-shown_text criterion Traces shown = traces_text shown.registers (shown_events shown) (members shown.showing.states)
-shown_text criterion Page shown = page_text criterion shown
+abbrev pub shown_text : Criterion → ℕ → Form → Shown → List ℕ
+shown_text criterion before Drawing shown = drawn_text criterion before shown
+shown_text criterion before Traces shown = traces_text shown.registers (shown_events shown) (members shown.showing.states)
+shown_text criterion before Page shown = page_text criterion before shown
 
 abbrev pub shown_status : Shown → ℕ
 shown_status shown = verdict_status shown.showing.verdict
@@ -84,4 +86,4 @@ remark_of shown = remark_by shown.showing.broken shown.showing.verdict
 -- errors is told a remark on the run, or which line has a fault.
 abbrev pub ShowsBytes : {S K E : Type 0} → FromSource S → ToSink K → ToSink E → ShowOptions → S → S → K → K → E → E → ℕ → Type 0
 ShowsBytes From To Errors options =
-    IsRemarkedRun From To (AnswersShow options) (shown_text options.criterion options.form) shown_status (RemarksTrace Errors remark_of)
+    IsRemarkedRun From To (AnswersShow options) (shown_text options.criterion options.before options.form) shown_status (RemarksTrace Errors remark_of)

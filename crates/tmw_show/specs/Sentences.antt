@@ -1,4 +1,4 @@
--- The sentences that tell why a window is violated.
+-- The sentences that tell why a window is violated. Values that are among some have names.
 use Rattle.std.specs.Prelude.{ℕ, ◌+◌, List, [], ◌∷◌, ◌++◌, codes, Option, Some, None}
 use Rattle.std.specs.List.{flat_map}
 use Rattle.std.specs.Fmt.{decimal}
@@ -16,156 +16,112 @@ use Rattle.tmw_part.specs.declared.step.Step.{Step}
 use Rattle.tmw_part.specs.declared.step.Step.TheVariants.{RealTime, From, ReadFirst, ChangedFirst, Through}
 use Rattle.tmw_show.specs.Names.{name_text}
 use Rattle.tmw_show.specs.Values.{value_text}
-use Rattle.tmw_show.specs.declared.command.word.Word.{Word}
-use Rattle.tmw_show.specs.declared.command.word.Word.TheVariants.{Transaction, Value, Number, Saying}
-use Rattle.tmw_show.specs.declared.command.word.Phrase.{Phrase}
-use Rattle.tmw_show.specs.declared.command.word.Phrase.TheVariants.{Ended, Began, Read, FromRegister, Which, LeftThere, Where, Left, InRegister, So, Before, NobodyLeft, OwnCalls, Cycle as IsCycle, Put, IntoRegister, AtEvent, GivenUp as Aborts, Unasked as NotAsked, Overwritten as Overwrites, NoEvent}
-
-abbrev pub phrase_text : Phrase → List ℕ
-phrase_text Ended = codes " ended before "
-phrase_text Began = codes " began"
-phrase_text Read = codes " read "
-phrase_text FromRegister = codes " from register "
-phrase_text Which = codes ", which "
-phrase_text LeftThere = codes " left there"
-phrase_text Where = codes ", where "
-phrase_text Left = codes " left "
-phrase_text InRegister = codes " in register "
-phrase_text So = codes ": "
-phrase_text Before = codes " before "
-phrase_text NobodyLeft = codes ", which neither the start nor another commit left"
-phrase_text OwnCalls = codes ", where its own earlier calls make it "
-phrase_text IsCycle = codes " would come before itself"
-phrase_text Put = codes " put "
-phrase_text IntoRegister = codes " into register "
-phrase_text AtEvent = codes " at event "
-phrase_text Aborts = codes ", and aborted"
-phrase_text NotAsked = codes ", and had not asked to commit"
-phrase_text Overwrites = codes ", then another value"
-phrase_text NoEvent = codes "no earlier event of this window puts "
-
--- a word of a sentence, where these values have names
-abbrev pub word_text : List ℕ → Word → List ℕ
-word_text values (Transaction place) = name_text place
-word_text values (Value value) = value_text values value
-word_text values (Number number) = decimal number
-word_text values (Saying phrase) = phrase_text phrase
 
 -- what follows: the one stands before the other
-abbrev pub so_words : ℕ → ℕ → List Word
-so_words one other = Saying So ∷ Transaction one ∷ Saying Before ∷ Transaction other ∷ []
+abbrev pub so_text : ℕ → ℕ → List ℕ
+so_text one other = codes ": " ++ (name_text one ++ (codes " before " ++ name_text other))
+
+-- what is said of a transaction and a value
+abbrev pub said_text : List ℕ → ℕ → List ℕ → ℕ → List ℕ
+said_text values place said value = name_text place ++ (said ++ value_text values value)
 
 -- what was read
-abbrev pub read_words : ℕ → ℕ → ℕ → List Word
-read_words reader value register =
-    Transaction reader ∷ Saying Read ∷ Value value ∷ Saying FromRegister ∷ Number register ∷ []
+abbrev pub read_text : List ℕ → ℕ → ℕ → ℕ → List ℕ
+read_text values reader value register = said_text values reader (codes " read ") value ++ (codes " from register " ++ decimal register)
 
--- the source's
-abbrev pub of_source : Source → List Word
-of_source s = read_words s.reader s.value s.register.number
+-- The one had ended before the other began.
+abbrev pub real_time_text : ℕ → ℕ → List ℕ
+real_time_text one other = name_text one ++ (codes " ended before " ++ (name_text other ++ (codes " began" ++ so_text one other)))
 
-abbrev pub real_time_words : ℕ → ℕ → List Word
-real_time_words one other =
-    Transaction one ∷ Saying Ended ∷ Transaction other ∷ Saying Began ∷ so_words one other
+-- who left a value that was read, if it did not stand there from the start
+abbrev pub source_text : List ℕ → Source → Option ℕ → List ℕ
+source_text values s None = []
+source_text values s (Some writer) =
+    read_text values s.reader s.value s.register.number
+    ++ (codes ", which " ++ (name_text writer ++ (codes " left there" ++ so_text writer s.reader)))
 
--- who left it there, if it did not stand there from the start
-abbrev pub left_words : Source → Option ℕ → List Word
-left_words s None = []
-left_words s (Some writer) = of_source s ++ (Saying Which ∷ Transaction writer ∷ Saying LeftThere ∷ so_words writer s.reader)
+-- A value was read before the rival changed it.
+abbrev pub read_first_text : List ℕ → Source → ℕ → ℕ → List ℕ
+read_first_text values s rival left =
+    read_text values s.reader s.value s.register.number
+    ++ (codes ", where " ++ (said_text values rival (codes " left ") left ++ so_text s.reader rival))
 
-abbrev pub source_words : Source → List Word
-source_words s = left_words s s.writer
+-- The rival changed the register before the writer of the value.
+abbrev pub later_text : ℕ → Option ℕ → List ℕ
+later_text rival None = []
+later_text rival (Some writer) = so_text rival writer
 
-abbrev pub read_first_words : Source → ℕ → ℕ → List Word
-read_first_words s rival left =
-    of_source s ++ (Saying Where ∷ Transaction rival ∷ Saying Left ∷ Value left ∷ so_words s.reader rival)
-
--- before whom the rival stands: the source's writer (a reason has this step only where there is one)
-abbrev pub later_words : ℕ → Option ℕ → List Word
-later_words rival None = []
-later_words rival (Some writer) = so_words rival writer
-
-abbrev pub changed_first_words : ℕ → ℕ → Source → List Word
-changed_first_words rival left s =
-    Transaction rival ∷ Saying Left ∷ Value left ∷ Saying InRegister ∷ Number s.register.number
-    ∷ Saying Where ∷ Transaction s.reader ∷ Saying Read ∷ Value s.value ∷ later_words rival s.writer
+abbrev pub changed_first_text : List ℕ → ℕ → ℕ → Source → List ℕ
+changed_first_text values rival left s =
+    said_text values rival (codes " left ") left
+    ++ (codes " in register " ++ (decimal s.register.number
+    ++ (codes ", where " ++ (said_text values s.reader (codes " read ") s.value ++ later_text rival s.writer))))
 
 -- The sentence of a step. What follows through a third transaction is in the sentences of the others, and that a value stood there from the
 -- start is in the sentence that tells who changed it.
-abbrev pub step_words : Step → List Word
-step_words (RealTime one other) = real_time_words one other
-step_words (From s) = source_words s
-step_words (ReadFirst s rival left) = read_first_words s rival left
-step_words (ChangedFirst rival left s) = changed_first_words rival left s
-step_words (Through one between other) = []
-
-abbrev pub cycle_words : ℕ → List Word
-cycle_words place = Transaction place ∷ Saying IsCycle ∷ []
-
-abbrev pub no_source_words : ℕ → ℕ → ℕ → List Word
-no_source_words reader value register = read_words reader value register ++ (Saying NobodyLeft ∷ [])
-
-abbrev pub unlike_words : ℕ → ℕ → ℕ → ℕ → List Word
-unlike_words reader read register expected = read_words reader read register ++ (Saying OwnCalls ∷ Value expected ∷ [])
+abbrev pub step_text : List ℕ → Step → List ℕ
+step_text values (RealTime one other) = real_time_text one other
+step_text values (From s) = source_text values s s.writer
+step_text values (ReadFirst s rival left) = read_first_text values s rival left
+step_text values (ChangedFirst rival left s) = changed_first_text values rival left s
+step_text values (Through one between other) = []
 
 -- The sentence of what the steps come to.
-abbrev pub end_words : Contradiction → List Word
-end_words (Cycle place) = cycle_words place
-end_words (NoSource reader register value) = no_source_words reader value register.number
-end_words (Unlike reader register expected read) = unlike_words reader read register.number expected
+abbrev pub end_text : List ℕ → Contradiction → List ℕ
+end_text values (Cycle place) = name_text place ++ codes " would come before itself"
+end_text values (NoSource reader register value) =
+    read_text values reader value register.number ++ codes ", which neither the start nor another commit left"
+end_text values (Unlike reader register expected read) =
+    read_text values reader read register.number ++ (codes ", where its own earlier calls make it " ++ value_text values expected)
 
 -- What became of what a transaction put there.
-abbrev pub fate_words : Fate → List Word
-fate_words GivenUp = Saying Aborts ∷ []
-fate_words Unasked = Saying NotAsked ∷ []
-fate_words Overwritten = Saying Overwrites ∷ []
-fate_words Stays = []
+abbrev pub fate_text : Fate → List ℕ
+fate_text GivenUp = codes ", and aborted"
+fate_text Unasked = codes ", and had not asked to commit"
+fate_text Overwritten = codes ", then another value"
+fate_text Stays = []
 
 -- which value into which register
-abbrev pub put_words : ℕ → ℕ → List Word
-put_words value register = Value value ∷ Saying IntoRegister ∷ Number register ∷ []
+abbrev pub put_text : List ℕ → ℕ → ℕ → List ℕ
+put_text values register value = value_text values value ++ (codes " into register " ++ decimal register)
 
 -- Where a value comes from in a window before which so many events stand.
-abbrev pub origin_words : ℕ → ℕ → ℕ → Option Origin → List Word
-origin_words from register value None = Saying NoEvent ∷ put_words value register
-origin_words from register value (Some origin) =
-    Transaction origin.writer ∷ Saying Put
-    ∷ (put_words value register ++ (Saying AtEvent ∷ Number (from + (origin.place + 1)) ∷ fate_words origin.fate))
+abbrev pub origin_text : List ℕ → ℕ → ℕ → ℕ → Option Origin → List ℕ
+origin_text values from register value None = codes "no earlier event of this window puts " ++ put_text values register value
+origin_text values from register value (Some origin) =
+    name_text origin.writer ++ (codes " put " ++ (put_text values register value
+    ++ (codes " at event " ++ (decimal (from + (origin.place + 1)) ++ fate_text origin.fate))))
 
--- So of the value that the transaction at this place of the window read; if a value is `expected`, while its own calls made the register
--- that.
-abbrev pub read_from : ℕ → List Event → ℕ → ℕ → ℕ → Option ℕ → List Word
-read_from from window reader register value expected =
-    origin_words from register value (origin_of window register value expected reader)
+-- So of the value that the transaction at this place of the window read and that no order explains, if there is one; if a value is
+-- `expected`, while its own calls made the register that.
+abbrev pub told_by : List ℕ → ℕ → List Event → Contradiction → List ℕ
+told_by values from window (Cycle place) = []
+told_by values from window (NoSource reader register value) =
+    origin_text values from register.number value (origin_of window register.number value None reader)
+told_by values from window (Unlike reader register expected read) =
+    origin_text values from register.number read (origin_of window register.number read (Some expected) reader)
 
--- and of the read, if there is one, that no order explains
-abbrev pub told_by : ℕ → List Event → Contradiction → List Word
-told_by from window (Cycle place) = []
-told_by from window (NoSource reader register value) = read_from from window reader register.number value None
-told_by from window (Unlike reader register expected read) = read_from from window reader register.number read (Some expected)
+abbrev pub told_sentence : List ℕ → ℕ → List Event → Option Reason → List ℕ
+told_sentence values from window None = []
+told_sentence values from window (Some reason) = told_by values from window reason.end
 
-abbrev pub told_words : ℕ → List Event → Option Reason → List Word
-told_words from window None = []
-told_words from window (Some reason) = told_by from window reason.end
-
--- a sentence as a line, unless it has no word
-abbrev pub sentence_line : List ℕ → List Word → List ℕ
-sentence_line values [] = []
-sentence_line values (word ∷ words) = line (codes "    why    " ++ flat_map (word_text values) (word ∷ words))
+-- a sentence as a line, unless it is empty
+abbrev pub sentence_line : List ℕ → List ℕ
+sentence_line [] = []
+sentence_line (code ∷ sentence) = line (codes "    why    " ++ code ∷ sentence)
 
 -- a line for each step, this one, and one for what the steps come to, where a reason is found
-abbrev pub reason_text : List ℕ → List Word → Option Reason → List ℕ
+abbrev pub reason_text : List ℕ → List ℕ → Option Reason → List ℕ
 reason_text values told None = []
 reason_text values told (Some reason) =
-    flat_map (λ step. sentence_line values (step_words step)) reason.steps.items
-    ++ (sentence_line values told ++ sentence_line values (end_words reason.end))
+    flat_map (λ step. sentence_line (step_text values step)) reason.steps.items
+    ++ (sentence_line told ++ sentence_line (end_text values reason.end))
 
 -- the sentences in one line, each but the last with a semicolon, and each value in digits
-abbrev pub clause_text : List Word → List ℕ
+abbrev pub clause_text : List ℕ → List ℕ
 clause_text [] = []
-clause_text (word ∷ words) = flat_map (word_text []) (word ∷ words) ++ codes "; "
+clause_text (code ∷ sentence) = (code ∷ sentence) ++ codes "; "
 
-abbrev pub clauses_text : List Word → Reason → List ℕ
+abbrev pub clauses_text : List ℕ → Reason → List ℕ
 clauses_text told reason =
-    flat_map (λ step. clause_text (step_words step)) reason.steps.items
-    ++ (clause_text told ++ flat_map (word_text []) (end_words reason.end))
+    flat_map (λ step. clause_text (step_text [] step)) reason.steps.items ++ (clause_text told ++ end_text [] reason.end)

@@ -61,7 +61,7 @@ pub record AreTracesOf (options : ShowOptions) (shown : Shown) : Type 0 where
   pub some : headers ≢ []
   pub states : map (λ header. header.initial) headers ≡ members shown.showing.states
   pub each : All (IsHeaderFor shown.registers (shown_events shown)) headers
-  pub text : shown_text options.criterion Traces shown ≡ flat_map (λ header. trace_text header (shown_events shown)) headers
+  pub text : shown_text options.criterion options.before Traces shown ≡ flat_map (λ header. trace_text header (shown_events shown)) headers
   pub tell : TellOf options.criterion options.bounds shown shown.needed headers
 
 -- So it is of whatever trace's bytes, by each criterion and within all bounds.

@@ -23,7 +23,6 @@ mod told;
 mod traces;
 mod values;
 mod window;
-mod word;
 
 pub use form::Form;
 pub use law::{law_traces, law_why};

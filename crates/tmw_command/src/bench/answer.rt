@@ -1,4 +1,4 @@
-ghost use Rattle.std.specs.Prelude.{◌≡◌, ◌&&◌, ◌+◌, ◌≤◌, ◌⊎◌, IfOk, length, string_bytes};
+ghost use Rattle.std.specs.Prelude.{◌≡◌, ◌&&◌, ◌⊎◌, IfOk, string_bytes};
 ghost use Rattle.tmw_counts.specs.Parts.{is_open};
 ghost use Rattle.tmw_report.specs.Lines.{fault_line};
 ghost use Rattle.tmw_report.specs.Putting.{IsPut};
@@ -75,8 +75,6 @@ pub fn answer_hunt<K: Sink, E: Sink>(
     options: &BenchOptions,
     run: &HuntRun,
 ) -> u8
-    requires { run.now.shown.showing.from + length
-        run.now.shown.showing.events.items ≤ run.now.shown.showing.fed }
     ensures { (IsPut K.to sink.old sink.new (hunt_text options.now run.now) (hunt_status run.now) result
         × Remarks E.to (nothing_shown_if (hunt_shows_nothing run.now)) errors.old errors.new)
         ⊎ (IsPut K.to sink.old sink.new (fault_line Memory) 4 result
@@ -95,16 +93,14 @@ pub fn answer_hunt<K: Sink, E: Sink>(
 
 /// The text that these options ask for.
 fn text_of(alloc: Global, options: &BenchOptions, run: &HuntRun) -> Result<Vec<u8>, AllocError>
-    requires { run.now.shown.showing.from + length
-        run.now.shown.showing.events.items ≤ run.now.shown.showing.fed }
     ensures { IfOk result (λ text. text.items ≡ hunt_text options.now run.now) }
 {
     if options.show && options.written.trace {
-        return shown_text(alloc, Criterion::Opacity, Form::Traces, &run.shown);
+        return shown_text(alloc, Criterion::Opacity, 0, Form::Traces, &run.shown);
     }
     let last = last_lines(alloc, options, &run.ends, &run.summary)?;
     if options.show {
-        let mut text = shown_text(alloc, Criterion::Opacity, Form::Drawing, &run.shown)?;
+        let mut text = shown_text(alloc, Criterion::Opacity, 0, Form::Drawing, &run.shown)?;
         text.extend_from_slice(last.as_bytes())?;
         Ok(text)
     } else {

@@ -1,4 +1,4 @@
-ghost use Rattle.std.specs.Prelude.{◌≡◌, ◌+◌, ◌≤◌, ◌⊎◌, length};
+ghost use Rattle.std.specs.Prelude.{◌≡◌, ◌⊎◌};
 ghost use Rattle.tmw_report.specs.Lines.{fault_line};
 ghost use Rattle.tmw_report.specs.Putting.{IsPut};
 ghost use Rattle.tmw_report.specs.Remark.{Remarks};
@@ -14,26 +14,25 @@ use tmw_report::{FAULT_STATUS, Fault, Remark, answer_fault, send_remark, status_
 use tmw_streams::{Sink, put_all};
 use tmw_window::Showing;
 
-/// Writes what is shown in this form, and returns the exit status. The text is made before any of it
-/// goes out: after a failed allocation for it, that fault's line is written instead. A remark on the run goes to the sink
-/// for errors.
+/// Writes what is shown in this form, of a trace before which so many events of the run come, and returns the exit
+/// status. The text is made before any of it goes out: after a failed allocation for it, that fault's line is written
+/// instead. A remark on the run goes to the sink for errors.
 pub fn answer_shown<K: Sink, E: Sink>(
     alloc: Global,
     sink: &mut K,
     errors: &mut E,
     criterion: Criterion,
+    before: u64,
     form: Form,
     shown: &Shown,
 ) -> u8
-    requires { shown.now.showing.from + length
-        shown.now.showing.events.items ≤ shown.now.showing.fed }
-    ensures { (IsPut K.to sink.old sink.new (shown_text criterion form shown.now)
+    ensures { (IsPut K.to sink.old sink.new (shown_text criterion before form shown.now)
         (shown_status shown.now) result
         × Remarks E.to (remark_of shown.now) errors.old errors.new)
         ⊎ (IsPut K.to sink.old sink.new (fault_line Memory) 4 result
         × (errors.new ≡ errors.old)) }
 {
-    let Ok(text) = shown_text(alloc, criterion, form, shown) else {
+    let Ok(text) = shown_text(alloc, criterion, before, form, shown) else {
         return answer_fault(sink, Fault::Memory);
     };
     send_remark(errors, remark_of(&shown.showing));

@@ -1,7 +1,7 @@
 ghost use Rattle.std.specs.Prelude.{◌≡◌, ◌==◌, ◌++◌, OnOk, find};
 ghost use Rattle.tmw_show.specs.Names.{label_at, label_by, name_text};
 
-use itoa::Buffer;
+use crate::command::numbers::push_number;
 use std::alloc::AllocError;
 use tmw_part::Name;
 
@@ -10,8 +10,7 @@ pub fn push_name(text: &mut Vec<u8>, place: usize) -> Result<(), AllocError>
     ensures { OnOk result (text.new.items ≡ text.old.items ++ name_text place) }
 {
     text.push(b'T')?;
-    text.extend_from_slice(Buffer::new().format(place as u128 + 1).as_bytes())?;
-    Ok(())
+    push_number(text, place as u128 + 1)
 }
 
 /// Finds the name of the transaction whose first event that is shown has this place in the window.

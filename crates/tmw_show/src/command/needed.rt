@@ -53,9 +53,9 @@ pub fn push_needed(text: &mut Vec<u8>, needed: &Needed, events: &[Event]) -> Res
 fn push_counts(text: &mut Vec<u8>, shown: usize, all: usize) -> Result<(), AllocError>
     ensures { OnOk result (text.new.items ≡ text.old.items ++ counts_words shown all) }
 {
-    push_number(text, shown as u64)?;
+    push_number(text, shown as u128)?;
     text.extend_from_slice(b" of ")?;
-    push_number(text, all as u64)?;
+    push_number(text, all as u128)?;
     text.extend_from_slice(b" events, violated by themselves")?;
     Ok(())
 }

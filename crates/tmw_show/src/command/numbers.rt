@@ -7,7 +7,7 @@ use itoa::Buffer;
 use std::alloc::AllocError;
 
 /// Adds a number's digits.
-pub fn push_number(text: &mut Vec<u8>, number: u64) -> Result<(), AllocError>
+pub fn push_number(text: &mut Vec<u8>, number: u128) -> Result<(), AllocError>
     ensures { OnOk result (text.new.items ≡ text.old.items ++ decimal number) }
 {
     text.extend_from_slice(Buffer::new().format(number).as_bytes())?;
@@ -30,7 +30,7 @@ impl Part<u64> for SpacedValue {
 
     fn push(&self, text: &mut Vec<u8>, value: &u64) -> Result<(), AllocError> {
         text.push(b' ')?;
-        push_number(text, *value)
+        push_number(text, *value as u128)
     }
 }
 

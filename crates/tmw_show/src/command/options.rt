@@ -9,5 +9,7 @@ pub struct ShowOptions {
     pub form: Form,
     /// Of a violated window it shows a part that is violated by itself, and says why.
     pub why: bool,
+    /// How many events of the run come before the trace's first.
+    pub before: u64,
     pub bounds: Bounds,
 }

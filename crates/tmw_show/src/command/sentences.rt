@@ -1,43 +1,42 @@
-//! The sentences that tell why a window is violated.
-ghost use Rattle.std.specs.List.{flat_map};
-ghost use Rattle.std.specs.Prelude.{◌≡◌, ◌++◌, IfOk, OnOk, Some};
-ghost use Rattle.tmw_show.specs.Sentences.{changed_first_words, clause_text, clauses_text, cycle_words, end_words, no_source_words, phrase_text, read_first_words, read_words, real_time_words, reason_text, sentence_line, so_words, source_words, step_words, unlike_words, word_text};
+//! The sentences that tell why a window is violated. Values that are among some have names.
+ghost use Rattle.std.specs.Prelude.{◌≡◌, ◌++◌, [], OnOk, Some};
+ghost use Rattle.tmw_show.specs.Names.{name_text};
+ghost use Rattle.tmw_show.specs.Sentences.{changed_first_text, clause_text, clauses_text, end_text, later_text, read_first_text, read_text, real_time_text, reason_text, said_text, sentence_line, so_text, source_text, step_text};
 
 use crate::command::names::push_name;
 use crate::command::numbers::push_number;
 use crate::command::part::{Part, push_each};
 use crate::command::values::push_value;
-use crate::command::word::{Phrase, Word};
-use std::alloc::{AllocError, Global};
+use std::alloc::AllocError;
 use tmw_events::Ix;
 use tmw_part::{Contradiction, Reason, Source, Step};
 
-/// Adds a line for each step of the reason, a line of what is told, if that has a word, and one for what the steps come
-/// to. These values have names.
+/// Adds a line for each step of the reason, a line of what is told, if that is anything, and one for what the steps come
+/// to.
 pub fn push_reason(
     text: &mut Vec<u8>,
     values: &[u64],
-    told: &[Word],
+    told: &[u8],
     reason: &Reason,
 ) -> Result<(), AllocError>
     ensures { OnOk result
         (text.new.items ≡ text.old.items ++ reason_text values.now told.now (Some reason.now)) }
 {
     push_each(text, &StepLine { values }, &reason.steps)?;
-    push_sentence(text, values, told)?;
-    let words = end_words(*text.allocator(), &reason.end)?;
-    push_sentence(text, values, &words)
+    push_sentence(text, told)?;
+    let mut end = Vec::new(*text.allocator());
+    push_end(&mut end, values, &reason.end)?;
+    push_sentence(text, &end)
 }
 
 /// Adds the sentences of a reason in one line, each but the last with a semicolon, and each value in digits.
-pub fn push_clauses(text: &mut Vec<u8>, told: &[Word], reason: &Reason) -> Result<(), AllocError>
+pub fn push_clauses(text: &mut Vec<u8>, told: &[u8], reason: &Reason) -> Result<(), AllocError>
     ensures { OnOk result
         (text.new.items ≡ text.old.items ++ clauses_text told.now reason.now) }
 {
     push_each(text, &StepClause, &reason.steps)?;
     push_clause(text, told)?;
-    let words = end_words(*text.allocator(), &reason.end)?;
-    push_each(text, &Spoken { values: &[] }, &words)?;
+    push_end(text, &[], &reason.end)?;
     Ok(())
 }
 
@@ -46,281 +45,209 @@ pub fn push_clauses(text: &mut Vec<u8>, told: &[Word], reason: &Reason) -> Resul
 struct StepClause;
 
 impl Part<Step> for StepClause {
-    ghost part = { λ own step. clause_text (step_words step) };
+    ghost part = { λ own step. clause_text (step_text [] step) };
 
     fn push(&self, text: &mut Vec<u8>, step: &Step) -> Result<(), AllocError> {
-        let words = step_words(*text.allocator(), step)?;
-        push_clause(text, &words)
+        let mut sentence = Vec::new(*text.allocator());
+        push_step(&mut sentence, &[], step)?;
+        push_clause(text, &sentence)
     }
 }
 
-/// Adds a sentence and a semicolon, unless it has no word.
-fn push_clause(text: &mut Vec<u8>, words: &[Word]) -> Result<(), AllocError>
-    ensures { OnOk result (text.new.items ≡ text.old.items ++ clause_text words.now) }
+/// Adds a sentence and a semicolon, unless it is empty.
+fn push_clause(text: &mut Vec<u8>, sentence: &[u8]) -> Result<(), AllocError>
+    ensures { OnOk result (text.new.items ≡ text.old.items ++ clause_text sentence.now) }
 {
-    if words.is_empty() {
+    if sentence.is_empty() {
         return Ok(());
     }
-    push_each(text, &Spoken { values: &[] }, words)?;
+    text.extend_from_slice(sentence)?;
     text.extend_from_slice(b"; ")?;
     Ok(())
 }
 
-/// The line of a step, where these values have names.
+/// The line of a step.
 #[derive(Drop)]
 struct StepLine<'a> {
     values: &'a [u64],
 }
 
 impl Part<Step> for StepLine<'_> {
-    ghost part = { λ own step. sentence_line own.values.now (step_words step) };
+    ghost part = { λ own step. sentence_line (step_text own.values.now step) };
 
     fn push(&self, text: &mut Vec<u8>, step: &Step) -> Result<(), AllocError> {
-        let words = step_words(*text.allocator(), step)?;
-        push_sentence(text, self.values, &words)
+        let mut sentence = Vec::new(*text.allocator());
+        push_step(&mut sentence, self.values, step)?;
+        push_sentence(text, &sentence)
     }
 }
 
-/// Adds a sentence as a line, unless it has no word.
-fn push_sentence(text: &mut Vec<u8>, values: &[u64], words: &[Word]) -> Result<(), AllocError>
-    ensures { OnOk result (text.new.items
-        ≡ text.old.items ++ sentence_line values.now words.now) }
+/// Adds a sentence as a line, unless it is empty.
+fn push_sentence(text: &mut Vec<u8>, sentence: &[u8]) -> Result<(), AllocError>
+    ensures { OnOk result (text.new.items ≡ text.old.items ++ sentence_line sentence.now) }
 {
-    if words.is_empty() {
+    if sentence.is_empty() {
         return Ok(());
     }
     text.extend_from_slice(b"    why    ")?;
-    push_each(text, &Spoken { values }, words)?;
+    text.extend_from_slice(sentence)?;
     text.push(b'\n')?;
     Ok(())
 }
 
-/// The text of a word, where these values have names.
-#[derive(Drop)]
-struct Spoken<'a> {
-    values: &'a [u64],
-}
-
-impl Part<Word> for Spoken<'_> {
-    ghost part = { λ own word. word_text own.values.now word };
-
-    fn push(&self, text: &mut Vec<u8>, word: &Word) -> Result<(), AllocError> {
-        match *word {
-            Word::Transaction(place) => push_name(text, place)?,
-            Word::Value(value) => push_value(text, self.values, value)?,
-            Word::Number(number) => push_number(text, number)?,
-            Word::Saying(phrase) => text.extend_from_slice(phrase_text(phrase).as_bytes())?,
-        }
-        Ok(())
-    }
-}
-
-/// The text of a phrase.
-fn phrase_text(phrase: Phrase) -> &'static str
-    ensures { result.now ≡ phrase_text phrase }
+/// Adds a transaction's name, and what follows it.
+pub fn push_named(text: &mut Vec<u8>, place: usize, after: &[u8]) -> Result<(), AllocError>
+    ensures { OnOk result (text.new.items ≡ text.old.items ++ (name_text place ++ after.now)) }
 {
-    match phrase {
-        Phrase::Ended => " ended before ",
-        Phrase::Began => " began",
-        Phrase::Read => " read ",
-        Phrase::FromRegister => " from register ",
-        Phrase::Which => ", which ",
-        Phrase::LeftThere => " left there",
-        Phrase::Where => ", where ",
-        Phrase::Left => " left ",
-        Phrase::InRegister => " in register ",
-        Phrase::So => ": ",
-        Phrase::Before => " before ",
-        Phrase::NobodyLeft => ", which neither the start nor another commit left",
-        Phrase::OwnCalls => ", where its own earlier calls make it ",
-        Phrase::Cycle => " would come before itself",
-        Phrase::Put => " put ",
-        Phrase::IntoRegister => " into register ",
-        Phrase::AtEvent => " at event ",
-        Phrase::GivenUp => ", and aborted",
-        Phrase::Unasked => ", and had not asked to commit",
-        Phrase::Overwritten => ", then another value",
-        Phrase::NoEvent => "no earlier event of this window puts ",
-    }
-}
-
-/// Adds what follows: the one stands before the other.
-fn push_so(words: &mut Vec<Word>, one: usize, other: usize) -> Result<(), AllocError>
-    ensures { OnOk result (words.new.items ≡ words.old.items ++ so_words one other) }
-{
-    words.push(Word::Saying(Phrase::So))?;
-    words.push(Word::Transaction(one))?;
-    words.push(Word::Saying(Phrase::Before))?;
-    words.push(Word::Transaction(other))?;
+    push_name(text, place)?;
+    text.extend_from_slice(after)?;
     Ok(())
 }
 
-/// The words that tell what was read.
-fn read_words(
-    alloc: Global,
+/// Adds what follows: the one stands before the other.
+fn push_so(text: &mut Vec<u8>, one: usize, other: usize) -> Result<(), AllocError>
+    ensures { OnOk result (text.new.items ≡ text.old.items ++ so_text one other) }
+{
+    text.extend_from_slice(b": ")?;
+    push_named(text, one, b" before ")?;
+    push_name(text, other)
+}
+
+/// Adds what is said of a transaction and a value.
+fn push_said(
+    text: &mut Vec<u8>,
+    values: &[u64],
+    place: usize,
+    said: &[u8],
+    value: u64,
+) -> Result<(), AllocError>
+    ensures { OnOk result
+        (text.new.items ≡ text.old.items ++ said_text values.now place said.now value) }
+{
+    push_named(text, place, said)?;
+    push_value(text, values, value)
+}
+
+/// Adds what was read.
+fn push_read(
+    text: &mut Vec<u8>,
+    values: &[u64],
     reader: usize,
     value: u64,
     register: Ix,
-) -> Result<Vec<Word>, AllocError>
-    ensures { IfOk result (λ words. words.items ≡ read_words reader value register.number) }
+) -> Result<(), AllocError>
+    ensures { OnOk result
+        (text.new.items ≡ text.old.items ++ read_text values.now reader value register.number) }
 {
-    let mut words = Vec::new(alloc);
-    words.push(Word::Transaction(reader))?;
-    words.push(Word::Saying(Phrase::Read))?;
-    words.push(Word::Value(value))?;
-    words.push(Word::Saying(Phrase::FromRegister))?;
-    words.push(Word::Number(register.get() as u64))?;
-    Ok(words)
+    push_said(text, values, reader, b" read ", value)?;
+    text.extend_from_slice(b" from register ")?;
+    push_number(text, register.get() as u128)?;
+    Ok(())
 }
 
-/// The sentence of a step.
-fn step_words(alloc: Global, step: &Step) -> Result<Vec<Word>, AllocError>
-    ensures { IfOk result (λ words. words.items ≡ step_words step.now) }
+/// Adds the sentence of a step.
+fn push_step(text: &mut Vec<u8>, values: &[u64], step: &Step) -> Result<(), AllocError>
+    ensures { OnOk result (text.new.items ≡ text.old.items ++ step_text values.now step.now) }
 {
     match *step {
-        Step::RealTime { one, other } => real_time_words(alloc, one, other),
-        Step::From(source) => source_words(alloc, &source),
-        Step::ReadFirst {
-            source,
-            rival,
-            left,
-        } => read_first_words(alloc, &source, rival, left),
-        Step::ChangedFirst {
-            rival,
-            left,
-            source,
-        } => changed_first_words(alloc, rival, left, &source),
-        Step::Through { .. } => Ok(Vec::new(alloc)),
+        Step::RealTime(one, other) => push_real_time(text, one, other),
+        Step::From(source) => push_source(text, values, &source),
+        Step::ReadFirst(source, rival, left) => push_read_first(text, values, &source, rival, left),
+        Step::ChangedFirst(rival, left, source) => {
+            push_changed_first(text, values, rival, left, &source)
+        }
+        Step::Through(..) => Ok(()),
     }
 }
 
-/// That the one had ended before the other began.
-fn real_time_words(alloc: Global, one: usize, other: usize) -> Result<Vec<Word>, AllocError>
-    ensures { IfOk result (λ words. words.items ≡ real_time_words one other) }
+/// Adds that the one had ended before the other began.
+fn push_real_time(text: &mut Vec<u8>, one: usize, other: usize) -> Result<(), AllocError>
+    ensures { OnOk result (text.new.items ≡ text.old.items ++ real_time_text one other) }
 {
-    let mut words = Vec::new(alloc);
-    words.push(Word::Transaction(one))?;
-    words.push(Word::Saying(Phrase::Ended))?;
-    words.push(Word::Transaction(other))?;
-    words.push(Word::Saying(Phrase::Began))?;
-    push_so(&mut words, one, other)?;
-    Ok(words)
+    push_named(text, one, b" ended before ")?;
+    push_named(text, other, b" began")?;
+    push_so(text, one, other)?;
+    Ok(())
 }
 
-/// Who left a value that was read, if it did not stand there from the start.
-fn source_words(alloc: Global, source: &Source) -> Result<Vec<Word>, AllocError>
-    ensures { IfOk result (λ words. words.items ≡ source_words source.now) }
+/// Adds who left a value that was read, if it did not stand there from the start.
+fn push_source(text: &mut Vec<u8>, values: &[u64], source: &Source) -> Result<(), AllocError>
+    ensures { OnOk result
+        (text.new.items ≡ text.old.items ++ source_text values.now source.now source.now.writer) }
 {
     let Some(writer) = source.writer else {
-        return Ok(Vec::new(alloc));
+        return Ok(());
     };
-    let mut words = read_words(alloc, source.reader, source.value, source.register)?;
-    words.push(Word::Saying(Phrase::Which))?;
-    words.push(Word::Transaction(writer))?;
-    words.push(Word::Saying(Phrase::LeftThere))?;
-    push_so(&mut words, writer, source.reader)?;
-    Ok(words)
+    push_read(text, values, source.reader, source.value, source.register)?;
+    text.extend_from_slice(b", which ")?;
+    push_name(text, writer)?;
+    text.extend_from_slice(b" left there")?;
+    push_so(text, writer, source.reader)?;
+    Ok(())
 }
 
-/// That a value was read before the rival changed it.
-fn read_first_words(
-    alloc: Global,
+/// Adds that a value was read before the rival changed it.
+fn push_read_first(
+    text: &mut Vec<u8>,
+    values: &[u64],
     source: &Source,
     rival: usize,
     left: u64,
-) -> Result<Vec<Word>, AllocError>
-    ensures { IfOk result (λ words. words.items ≡ read_first_words source.now rival left) }
+) -> Result<(), AllocError>
+    ensures { OnOk result
+        (text.new.items ≡ text.old.items ++ read_first_text values.now source.now rival left) }
 {
-    let mut words = read_words(alloc, source.reader, source.value, source.register)?;
-    words.push(Word::Saying(Phrase::Where))?;
-    words.push(Word::Transaction(rival))?;
-    words.push(Word::Saying(Phrase::Left))?;
-    words.push(Word::Value(left))?;
-    push_so(&mut words, source.reader, rival)?;
-    Ok(words)
+    push_read(text, values, source.reader, source.value, source.register)?;
+    text.extend_from_slice(b", where ")?;
+    push_said(text, values, rival, b" left ", left)?;
+    push_so(text, source.reader, rival)
 }
 
-/// That the rival changed the register before the writer of the value.
-fn changed_first_words(
-    alloc: Global,
+/// Adds that the rival changed the register before the writer of the value.
+fn push_changed_first(
+    text: &mut Vec<u8>,
+    values: &[u64],
     rival: usize,
     left: u64,
     source: &Source,
-) -> Result<Vec<Word>, AllocError>
-    ensures { IfOk result (λ words. words.items ≡ changed_first_words rival left source.now) }
+) -> Result<(), AllocError>
+    ensures { OnOk result
+        (text.new.items ≡ text.old.items ++ changed_first_text values.now rival left source.now) }
 {
-    let mut words = Vec::new(alloc);
-    words.push(Word::Transaction(rival))?;
-    words.push(Word::Saying(Phrase::Left))?;
-    words.push(Word::Value(left))?;
-    words.push(Word::Saying(Phrase::InRegister))?;
-    words.push(Word::Number(source.register.get() as u64))?;
-    words.push(Word::Saying(Phrase::Where))?;
-    words.push(Word::Transaction(source.reader))?;
-    words.push(Word::Saying(Phrase::Read))?;
-    words.push(Word::Value(source.value))?;
-    if let Some(writer) = source.writer {
-        push_so(&mut words, rival, writer)?;
+    push_said(text, values, rival, b" left ", left)?;
+    text.extend_from_slice(b" in register ")?;
+    push_number(text, source.register.get() as u128)?;
+    text.extend_from_slice(b", where ")?;
+    push_said(text, values, source.reader, b" read ", source.value)?;
+    push_later(text, rival, source.writer)?;
+    Ok(())
+}
+
+/// Adds that the rival comes before the writer, if there is one.
+fn push_later(text: &mut Vec<u8>, rival: usize, writer: Option<usize>) -> Result<(), AllocError>
+    ensures { OnOk result (text.new.items ≡ text.old.items ++ later_text rival writer) }
+{
+    match writer {
+        Some(writer) => push_so(text, rival, writer),
+        None => Ok(()),
     }
-    Ok(words)
 }
 
-/// The sentence of what the steps come to.
-fn end_words(alloc: Global, end: &Contradiction) -> Result<Vec<Word>, AllocError>
-    ensures { IfOk result (λ words. words.items ≡ end_words end.now) }
+/// Adds the sentence of what the steps come to.
+fn push_end(text: &mut Vec<u8>, values: &[u64], end: &Contradiction) -> Result<(), AllocError>
+    ensures { OnOk result (text.new.items ≡ text.old.items ++ end_text values.now end.now) }
 {
     match *end {
-        Contradiction::Cycle(place) => cycle_words(alloc, place),
-        Contradiction::NoSource {
-            reader,
-            register,
-            value,
-        } => no_source_words(alloc, reader, register, value),
-        Contradiction::Unlike {
-            reader,
-            register,
-            expected,
-            read,
-        } => unlike_words(alloc, reader, register, expected, read),
+        Contradiction::Cycle(place) => push_named(text, place, b" would come before itself"),
+        Contradiction::NoSource(reader, register, value) => {
+            push_read(text, values, reader, value, register)?;
+            text.extend_from_slice(b", which neither the start nor another commit left")?;
+            Ok(())
+        }
+        Contradiction::Unlike(reader, register, expected, read) => {
+            push_read(text, values, reader, read, register)?;
+            text.extend_from_slice(b", where its own earlier calls make it ")?;
+            push_value(text, values, expected)
+        }
     }
-}
-
-/// That the transaction comes before itself.
-fn cycle_words(alloc: Global, place: usize) -> Result<Vec<Word>, AllocError>
-    ensures { IfOk result (λ words. words.items ≡ cycle_words place) }
-{
-    let mut words = Vec::new(alloc);
-    words.push(Word::Transaction(place))?;
-    words.push(Word::Saying(Phrase::Cycle))?;
-    Ok(words)
-}
-
-/// That nobody can have left the value.
-fn no_source_words(
-    alloc: Global,
-    reader: usize,
-    register: Ix,
-    value: u64,
-) -> Result<Vec<Word>, AllocError>
-    ensures { IfOk result (λ words. words.items ≡ no_source_words reader value register.number) }
-{
-    let mut words = read_words(alloc, reader, value, register)?;
-    words.push(Word::Saying(Phrase::NobodyLeft))?;
-    Ok(words)
-}
-
-/// That the reader's own earlier calls make the register hold another value.
-fn unlike_words(
-    alloc: Global,
-    reader: usize,
-    register: Ix,
-    expected: u64,
-    read: u64,
-) -> Result<Vec<Word>, AllocError>
-    ensures { IfOk result (λ words. words.items ≡ unlike_words reader read register.number expected) }
-{
-    let mut words = read_words(alloc, reader, read, register)?;
-    words.push(Word::Saying(Phrase::OwnCalls))?;
-    words.push(Word::Value(expected))?;
-    Ok(words)
 }

@@ -1,8 +1,8 @@
-ghost use Rattle.std.specs.Prelude.{◌≡◌, ◌+◌, ◌≤◌, ◌<◌, ◌^◌, ◌++◌, IfOk, OnOk, length};
+ghost use Rattle.std.specs.Prelude.{◌≡◌, ◌+◌, ◌<◌, ◌^◌, ◌++◌, IfOk, OnOk, length};
 ghost use Rattle.tmw_cuts.specs.Members.{members};
 ghost use Rattle.tmw_show.specs.Running.{drawn_text, shown_events, shown_text};
 ghost use Rattle.tmw_show.specs.Explaining.{reason_of};
-ghost use Rattle.tmw_show.specs.Sentences.{reason_text, told_words};
+ghost use Rattle.tmw_show.specs.Sentences.{reason_text, told_sentence};
 ghost use Rattle.tmw_show.specs.TracesText.{traces_text};
 
 use crate::command::form::Form;
@@ -23,29 +23,32 @@ use tmw_events::Event;
 use tmw_part::kept_of;
 use tmw_report::report_by;
 
-/// Makes the text of what is shown by this criterion, in this form. It fails only after a failed allocation.
+/// Makes the text of what is shown by this criterion, in this form, of a trace before which so many events of the run
+/// come. It fails only after a failed allocation.
 pub fn shown_text(
     alloc: Global,
     criterion: Criterion,
+    before: u64,
     form: Form,
     shown: &Shown,
 ) -> Result<Vec<u8>, AllocError>
-    requires { shown.now.showing.from + length
-        shown.now.showing.events.items ≤ shown.now.showing.fed }
-    ensures { IfOk result (λ text. text.items ≡ shown_text criterion form shown.now) }
+    ensures { IfOk result (λ text. text.items ≡ shown_text criterion before form shown.now) }
 {
     match form {
-        Form::Drawing => drawn_text(alloc, criterion, shown),
+        Form::Drawing => drawn_text(alloc, criterion, before, shown),
         Form::Traces => traces_text(alloc, shown),
-        Form::Page => page_text(alloc, criterion, shown),
+        Form::Page => page_text(alloc, criterion, before, shown),
     }
 }
 
 /// The report's line, the states from which the last window begins, and its events.
-fn drawn_text(alloc: Global, criterion: Criterion, shown: &Shown) -> Result<Vec<u8>, AllocError>
-    requires { shown.now.showing.from + length
-        shown.now.showing.events.items ≤ shown.now.showing.fed }
-    ensures { IfOk result (λ text. text.items ≡ drawn_text criterion shown.now) }
+fn drawn_text(
+    alloc: Global,
+    criterion: Criterion,
+    before: u64,
+    shown: &Shown,
+) -> Result<Vec<u8>, AllocError>
+    ensures { IfOk result (λ text. text.items ≡ drawn_text criterion before shown.now) }
 {
     let showing = &shown.showing;
     let mut text = Vec::new(alloc);
@@ -58,34 +61,30 @@ fn drawn_text(alloc: Global, criterion: Criterion, shown: &Shown) -> Result<Vec<
     push_needed(&mut text, &shown.needed, &showing.events)?;
     let told = Told {
         criterion,
+        before,
         verdict: showing.verdict,
         broken: showing.broken,
     };
+    let from = before as u128 + showing.from as u128;
     let marks = marks_of(alloc, &shown.needed, &showing.events)?;
-    push_window(&mut text, told, showing.from, &marks, &showing.events)?;
+    push_window(&mut text, told, from, &marks, &showing.events)?;
     let kept = kept_of(alloc, &marks, &showing.events)?;
     let values = long_values(alloc, &kept)?;
-    push_reason_of(
-        &mut text,
-        showing.from,
-        &values,
-        &showing.events,
-        &shown.needed,
-    )?;
+    push_reason_of(&mut text, from, &values, &showing.events, &shown.needed)?;
     Ok(text)
 }
 
 /// Adds the reason that is told, if one is, of a window before which so many events stand. These values have names.
 fn push_reason_of(
     text: &mut Vec<u8>,
-    from: u64,
+    from: u128,
     values: &[u64],
     events: &[Event],
     needed: &Needed,
 ) -> Result<(), AllocError>
-    requires { from + length events.now < 2 ^ 64 }
+    requires { from + length events.now < 2 ^ 128 }
     ensures { let reason = reason_of needed.now in
-        let told = told_words from events.now reason in
+        let told = told_sentence values.now from events.now reason in
         OnOk result (text.new.items ≡ text.old.items ++ reason_text values.now told reason) }
 {
     match needed {
@@ -93,7 +92,7 @@ fn push_reason_of(
             reason: Some(reason),
             ..
         } => {
-            let told = told_by(*text.allocator(), from, events, &reason.end)?;
+            let told = told_by(*text.allocator(), values, from, events, &reason.end)?;
             push_reason(text, values, &told, reason)
         }
         _ => Ok(()),

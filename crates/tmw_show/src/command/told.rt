@@ -1,5 +1,5 @@
 ghost use Rattle.std.specs.Prelude.{◌≡◌};
-ghost use Rattle.tmw_show.specs.Drawing.{malformed_text, rule_text, told_text, undecided_text, violated_text};
+ghost use Rattle.tmw_show.specs.Drawing.{malformed_text, marked_at, rule_text, told_text, undecided_text, violated_text, wrong_text};
 
 use tmw_defs::{Criterion, Verdict, Why};
 use tmw_monitor::Broken;
@@ -9,33 +9,45 @@ use tmw_wellformed::Malformed;
 #[derive(Debug, Clone, Copy)]
 pub struct Told {
     pub criterion: Criterion,
+    /// How many events of the run come before the trace's first.
+    pub before: u64,
     pub verdict: Verdict,
     /// The first event that fits no run, if one does not.
     pub broken: Option<Broken>,
 }
 
-/// Returns what is printed beside the event of this number: what is wrong there if the verdict names it, else
-/// nothing.
-pub fn told_of(told: Told, number: u64) -> &'static str
+/// Returns the number, in the whole run, of the event that the verdict names, if it names one.
+pub fn marked_at(told: Told) -> Option<u128>
+    ensures { result ≡ marked_at told }
+{
+    match told.verdict {
+        Verdict::OpaqueSoFar | Verdict::StrictSoFar => None,
+        Verdict::Violated(at) | Verdict::Undecided(at, _) | Verdict::Malformed(at) => {
+            Some(told.before as u128 + at as u128)
+        }
+    }
+}
+
+/// Returns what is printed beside the event of this number in the whole run: what is wrong there if the verdict names
+/// it, else nothing.
+pub fn told_of(told: Told, number: u128) -> &'static str
     ensures { result.now ≡ told_text told number }
+{
+    match marked_at(told) {
+        Some(at) if at == number => wrong_of(told),
+        _ => "",
+    }
+}
+
+/// Returns what is wrong with the run, if anything is.
+pub fn wrong_of(told: Told) -> &'static str
+    ensures { result.now ≡ wrong_text told }
 {
     match told.verdict {
         Verdict::OpaqueSoFar | Verdict::StrictSoFar => "",
-        Verdict::Violated(at) => {
-            if number == at {
-                violated_of(told.criterion)
-            } else {
-                ""
-            }
-        }
-        Verdict::Undecided(at, why) => { if number == at { undecided_of(why) } else { "" } }
-        Verdict::Malformed(at) => {
-            if number == at {
-                malformed_of(told.broken)
-            } else {
-                ""
-            }
-        }
+        Verdict::Violated(_at) => violated_of(told.criterion),
+        Verdict::Undecided(_at, why) => undecided_of(why),
+        Verdict::Malformed(_at) => malformed_of(told.broken),
     }
 }
 

@@ -4,7 +4,6 @@ ghost use Rattle.tmw_show.specs.Values.{has_name, long_values, named, names_from
 
 use crate::command::event_text::push_kind;
 use crate::command::numbers::push_number;
-use itoa::Buffer;
 use std::alloc::{AllocError, Global};
 use tmw_events::{Event, Ix, Kind};
 
@@ -64,8 +63,7 @@ fn push_short_name(text: &mut Vec<u8>, place: usize) -> Result<(), AllocError>
     ensures { OnOk result (text.new.items ≡ text.old.items ++ short_name place) }
 {
     text.push(b'v')?;
-    text.extend_from_slice(Buffer::new().format(place as u128 + 1).as_bytes())?;
-    Ok(())
+    push_number(text, place as u128 + 1)
 }
 
 /// Adds a value: by its name, if it is one of these.
@@ -74,7 +72,7 @@ pub fn push_value(text: &mut Vec<u8>, values: &[u64], value: u64) -> Result<(), 
 {
     match place_of(values, value) {
         Some(place) => push_short_name(text, place),
-        None => push_number(text, value),
+        None => push_number(text, value as u128),
     }
 }
 
@@ -121,7 +119,7 @@ pub fn push_names(text: &mut Vec<u8>, values: &[u64]) -> Result<(), AllocError>
         text.extend_from_slice(b"    value  ")?;
         push_short_name(text, place)?;
         text.extend_from_slice(b" is ")?;
-        push_number(text, *value)?;
+        push_number(text, *value as u128)?;
         text.push(b'\n')?;
         place += 1;
         rest = more;

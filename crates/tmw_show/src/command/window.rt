@@ -22,11 +22,11 @@ const ALL_HEADS: &[u8] =
 pub fn push_window(
     text: &mut Vec<u8>,
     told: Told,
-    from: u64,
+    from: u128,
     marks: &[bool],
     events: &[Event],
 ) -> Result<(), AllocError>
-    requires { from + length events.now < 2 ^ 64 }
+    requires { from + length events.now < 2 ^ 128 }
     ensures { OnOk result
         (text.new.items ≡ text.old.items ++ window_text told from marks.now events.now) }
 {
@@ -71,11 +71,11 @@ fn push_rows(
     told: Told,
     width: usize,
     legend: Legend,
-    from: u64,
+    from: u128,
     marks: &[bool],
     events: &[Event],
 ) -> Result<(), AllocError>
-    requires { from + length events.now < 2 ^ 64 }
+    requires { from + length events.now < 2 ^ 128 }
     ensures { OnOk result
         (text.new.items ≡ text.old.items
         ++ rows_text told width legend.entry.names.now legend.entry.values.now from 0 marks.now events.now) }
@@ -88,7 +88,7 @@ fn push_rows(
             return Ok(());
         };
         if *mark {
-            let number = from + (place as u64 + 1);
+            let number = from + (place as u128 + 1);
             push_line(
                 text,
                 width,
@@ -112,7 +112,7 @@ fn push_line(
     width: usize,
     legend: Legend,
     place: usize,
-    number: u64,
+    number: u128,
     event: Event,
     told: &str,
 ) -> Result<(), AllocError>
@@ -135,7 +135,7 @@ fn push_row(
     text: &mut Vec<u8>,
     legend: Legend,
     place: usize,
-    number: u64,
+    number: u128,
     event: Event,
 ) -> Result<(), AllocError>
     ensures { OnOk result (text.new.items

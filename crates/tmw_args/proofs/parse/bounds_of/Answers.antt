@@ -9,16 +9,16 @@ pub returns-in_err-window : goal.returns-in_err-window
 returns-in_err-window c =
     let rows = rows_of (found_of c.args.matches.now) in
     c.from_residual.ensures
-    ∙ without_window (count_in 8 (codes "window") rows) (count_in 64 (codes "states") rows) c.in_err-window.ensures.number
+    ∙ without_window (count_in 1 8 (codes "window") rows) (count_in 1 64 (codes "states") rows) c.in_err-window.ensures.number
 
 pub returns-in_err-states : goal.returns-in_err-states
 returns-in_err-states c =
     let rows = rows_of (found_of c.args.matches.now) in
     c.from_residual-in_err-states.ensures
-    ∙ without_states (count_in 8 (codes "window") rows) (count_in 64 (codes "states") rows) c.in_err-states.ensures.number
+    ∙ without_states (count_in 1 8 (codes "window") rows) (count_in 1 64 (codes "states") rows) c.in_err-states.ensures.number
 
 pub returns : goal.returns
 returns c =
     let rows = rows_of (found_of c.args.matches.now) in
-    with_both (count_in 8 (codes "window") rows) (count_in 64 (codes "states") rows) _ c.in_ok-window.window c.in_ok-states.states refl refl
+    with_both (count_in 1 8 (codes "window") rows) (count_in 1 64 (codes "states") rows) _ c.in_ok-window.window c.in_ok-states.states refl refl
     c.in_ok-window.ensures.number c.in_ok-states.ensures.number

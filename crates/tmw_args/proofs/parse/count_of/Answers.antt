@@ -3,30 +3,30 @@ use Rattle.std.proofs.Common.{◌≡◌, ◌∙◌, Some, None, arith}
 use Rattle.clap.specs.Words.{found_of}
 use Rattle.tmw_args.proofs.Counting.{read-count, unread-count}
 use Rattle.tmw_args.proofs.parse.count_of.Goals as goal
-use Rattle.tmw_args.proofs.parse.count_of.Goals.{then-number-lt1-via-then-number-lt1, then-number-lt1-via-else-number-lt1+then-number-most}
+use Rattle.tmw_args.proofs.parse.count_of.Goals.{then-number-least-via-then-number-least, then-number-least-via-else-number-least+then-number-most}
 
 pub returns-in_err-number-clause-number : goal.returns-in_err-number-clause-number
 returns-in_err-number-clause-number c =
     c.from_residual.ensures
-    ∙ unread-count (found_of c.args.matches.now) c.args.name.now c.args.most
+    ∙ unread-count (found_of c.args.matches.now) c.args.name.now c.args.least c.args.most
     (λ text is count. (c.in_err-number.ensures.value text is).1.0 (count.0, count.1))
 
-pub returns-then-number-lt1-clause-number : goal.returns-then-number-lt1-clause-number
-returns-then-number-lt1-clause-number c =
-    unread-count (found_of c.args.matches.now) c.args.name.now c.args.most
+pub returns-then-number-least-clause-number : goal.returns-then-number-least-clause-number
+returns-then-number-least-clause-number c =
+    unread-count (found_of c.args.matches.now) c.args.name.now c.args.least c.args.most
     (λ text is count.
     let read = (c.in_ok-number.ensures.value text is).0 in
-    elim c.then-number-lt1.branch [
-      | then-number-lt1-via-then-number-lt1 w ↦ absurd (omega (arith, read.1, count.2, w.if-number-lt1.true))
-      | then-number-lt1-via-else-number-lt1+then-number-most w ↦ absurd (omega (arith, read.1, count.3, w.if-number-most.true))
+    elim c.then-number-least.branch [
+      | then-number-least-via-then-number-least w ↦ absurd (omega (arith, read.1, count.2, w.if-number-least.true))
+      | then-number-least-via-else-number-least+then-number-most w ↦ absurd (omega (arith, read.1, count.3, w.if-number-most.true))
     ])
 
 pub returns-clause-number : goal.returns-clause-number
 returns-clause-number c =
-    read-count (found_of c.args.matches.now) c.args.name.now c.args.most c.in_ok-number.number
+    read-count (found_of c.args.matches.now) c.args.name.now c.args.least c.args.most c.in_ok-number.number
     (λ none.
     let bad : Some c.in_ok-number.number ≡ None = c.in_ok-number.ensures.none none in
     absurd (cc))
     (λ text is.
     let read = (c.in_ok-number.ensures.value text is).0 in
-    ((read.0.0, read.0.1, omega (arith, read.1, c.if-number-lt1.false), omega (arith, read.1, c.if-number-most.false)), read.1))
+    ((read.0.0, read.0.1, omega (arith, read.1, c.if-number-least.false), omega (arith, read.1, c.if-number-most.false)), read.1))

@@ -3,7 +3,7 @@ use Rattle.std.proofs.Common.{◌∙◌, ap, codes}
 use Rattle.std.proofs.lemmas.Result.{IfOk-weaker}
 use Rattle.clap.specs.Words.{App}
 use Rattle.clap.specs.declared.builder.value_parser.ValueParser.TheVariants.{Names}
-use Rattle.tmw_args.specs.Program.{with_bounds, with_criterion, with_flag}
+use Rattle.tmw_args.specs.Program.{with_before, with_bounds, with_criterion, with_flag}
 use Rattle.tmw_args.proofs.program.new_show.Goals as goal
 
 pub returns : goal.returns
@@ -12,4 +12,5 @@ returns c =
     let traced = c.in_ok-traced.ensures ∙ ap (λ (app : App). with_flag (codes "trace") app) given in
     let paged = c.in_ok-paged.ensures ∙ ap (λ (app : App). with_flag (codes "page") app) traced in
     let explained = c.in_ok-with_flag.ensures ∙ ap (λ (app : App). with_flag (codes "why") app) paged in
-    IfOk-weaker c.with_bounds.result _ _ (λ command bounded. bounded ∙ ap with_bounds explained) c.with_bounds.ensures
+    let numbered = c.in_ok-with_before.ensures ∙ ap with_before explained in
+    IfOk-weaker c.with_bounds.result _ _ (λ command bounded. bounded ∙ ap with_bounds numbered) c.with_bounds.ensures

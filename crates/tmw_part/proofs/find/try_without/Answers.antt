@@ -4,7 +4,7 @@ use Rattle.tmw_part.proofs.find.try_without.Goals as goal
 
 pub returns-then-eq-clause-needed : goal.returns-then-eq-clause-needed
 returns-then-eq-clause-needed c =
-    let same = same-marks c.as_slice.result.now c.args.marks.now (sym c.eq.ensures ∙ c.if-eq.true) in
+    let same = (same-marks c.as_slice.result.now c.args.marks.now).0 (sym c.eq.ensures ∙ c.if-eq.true) in
     inl (sym c.in_ok-left.ensures ∙ sym c.as_slice.ensures.value ∙ same)
 
 pub is_violated_part-requires-clause-each : goal.is_violated_part-requires-clause-each

@@ -1,7 +1,7 @@
-ghost use Rattle.std.specs.Prelude.{◌≡◌, ◌+◌, ◌<◌, ◌≤◌, ◌^◌, [], ◌∷◌, ◌++◌, OnOk, length};
+ghost use Rattle.std.specs.Prelude.{◌≡◌, ◌+◌, ◌<◌, ◌^◌, [], ◌∷◌, ◌++◌, OnOk, length};
 ghost use Rattle.tmw_show.specs.Explaining.{reason_of};
-ghost use Rattle.tmw_show.specs.Sentences.{told_words};
-ghost use Rattle.tmw_show.specs.Page.{about_json, criterion_json, digit, event_json, json_text, mark_json, needed_json, numbers_json, settled_at, state_json, why_json, window_json};
+ghost use Rattle.tmw_show.specs.Sentences.{told_sentence};
+ghost use Rattle.tmw_show.specs.Page.{about_json, criterion_json, digit, event_json, json_text, mark_json, needed_json, numbers_json, state_json, why_json, window_json};
 
 use crate::command::event_text::push_event;
 use crate::command::needed::Needed;
@@ -10,29 +10,29 @@ use crate::command::origins::told_by;
 use crate::command::part::{Part, push_each, push_list};
 use crate::command::sentences::push_clauses;
 use crate::command::shown::Shown;
-use crate::command::told::{Told, told_of};
+use crate::command::told::{Told, marked_at, wrong_of};
 use std::alloc::{AllocError, Global};
 use tmw_cuts::State;
-use tmw_defs::{Criterion, Verdict};
+use tmw_defs::Criterion;
 use tmw_events::{Event, Registers};
 use tmw_report::report_by;
 
-/// Adds what is shown by this criterion as one JSON object: the members of the report, the criterion, how many registers
-/// there are and how many events stand before the window; its states and its events; and what is wrong, if anything is.
+/// Adds what is shown by this criterion, of a trace before which so many events of the run come, as one JSON object: the
+/// members of the report, the criterion, how many registers there are and how many events of the run stand before the
+/// window; its states and its events; and what is wrong, if anything is.
 pub fn push_json(
     alloc: Global,
     text: &mut Vec<u8>,
     criterion: Criterion,
+    before: u64,
     shown: &Shown,
 ) -> Result<(), AllocError>
-    requires { shown.now.showing.from + length
-        shown.now.showing.events.items ≤ shown.now.showing.fed }
-    ensures { OnOk result (text.new.items ≡ text.old.items ++ json_text criterion shown.now) }
+    ensures { OnOk result
+        (text.new.items ≡ text.old.items ++ json_text criterion before shown.now) }
 {
     let showing = &shown.showing;
-    // A number that is read is below 2^64, and with it those of the window's events.
-    let _fed = showing.fed;
-    push_about(alloc, text, criterion, shown)?;
+    let from = before as u128 + showing.from as u128;
+    push_about(alloc, text, criterion, from, shown)?;
     push_window(
         text,
         shown.registers,
@@ -41,30 +41,33 @@ pub fn push_json(
     )?;
     let told = Told {
         criterion,
+        before,
         verdict: showing.verdict,
         broken: showing.broken,
     };
     push_mark(text, told)?;
     push_needed(text, &shown.needed)?;
-    push_why(text, showing.from, &showing.events, &shown.needed)?;
+    push_why(text, from, &showing.events, &shown.needed)?;
     text.extend_from_slice(b"}\n")?;
     Ok(())
 }
 
-/// Adds the members that tell of the whole run.
+/// Adds the members that tell of the whole run, of which so many events stand before the window.
 fn push_about(
     alloc: Global,
     text: &mut Vec<u8>,
     criterion: Criterion,
+    from: u128,
     shown: &Shown,
 ) -> Result<(), AllocError>
-    ensures { OnOk result (text.new.items ≡ text.old.items ++ about_json criterion shown.now) }
+    ensures { OnOk result
+        (text.new.items ≡ text.old.items ++ about_json criterion from shown.now) }
 {
     let showing = &shown.showing;
     let line = report_by(alloc, criterion, showing.fed, &showing.verdict)?;
     text.extend_from_slice(b"{\"report\":")?;
     text.extend_from_slice(line.as_bytes())?;
-    push_numbers(text, criterion, shown.registers, showing.from)?;
+    push_numbers(text, criterion, shown.registers, from)?;
     Ok(())
 }
 
@@ -73,7 +76,7 @@ fn push_numbers(
     text: &mut Vec<u8>,
     criterion: Criterion,
     registers: Registers,
-    from: u64,
+    from: u128,
 ) -> Result<(), AllocError>
     ensures { OnOk result
         (text.new.items ≡ text.old.items ++ numbers_json criterion registers from) }
@@ -149,15 +152,12 @@ impl Part<Event> for EventString {
 fn push_mark(text: &mut Vec<u8>, told: Told) -> Result<(), AllocError>
     ensures { OnOk result (text.new.items ≡ text.old.items ++ mark_json told) }
 {
-    match settled_at(told.verdict) {
-        Some(at) => {
-            text.extend_from_slice(b",\"mark\":")?;
-            push_number(text, at)?;
-            text.extend_from_slice(b",\"told\":\"")?;
-            text.extend_from_slice(told_of(told, at).as_bytes())?;
-            text.push(b'"')?;
-        }
-        None => {}
+    if let Some(at) = marked_at(told) {
+        text.extend_from_slice(b",\"mark\":")?;
+        push_number(text, at)?;
+        text.extend_from_slice(b",\"told\":\"")?;
+        text.extend_from_slice(wrong_of(told).as_bytes())?;
+        text.push(b'"')?;
     }
     Ok(())
 }
@@ -177,13 +177,13 @@ fn push_needed(text: &mut Vec<u8>, needed: &Needed) -> Result<(), AllocError>
 /// Adds the reason, if one is told, of a window before which so many events stand.
 fn push_why(
     text: &mut Vec<u8>,
-    from: u64,
+    from: u128,
     events: &[Event],
     needed: &Needed,
 ) -> Result<(), AllocError>
-    requires { from + length events.now < 2 ^ 64 }
+    requires { from + length events.now < 2 ^ 128 }
     ensures { let reason = reason_of needed.now in
-        let told = told_words from events.now reason in
+        let told = told_sentence [] from events.now reason in
         OnOk result (text.new.items ≡ text.old.items ++ why_json told reason) }
 {
     if let Needed::Part {
@@ -191,7 +191,7 @@ fn push_why(
         ..
     } = needed
     {
-        let told = told_by(*text.allocator(), from, events, &reason.end)?;
+        let told = told_by(*text.allocator(), &[], from, events, &reason.end)?;
         text.extend_from_slice(b",\"why\":\"")?;
         push_clauses(text, &told, reason)?;
         text.push(b'"')?;
@@ -209,15 +209,5 @@ impl Part<bool> for MarkDigit {
     fn push(&self, text: &mut Vec<u8>, mark: &bool) -> Result<(), AllocError> {
         text.push(if *mark { b'1' } else { b'0' })?;
         Ok(())
-    }
-}
-
-/// The number of the event that the verdict names, if it names one.
-fn settled_at(verdict: Verdict) -> Option<u64>
-    ensures { result ≡ settled_at verdict }
-{
-    match verdict {
-        Verdict::OpaqueSoFar | Verdict::StrictSoFar => None,
-        Verdict::Violated(at) | Verdict::Undecided(at, _) | Verdict::Malformed(at) => Some(at),
     }
 }

@@ -239,7 +239,7 @@ const extent = events.length === 0 ? 'It has no events.'
   : from > first ? `No transaction was open before event ${first}. Of the ${plural(events.length, 'event')} from there to event ${last} the last ${MOST} are drawn, ${from} to ${last}.`
   : `Drawn: events ${first} to ${last}. No transaction was open before event ${first}.`;
 const why = needed === undefined ? '' : ` ${[...needed].filter(mark => mark === '1').length} of these events are violated by themselves.${needed.includes('0') ? ' The others are faint.' : ''}`;
-byId('about').textContent = `By ${strict ? 'strict serializability' : 'opacity'}, of a run of ${plural(report.events, 'event')} over ${plural(registers, 'register')}. ${extent}${why}`;
+byId('about').textContent = `By ${strict ? 'strict serializability' : 'opacity'}, of a trace of ${plural(report.events, 'event')} over ${plural(registers, 'register')}. ${extent}${why}`;
 
 // Columns: one for each event, as wide as the texts that end there need. A transaction that is still open is drawn, if only as a heading.
 const shown = txs.filter(tx => tx.last >= from || !isEnded(tx)), bars = ops.filter(op => op.last >= from);
@@ -341,7 +341,7 @@ const rest = () => tell('How to read it', [
   'Point at a transaction, or reach it by Tab, to see what it comes before and after in real time.',
   'Click a read, or press Enter on it, to see where its value was written. Escape, or a click elsewhere, goes back.',
   'Arrow keys go from operation to operation.',
-  'Events are numbered from the first of the trace. If the bench in C wrote it, add the number after "from" in FILE.run beside it, if there is one.'], 'soft');
+  'Events are numbered from the first of the trace, or with --from N behind the N before it. The bench in C writes N in FILE.run.'], 'soft');
 function relate(tx) {
   chart.classList.toggle('related', tx !== null && picked === null);
   if (picked) return;

@@ -1,17 +1,8 @@
 -- Where the lines found no memory, that fault answers, which is right of all bytes.
 use Rattle.std.proofs.Common.{◌≡◌, Ok, Err, inl, inr, false, refl, rules, true}
-use Rattle.tmw_defs.specs.Opaque.{zeros}
-use Rattle.tmw_monitor.specs.Fitting.{rules_of}
-use Rattle.tmw_show.proofs.Shows.{shown-within}
 use Rattle.tmw_report.specs.declared.fault.Fault.TheVariants.{Memory}
 use Rattle.tmw_command.specs.BenchRun.{asks_for_log}
 use Rattle.tmw_command.proofs.bench.run.run_bench_cmd.Goals as goal
-
-pub answer_hunt-requires : goal.answer_hunt-requires
-answer_hunt-requires g c =
-    let found = c.in-Ok-hunt_source.ensures.right.2.1 in
-    let shown = c.in-Ok-hunt_source.found.shown in
-    shown-within (rules_of shown.registers zeros c.args.options.now.settings.bounds) found.hunted.log shown.showing found.hunted.shown
 
 pub returns-in-Ok : goal.returns-in-Ok
 returns-in-Ok g c =

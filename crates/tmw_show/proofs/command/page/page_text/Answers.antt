@@ -6,6 +6,6 @@ use Rattle.tmw_show.proofs.command.page.page_text.Goals as goal
 
 pub returns : goal.returns
 returns c =
-    three [] HEAD.now (json_text c.args.criterion c.args.shown.now)
+    three [] HEAD.now (json_text c.args.criterion c.args.before c.args.shown.now)
     (c.in_ok-extend_from_slice.ensures.items ∙ ap (λ xs. xs ++ HEAD.now) c.new-text.ensures.items)
     c.in_ok-push_json.ensures TAIL.now c.in_ok-extend_from_slice-2.ensures.items

@@ -1,14 +1,8 @@
 -- A text for which there is no memory is answered by that fault: what was told is a trace's text.
 use Rattle.tmw_show.proofs.Shared.{Err, Memory, Ok, inl, inr, refl}
 use Rattle.tmw_show.proofs.Explained.{trace-soon}
-use Rattle.tmw_show.proofs.Shows.{shown-within}
 use Rattle.tmw_lines.specs.declared.text_fault.TextFault.TheVariants.{Memory as WantsMemory}
 use Rattle.tmw_show.proofs.command.run.run_show.Goals as goal
-
-pub answer_shown-requires : goal.answer_shown-requires
-answer_shown-requires g c =
-    let told = c.in-Ok.ensures.right in
-    shown-within _ told.2.1.history c.in-Ok.shown.showing told.2.1.tells
 
 pub returns-in-Ok : goal.returns-in-Ok
 returns-in-Ok g c =
