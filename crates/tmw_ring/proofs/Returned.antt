@@ -1,14 +1,5 @@
 -- The parts of writers that come back, put into one seat one after another.
-use Rattle.std.proofs.Common.{◌≡◌, ℕ, ◌<◌, List, [], ◌∷◌, ◌++◌, length, get_or, map, All, refl, sym, ap, ◌∙◌, subst, append_assoc, arith}
-use Rattle.atomic_table.specs.Seated.{TableId}
-use Rattle.atomic_table.specs.Table.{Me}
-use Rattle.tmw_events.specs.declared.ix.Ix.{Ix}
-use Rattle.tmw_ring_defs.specs.declared.ring_phase.WriterPhase.{WriterPhase}
-use Rattle.tmw_ring.specs.Ends.{RingIs, WriterIs, WriterOf}
-use Rattle.tmw_ring.specs.Parts.{Parts}
-use Rattle.tmw_ring.specs.Seats.{writer_in, writer_is, IsIdleWriter}
-use Rattle.tmw_ring.specs.Settling.{part_of}
-use Rattle.tmw_ring.specs.declared.part.Part.TheVariants.{Writes}
+use Rattle.tmw_ring.proofs.Shared.{All, IsIdleWriter, Ix, List, Me, Parts, RingIs, TableId, WriterIs, WriterOf, WriterPhase, Writes, [], ap, append_assoc, arith, get_or, length, map, part_of, refl, subst, sym, writer_in, writer_is, ℕ, ◌++◌, ◌<◌, ◌∙◌, ◌∷◌, ◌≡◌}
 
 -- the parts of writers in two lists in a row
 map_append : (xs ys : List WriterIs) → map part_of (xs ++ ys) ≡ map part_of xs ++ map part_of ys
