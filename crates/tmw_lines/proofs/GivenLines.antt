@@ -1,23 +1,8 @@
 -- Lines whose items a taker is given, one after another.
-use Rattle.std.proofs.Common.{ℕ, ◌+◌, ◌<◌, ◌≤◌, ◌^◌, List, [], ◌∷◌, ◌++◌, length, drop, refl, ap, ◌∙◌, length-append, length-drop, arith}
-use Rattle.std.proofs.lemmas.List.{drop-drop}
-use Rattle.std.proofs.lemmas.List.Elements.{All-push}
-use Rattle.tmw_lines.specs.Given.{AreFirst}
-use Rattle.tmw_lines.specs.GivenLines.{AreTaken, IsLastLacked}
-use Rattle.tmw_lines.specs.Grammar.{Grammar, items_text}
-use Rattle.tmw_lines.specs.LineRead.{IsItemLine}
-use Rattle.tmw_lines.specs.Text.{line}
+use Rattle.tmw_lines.proofs.Shared.{All-push, AreFirst, AreTaken, Grammar, IsItemLine, IsLastLacked, List, [], ap, arith, drop, drop-drop, items_text, length, length-append, length-drop, line, ℕ, ◌++◌, ◌+◌, ◌<◌, ◌^◌, ◌∙◌, ◌∷◌, ◌≤◌}
 use Rattle.tmw_lines.proofs.LinesRead.{items_text-push}
 
 module _ {F H E : Type 0} (grammar : Grammar F H E) (format : F) (bytes : List ℕ) where
-  -- no line
-  pub AreFirst-none : AreFirst grammar format [] 0 bytes
-  AreFirst-none = record {
-    within = omega arith;
-    split = refl;
-    fit = λ i d within. absurd (omega arith);
-  }
-
   -- one line more
   pub AreFirst-push : (items : List E) (item : E) (count more : ℕ) → AreFirst grammar format items count bytes
       → more ≤ length (drop count bytes) → IsItemLine grammar format item (drop count bytes) (drop more (drop count bytes))

@@ -1,17 +1,6 @@
 -- Reading on to the end: a taker was given the items of the lines read so far.
-use Rattle.std.proofs.Common.{◌≡◌, ℕ, ◌+◌, Ok, Err, List, [], ◌∷◌, ◌++◌, sym, ◌∙◌, append_assoc, append-nil, length-append, arith}
-use Rattle.tmw_lines.specs.Given.{GivesItems, LacksLast}
-use Rattle.tmw_lines.specs.Grammar.{Grammar}
-use Rattle.tmw_lines.specs.ItemsGiven.{GivesAll, AreGiven, ReadsToFault}
-use Rattle.tmw_lines.specs.ItemsRead.{HasBegunToRead}
-use Rattle.tmw_lines.specs.Lines.{IsReading, HasRead, GivesItem, GivesEnd, FailsAtLine}
-use Rattle.tmw_lines.specs.declared.lines.Lines.{Lines}
-use Rattle.tmw_lines.specs.declared.text_fault.TextFault.{TextFault}
-use Rattle.tmw_lines.specs.declared.text_fault.TextFault.TheVariants.{BadHeader, BadLine, Cut, Memory, Io, TooLong}
+use Rattle.tmw_lines.proofs.Shared.{AreGiven, BadHeader, BadLine, Cut, Err, FailsAtLine, FromSource, GivesAll, GivesEnd, GivesItem, GivesItems, Grammar, HasBegunToRead, HasRead, Io, IsReading, LacksLast, Lines, List, Memory, Ok, ReadsToFault, Tells, Tells-more, Tells-none, TextFault, TooLong, [], append-nil, append_assoc, arith, length-append, sym, ℕ, ◌++◌, ◌+◌, ◌∙◌, ◌∷◌, ◌≡◌}
 use Rattle.tmw_lines.proofs.LinesRead.{fails-holding}
-use Rattle.tmw_streams.specs.Streams.{FromSource}
-use Rattle.tmw_streams.specs.Told.{Tells}
-use Rattle.tmw_streams.proofs.ToldBytes.{Tells-none, Tells-more}
 
 -- the items of all lines read since were taken
 pub record HasGiven {F H E S T : Type 0} (grammar : Grammar F H E) (From : FromSource S) (Takes : T → List E → T → Type 0) (old new : S) (lines lines_after : Lines F)

@@ -2,19 +2,6 @@
 use Rattle.tmw_ring.proofs.Shared.{Core, Event, Kind, List, RingCell, RingSize, [], ap, apart, ap₂, arith, cell_at, cell_words, crossed, empty_cell, filled, get_elem?, get_or, get_or-set_other, get_or-set_same, joined, kind_value, length, length-replicate, length-set, new_core, packed_header, published, refl, replicate, set, slice_index, some, some-injective, some-ne-none, stamp_word, stamped, standing, subst, suc, sym, value_word, whole, with_cell, word_count, words_of, zero, ℕ, ◌%◌, ◌*◌, ◌+◌, ◌<◌, ◌∙◌, ◌∷◌, ◌≡◌, ◌≢◌}
 use Rattle.std.proofs.Math.Nat.{mod-lt}
 
-length-cell_words : (cells : List RingCell) → length (cell_words cells) ≡ 2 * length cells
-length-cell_words [] = refl
-length-cell_words (cell ∷ cells) = omega (arith, length-cell_words cells)
-
-length-standing : (cells : List RingCell) (from count : ℕ) → length (standing cells from count) ≡ count
-length-standing cells from zero = refl
-length-standing cells from (suc count) = omega (arith, length-standing cells (from + 1) count)
-
-pub length-words : (core : Core) → length (words_of core) ≡ word_count (length core.cells)
-length-words core =
-    let count : ℕ = whole (length core.cells) in
-    omega (arith, length-cell_words (standing core.cells 0 count), length-standing core.cells 0 count)
-
 -- Each cell stands within the table, and the cell that stands there is that cell.
 crossed-within : (cells cell : ℕ) → cell < cells → crossed cell < whole cells
 crossed-within cells cell low = omega (arith, low)

@@ -1,6 +1,5 @@
 -- Each line is given behind those before it.
-use Rattle.std.proofs.Common.{◌≡◌, ◌+◌, ◌-◌, ◌^◌, length, drop, take, sym, ap, ◌∙◌, length-drop, arith}
-use Rattle.std.proofs.lemmas.List.{take_rest, drop-drop}
+use Rattle.tmw_lines.proofs.Shared.{ap, arith, drop, drop-drop, length, length-drop, sym, take, take_rest, ◌+◌, ◌-◌, ◌^◌, ◌∙◌, ◌≡◌}
 use Rattle.tmw_lines.proofs.GivenLines.{AreTaken-push, IsLastLacked-push}
 use Rattle.tmw_lines.proofs.given_lines.give_lines.Goals as goal
 

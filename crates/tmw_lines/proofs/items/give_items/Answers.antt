@@ -1,6 +1,5 @@
 -- Each item that was read is given, and where memory is refused for one, no line is read after its line.
-use Rattle.std.proofs.Common.{◌∙◌, ap, refl, subst, sym, arith}
-use Rattle.tmw_lines.specs.TextFault.{failures_after}
+use Rattle.tmw_lines.proofs.Shared.{ap, arith, failures_after, refl, subst, sym, ◌∙◌}
 use Rattle.tmw_lines.proofs.ItemsGiven.{HasGiven-none, HasGiven-held, HasGiven-push, lacks-held-last, lacks-next, count-next, gives-end, gives-fault, reads_on}
 use Rattle.tmw_lines.proofs.items.give_items.Goals as goal
 

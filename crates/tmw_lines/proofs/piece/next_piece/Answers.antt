@@ -1,8 +1,6 @@
 -- What was seen has no line feed, and where it is all that is held, none is held.
-use Rattle.std.proofs.Common.{◌≤◌, ◌++◌, [], length, sym, ap, ◌∙◌, append-nil, length-append, arith}
-use Rattle.tmw_lines.specs.Held.{bytes_of}
+use Rattle.tmw_lines.proofs.Shared.{[], ap, append-nil, arith, bytes_of, length, length-append, nil_from_length, sym, ◌++◌, ◌∙◌, ◌≤◌}
 use Rattle.tmw_lines.proofs.Pieces.{Reads-more, IsSeen-append, free-seen}
-use Rattle.std.proofs.lemmas.List.{nil_from_length}
 use Rattle.tmw_lines.proofs.piece.next_piece.Goals as goal
 
 pub returns-then-length-bytes-clause-piece : goal.returns-then-length-bytes-clause-piece

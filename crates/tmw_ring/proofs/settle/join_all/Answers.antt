@@ -1,4 +1,4 @@
-use Rattle.tmw_ring.proofs.Shared.{List, Me, Parts, RingIs, WriterIs, [], ap, append-nil, arith, into_iter_items, length, refl, sym, ◌++◌, ◌∙◌, ◌∷◌, ◌≡◌}
+use Rattle.tmw_ring.proofs.Shared.{List, Me, Parts, RingIs, WriterIs, ap, arith, into_iter_items, sym, ◌++◌, ◌∙◌}
 use Rattle.tmw_ring.proofs.Joins.{joins_both}
 use Rattle.tmw_ring.proofs.Returned.{of_all}
 use Rattle.tmw_ring.proofs.settle.join_all.Goals as goal
@@ -18,12 +18,3 @@ join_seat-requires c =
       joins_both c.ring.inside.table.shared.key c.loop-writer.seat.id c.writer.inside.seat.id c.loop-writer.seat.me.0
           c.writer.inside.seat.me.0,
     )
-
-nothing_left : (l : List WriterIs) → length l ≡ 0 → l ≡ []
-nothing_left [] h = refl
-nothing_left (x ∷ xs) h = absurd (omega arith)
-
--- the writers that came out of the loop are all
-all_yielded : (writers yielded left : List WriterIs) → yielded ++ left ≡ writers → length left ≡ 0 → yielded ≡ writers
-all_yielded writers yielded left is empty =
-    sym (append-nil yielded) ∙ ap (λ (l : List WriterIs). yielded ++ l) (sym (nothing_left left empty)) ∙ is
