@@ -12,8 +12,8 @@ pub record HasGiven {F H E S T : Type 0} (grammar : Grammar F H E) (From : FromS
   pub read : (header : H) (given : List E) (earlier : List ℕ) → HasRead grammar lines header given earlier
       → HasRead grammar lines_after header (given ++ items) (earlier ++ bytes)
 
-module _ {F H E S T : Type 0} (grammar : Grammar F H E) (From : FromSource S)
-    (Takes : T → List E → T → Type 0) (a : S) (lines : Lines F) (before : T) where
+module _ {F H E S T : Type 0} {grammar : Grammar F H E} {From : FromSource S}
+    {Takes : T → List E → T → Type 0} {a : S} {lines : Lines F} {before : T} where
   pub HasGiven-none : Takes before [] before → HasGiven grammar From Takes a a lines lines before before
   HasGiven-none none = record {
     bytes = [];
@@ -23,7 +23,7 @@ module _ {F H E S T : Type 0} (grammar : Grammar F H E) (From : FromSource S)
     read = λ header given earlier r. rw (append-nil given, append-nil earlier) r;
   }
 
-  module _ (b : S) (now : Lines F) (between : T) (h : HasGiven grammar From Takes a b lines now before between) where
+  module _ {b : S} {now : Lines F} {between : T} (h : HasGiven grammar From Takes a b lines now before between) where
     -- no fault was answered yet, and not the end
     pub reads_on : HasBegunToRead grammar lines → IsReading now
     reads_on begun = (h.read begun.header begun.items begun.bytes begun.read).reading

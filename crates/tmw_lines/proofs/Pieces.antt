@@ -33,11 +33,11 @@ IsSeen-append bytes rest seen s = record {
 pub free-seen : (bytes : List ℕ) (seen : ℕ) → length bytes ≤ seen → IsSeen seen bytes → IsFree 10 bytes
 free-seen bytes seen all s = rw (take_all seen bytes all) at s.free
 
-module _ {S : Type 0} (From : FromSource S) (a : S) (xs : List ℕ) where
+module _ {S : Type 0} {From : FromSource S} {a : S} {xs : List ℕ} where
   -- what one more read told came behind the bytes held
-  pub Reads-more : (b c : S) (ys bytes zs : List ℕ) → Reads From a b xs ys → Tells From b bytes c
+  pub Reads-more : {b c : S} {ys bytes zs : List ℕ} → Reads From a b xs ys → Tells From b bytes c
       → zs ≡ ys ++ bytes → Reads From a c xs zs
-  Reads-more b c ys bytes zs r told is = record {
+  Reads-more {b = b} {c = c} {bytes = bytes} r told is = record {
     bytes = r.bytes ++ bytes;
     told = Tells-more From a b c r.bytes bytes r.told told;
     is = is ∙ ap (λ z. z ++ bytes) r.is ∙ append_assoc xs r.bytes bytes;

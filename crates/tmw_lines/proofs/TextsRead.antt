@@ -39,8 +39,8 @@ text_fault-read Done grammar Ended lines header items bytes Io f = text_fault-be
 text_fault-read Done grammar Ended lines header items bytes TooLong f = text_fault-behind grammar Ended header items bytes TooLong f.fails
 
 -- a whole text: the header was read, and then the items of all other lines
-module _ {F H E S : Type 0} (grammar : Grammar F H E) (From : FromSource S)
-    (Ended : Type 0) (a b c : S) (lines after : Lines F) (header : H) (first : List ℕ) (held items : List E)
+module _ {F H E S : Type 0} {grammar : Grammar F H E} {From : FromSource S}
+    {Ended : Type 0} {a b c : S} {lines after : Lines F} {header : H} {first : List ℕ} {held items : List E}
     (told : Tells From a first b) (read : HasRead grammar lines header [] first) where
   pub all-ends : {Done : Type 0} (done : Done) → held ≡ []
       → ReadsItems grammar From Ended b c lines after held items (Ok done)
