@@ -1,21 +1,7 @@
 -- A worker, from one round to the next, and to its end.
-use Rattle.std.proofs.Common.{◌≡◌, ◌≤◌, ◌+◌, ◌++◌, ℕ, List, [], ◌∷◌, Option, None, length, refl, sym, ap, ◌∙◌, subst, arith}
-use Rattle.std.proofs.lemmas.List.{length_push}
-use Rattle.rtrb.specs.Ring.{received, sent, SameConsumer, SameProducer}
-use Rattle.rtrb.specs.declared.producer.Producer.{Producer}
-use Rattle.rtrb.specs.declared.consumer.Consumer.{Consumer}
+use Rattle.tmw_bench.proofs.Shared.{Answer, Call, Consumer, Ended, HasMet, HasPlayedLast, HasPlayedOn, HasSeen, HasWorked, IsBetween, Kind, List, None, Option, Producer, Refused, RingIs, SameConsumer, SameProducer, Worker, WriterIs, WriterOf, [], ap, arith, length, length_push, received, refl, sent, subst, sym, ℕ, ◌++◌, ◌+◌, ◌∙◌, ◌∷◌, ◌≡◌, ◌≤◌}
 use Rattle.tmw_bench.proofs.PlayedRounds.{ready-new, ready-met, played_last-worked}
-use Rattle.tmw_bench.specs.Rounds.{HasPlayedLast}
-use Rattle.tmw_events.specs.declared.event.Kind.{Kind}
-use Rattle.tmw_bench.specs.Workers.{HasPlayedOn, HasSeen, IsBetween}
-use Rattle.tmw_bench.specs.declared.ended.Ended.{Ended}
-use Rattle.tmw_bench.specs.declared.worker.Worker.{Worker}
-use Rattle.tmw_ring.specs.Ends.{RingIs, WriterIs, WriterOf}
 use Rattle.tmw_ring.specs.Meeting.{FindsTail}
-use Rattle.tmw_ring.specs.declared.refused.Refused.{Refused}
-use Rattle.tmw_bench.specs.Meeting.{HasMet}
-use Rattle.tmw_tm.specs.Answers.{Call, Answer}
-use Rattle.tmw_bench.specs.Working.{HasWorked}
 
 module _ {T A P : Type 0} where
   pub up-then : (a b c : Producer T A P) → SameProducer a b → SameProducer b c → SameProducer a c

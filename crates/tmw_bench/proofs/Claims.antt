@@ -1,20 +1,6 @@
 -- Places that a writer claims, call after call.
-use Rattle.std.proofs.Common.{◌≡◌, ◌++◌, ◌≤◌, ◌<◌, ℕ, List, [], ◌∷◌, Ok, Err, IsTrue, inl, inr, refl, sym, ap, ◌∙◌, append_assoc, arith}
-use Rattle.std.proofs.lemmas.List.{append-nil}
-use Rattle.std.proofs.lemmas.List.Elements.{All-append, All-cons, All-nil}
-use Rattle.tmw_defs.specs.History.{answers}
-use Rattle.tmw_events.specs.declared.event.Kind.{Kind}
-use Rattle.tmw_pump.proofs.KindsMade.{kinds_made-append}
+use Rattle.tmw_bench.proofs.Shared.{All-append, All-cons, All-nil, Err, Full, HasClaimed, HasTried, IsTrue, Kind, List, Made, Ok, Refused, RingIs, Spent, StopsAt, WriterIs, WriterOf, [], answers, ap, append-nil, append_assoc, arith, inl, inr, kinds_made, kinds_made-append, made_at, refl, sym, tail_of, ℕ, ◌++◌, ◌<◌, ◌∙◌, ◌∷◌, ◌≡◌, ◌≤◌}
 use Rattle.tmw_bench.proofs.Tries.{has_looked-refused, was_refused-tried}
-use Rattle.tmw_pump.specs.Kinds.{kinds_made}
-use Rattle.tmw_bench.specs.Recording.{HasTried}
-use Rattle.tmw_ring.specs.Ends.{RingIs, WriterIs, WriterOf}
-use Rattle.tmw_ring.specs.Recording.{made_at}
-use Rattle.tmw_ring.specs.declared.part.Made.{Made}
-use Rattle.tmw_ring.specs.declared.refused.Refused.{Refused}
-use Rattle.tmw_ring.specs.declared.refused.Refused.TheVariants.{Full, Spent}
-use Rattle.tmw_bench.specs.Calling.{HasClaimed, StopsAt}
-use Rattle.tmw_bench.specs.Working.{tail_of}
 
 -- nothing was claimed
 pub claimed-none : (writer : WriterIs) → HasClaimed [] writer writer

@@ -1,17 +1,5 @@
 -- What the leader knows of a worker that has come back: it was told all bounds and no others, and has told all that was heard.
-use Rattle.std.proofs.Common.{◌≡◌, ◌+◌, ◌++◌, ℕ, List, [], ◌∷◌, Option, length, refl, sym, ap, ◌∙◌, subst, arith}
-use Rattle.std.proofs.lemmas.List.{append-nil, length-append, length_push, nil_from_length}
-use Rattle.rtrb.specs.Ring.{received, sent}
-use Rattle.tmw_bench.specs.Rounds.{HasPlayedLast}
-use Rattle.tmw_events.specs.declared.event.Kind.{Kind}
-use Rattle.tmw_bench.specs.Workers.{in_order, HasPlayedOn}
-use Rattle.tmw_bench.specs.Leading.{IsLineAt}
-use Rattle.tmw_bench.specs.declared.ended.Ended.{Ended}
-use Rattle.tmw_bench.specs.declared.line.Line.{Line}
-use Rattle.tmw_bench.specs.declared.worker.Worker.{Worker}
-use Rattle.tmw_ring.specs.Ends.{RingIs}
-use Rattle.tmw_ring.specs.declared.refused.Refused.{Refused}
-use Rattle.tmw_tm.specs.Answers.{Call, Answer}
+use Rattle.tmw_bench.proofs.Shared.{Answer, Call, Ended, HasPlayedLast, HasPlayedOn, IsLineAt, Kind, Line, List, Option, Refused, RingIs, Worker, [], ap, append-nil, arith, in_order, length, length-append, length_push, nil_from_length, received, refl, sent, subst, sym, ℕ, ◌++◌, ◌+◌, ◌∙◌, ◌∷◌, ◌≡◌}
 
 -- two lists that end in one item each
 pub last-same : {A : Type 0} (xs ys : List A) (x y : A) → length xs ≡ length ys → xs ++ x ∷ [] ≡ ys ++ y ∷ [] → (xs ≡ ys) × (x ≡ y)

@@ -1,29 +1,9 @@
 -- All workers have come back.
-use Rattle.std.proofs.Common.{◌≡◌, ◌<◌, ◌+◌, ◌++◌, ℕ, List, [], ◌∷◌, Option, Some, None, length, get_or, map, take, drop, sym, ap, ◌∙◌, subst, arith}
-use Rattle.std.proofs.lemmas.List.{get_or-map, length-map, length_push, take-append-le, take_all}
-use Rattle.rtrb.specs.Ring.{received, sent, IsPair, SameConsumer, SameProducer}
-use Rattle.rtrb.specs.declared.producer.Producer.{Producer}
-use Rattle.rtrb.specs.declared.consumer.Consumer.{Consumer}
-use Rattle.tmw_bench.specs.Begun.{IsAfter}
-use Rattle.tmw_bench.specs.Playing.{SomeStop}
-use Rattle.tmw_bench.specs.Rounds.{HasPlayedLast}
-use Rattle.tmw_defs.specs.Verdict.{Rules}
-use Rattle.tmw_drive.specs.Driving.{script_at}
-use Rattle.tmw_events.specs.declared.event.Kind.{Kind}
+use Rattle.tmw_bench.proofs.Shared.{Answer, AreClosed, AreNewLines, AreNewWorkers, AreOpened, ArePairs, Call, Consumer, Ended, Front, HasLedTo, HasPlayedLast, HasPlayedOn, IsAfter, IsClosed, IsPair, IsPairOf, IsPromised, Kind, Line, List, None, Option, Producer, ReaderIs, ReaderOf, Refused, RingIs, Rules, SameConsumer, SameProducer, Some, SomeStop, SomeToldStop, Worker, WriterIs, WriterOf, [], ap, arith, drop, get_or, get_or-map, length, length-map, length_push, map, received, script_at, sent, subst, sym, take, take-append-le, take_all, ℕ, ◌++◌, ◌+◌, ◌<◌, ◌∙◌, ◌∷◌, ◌≡◌}
 use Rattle.tmw_events.specs.declared.ix.Ix.{Ix}
 use Rattle.tmw_bench.proofs.Closing.{last-same, played-closed}
 use Rattle.tmw_bench.proofs.Starts.{Back}
-use Rattle.tmw_bench.specs.Lines.{AreClosed, AreNewWorkers, AreOpened, ArePairs, IsClosed, IsPairOf, IsPromised}
-use Rattle.tmw_bench.specs.Workers.{HasPlayedOn}
-use Rattle.tmw_bench.specs.Leading.{AreNewLines, HasLedTo, SomeToldStop}
-use Rattle.tmw_bench.specs.declared.ended.Ended.{Ended}
-use Rattle.tmw_bench.specs.declared.line.Line.{Line}
-use Rattle.tmw_bench.specs.declared.worker.Worker.{Worker}
-use Rattle.tmw_pump.specs.declared.front.Front.{Front}
-use Rattle.tmw_ring.specs.Ends.{RingIs, WriterIs, WriterOf, ReaderIs, ReaderOf}
 use Rattle.tmw_ring.specs.NewRing.{AreNewWriters}
-use Rattle.tmw_ring.specs.declared.refused.Refused.{Refused}
-use Rattle.tmw_tm.specs.Answers.{Call, Answer}
 
 pair-then : {T A P : Type 0} (p_old p_new : Producer T A P) (c_old c_new : Consumer T A P) → IsPair p_old c_old → SameProducer p_old p_new
     → SameConsumer c_old c_new → IsPair p_new c_new
@@ -83,9 +63,6 @@ module _ (gave : Call → Answer → Type 0) (ring : RingIs) (scripts : List (Li
     (writer_count : length writers ≡ length scripts) (back_count : length backs ≡ length writers)
     (on : (place : ℕ) (d : Back) → place < length writers
     → HasPlayedOn gave ring (script_at scripts place) (get_or workers place d.0) (get_or backs place d).1 (get_or backs place d).0) where
-  worker_of : Back → Worker
-  worker_of one = one.0
-
   pub pairs : ArePairs (map (λ (one : Back). one.0) backs) lines_after
   pairs place a b low =
       let m = length-map backs (λ (one : Back). one.0) in

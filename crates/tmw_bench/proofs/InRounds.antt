@@ -1,30 +1,9 @@
 -- From a settled ring, whose writers have claimed whole rounds and a last one, to the log of these rounds.
-use Rattle.std.proofs.Common.{◌≡◌, ◌≤◌, ◌<◌, ◌++◌, ℕ, true, List, [], ◌∷◌, Option, Some, None, length, get_or, take, drop, inl, inr, sym, ap, ◌∙◌, subst, arith}
-use Rattle.std.specs.Prelude.{All}
-use Rattle.std.proofs.lemmas.Bool.{cases_lt}
-use Rattle.std.proofs.lemmas.List.{length-take-le, take-append-drop}
-use Rattle.std.proofs.lemmas.List.Elements.{All-drop, All-take}
+use Rattle.tmw_bench.proofs.Shared.{All, All-drop, All-take, AllOpaque, AllStand, Answer, AreEndings, Call, Ending, EndsRound, EndsWork, Event, FindsFrom, Full, HasPlayed, HasPlayedLast, HaveAllPlayedLast, IsInRounds, IsLogOfAll, IsSettled, Kind, List, None, Option, ReaderIs, Refused, Rules, Some, Spent, WriterIs, [], ap, arith, cases_lt, drop, ending_of, get_or, inl, inr, kinds_of, last_bound, length, length-take-le, made_from, no_kinds, script_at, subst, sym, take, take-append-drop, true, ℕ, ◌++◌, ◌<◌, ◌∙◌, ◌∷◌, ◌≡◌, ◌≤◌}
 use Rattle.tmw_bench.proofs.Cutting.{cutting}
 use Rattle.tmw_bench.proofs.OpaqueRounds.{all_opaque-take, last_bound-within}
 use Rattle.tmw_bench.proofs.PlayedRounds.{earlier_played}
 use Rattle.tmw_bench.proofs.WholeRounds.{are_whole_rounds}
-use Rattle.tmw_bench.specs.Benched.{EndsRound, IsInRounds}
-use Rattle.tmw_bench.specs.Rounds.{last_bound, ending_of, AllOpaque, AreEndings, HasPlayed, HasPlayedLast, HaveAllPlayedLast, IsLogOfAll}
-use Rattle.tmw_defs.specs.Texts.{kinds_of}
-use Rattle.tmw_defs.specs.Verdict.{Rules}
-use Rattle.tmw_drive.proofs.Drives.{no_kinds}
-use Rattle.tmw_drive.specs.Driving.{script_at}
-use Rattle.tmw_drive.specs.declared.ending.Ending.{Ending}
-use Rattle.tmw_events.specs.declared.event.Event.{Event}
-use Rattle.tmw_events.specs.declared.event.Kind.{Kind}
-use Rattle.tmw_ring.specs.Ends.{WriterIs, ReaderIs}
-use Rattle.tmw_ring.specs.Parts.{made_from}
-use Rattle.tmw_ring.specs.Settling.{IsSettled}
-use Rattle.tmw_ring.specs.declared.refused.Refused.{Refused}
-use Rattle.tmw_ring.specs.declared.refused.Refused.TheVariants.{Full, Spent}
-use Rattle.tmw_runs.specs.Standing.{AllStand}
-use Rattle.tmw_tm.specs.Answers.{Call, Answer}
-use Rattle.tmw_bench.specs.Working.{EndsWork, FindsFrom}
 
 -- the log of a settled ring
 pub log_of_all-settled : (scripts : List (List (List Kind))) (reader : ReaderIs) (writers : List WriterIs) (left log : List Event)

@@ -1,24 +1,10 @@
 -- The workers have come back from their threads, each as its thread has promised.
-use Rattle.std.proofs.Common.{◌≡◌, ◌<◌, ◌+◌, ◌++◌, ℕ, List, length, get_or, take, drop, sym, subst, arith}
-use Rattle.std.specs.Global.{Vec}
+use Rattle.tmw_bench.proofs.Shared.{Answer, AreOpened, Call, Front, HasLed, HasLedTo, HasPlayedOn, IsPromised, Kind, Line, List, Playing, RingIs, Rules, Vec, Worker, WriterIs, arith, calls_of, drop, get_or, length, script_at, subst, sym, take, ℕ, ◌++◌, ◌+◌, ◌<◌, ◌≡◌}
 use Rattle.std.specs.Vec.{vec_len}
 use Rattle.std.specs.PromisedHandle.{KeepsEach}
-use Rattle.std.specs.declared.thread.Promise as Promise
 use Rattle.tmw_bench.proofs.Gathered.{promised_at, written_back}
 use Rattle.tmw_bench.proofs.Starts.{Back, Handle}
-use Rattle.tmw_bench.specs.Leading.{HasLed, HasLedTo}
-use Rattle.tmw_bench.specs.Lines.{AreOpened, IsPromised}
-use Rattle.tmw_bench.specs.Workers.{HasPlayedOn}
-use Rattle.tmw_bench.specs.declared.line.Line.{Line}
-use Rattle.tmw_bench.specs.declared.threads.Playing.{Playing}
-use Rattle.tmw_bench.specs.declared.worker.Worker.{Worker}
-use Rattle.tmw_defs.specs.Verdict.{Rules}
-use Rattle.tmw_drive.specs.Driving.{script_at}
-use Rattle.tmw_drive.specs.Playing.{calls_of}
-use Rattle.tmw_events.specs.declared.event.Kind.{Kind}
-use Rattle.tmw_pump.specs.declared.front.Front.{Front}
-use Rattle.tmw_ring.specs.Ends.{RingIs, WriterIs}
-use Rattle.tmw_tm.specs.Answers.{Call, Answer}
+use Rattle.std.specs.declared.thread.Promise as Promise
 
 -- A worker for each writer was given to a thread, and the threads were joined.
 module _ {J : Type 0} (gave : Call → Answer → Type 0) (ring : RingIs) (scripts : List (List (List Kind))) (writers : List WriterIs)

@@ -1,27 +1,11 @@
 -- What the leader has heard and told, from one worker to the next.
-use Rattle.std.proofs.Common.{◌≡◌, ◌≢◌, ◌<◌, ◌+◌, ◌++◌, ℕ, List, [], ◌∷◌, Option, Some, length, get_or, set, None, refl, inl, inr, sym, ap, ◌∙◌, subst, append_assoc, arith}
+use Rattle.tmw_bench.proofs.Shared.{AllOpaque, AreNewLines, Ended, Event, Fits, Front, HasGoneOn, HasHeard, HasJudged, HasLedTo, HasToldStop, HaveHeardUpTo, HaveToldUpTo, IsVerdict, Line, List, None, OpaqueSoFar, Option, Refused, Rules, SameConsumer, SameProducer, Some, SomeToldStop, [], ap, append_assoc, arith, cases_lt, get_or, get_or-set_other, get_or-set_same, inl, inr, judged-none, length, length-append, length-set, length_push, received, refl, sent, set, subst, sym, ℕ, ◌++◌, ◌+◌, ◌<◌, ◌∙◌, ◌∷◌, ◌≡◌, ◌≢◌}
 use Rattle.std.specs.Option.{IsSome}
 use Rattle.std.proofs.Math.Nat.{ne_of_lt}
-use Rattle.std.proofs.lemmas.Bool.{cases_lt}
-use Rattle.std.proofs.lemmas.List.{get_or-set_same, get_or-set_other, length-append, length-set, length_push}
-use Rattle.rtrb.specs.Ring.{received, sent, SameConsumer, SameProducer}
 use Rattle.tmw_bench.proofs.OpaqueRounds.{all_opaque-append, all_opaque-round}
-use Rattle.tmw_bench.specs.Rounds.{AllOpaque}
-use Rattle.tmw_defs.specs.Verdict.{Rules, IsVerdict}
-use Rattle.tmw_defs.specs.declared.verdict.Verdict.TheVariants.{OpaqueSoFar}
-use Rattle.tmw_events.specs.declared.event.Event.{Event}
 use Rattle.tmw_bench.proofs.Between.{up-then, down-then}
-use Rattle.tmw_bench.specs.Keeping.{HasGoneOn}
-use Rattle.tmw_bench.specs.Leading.{AreNewLines, HasHeard, HasLedTo, HasToldStop, HaveHeardUpTo, HaveToldUpTo, SomeToldStop}
-use Rattle.tmw_bench.specs.declared.ended.Ended.{Ended}
-use Rattle.tmw_bench.specs.declared.line.Line.{Line}
-use Rattle.tmw_monitor.specs.Fitting.{Fits}
-use Rattle.tmw_pump.proofs.Turns.{judged-none}
-use Rattle.tmw_pump.specs.Fronts.{HasJudged}
-use Rattle.tmw_pump.specs.declared.front.Front.{Front}
 use Rattle.tmw_pump.specs.declared.keep.Keep.{Ghosts}
 use Rattle.tmw_pump.specs.declared.pump.Pump.{Pump}
-use Rattle.tmw_ring.specs.declared.refused.Refused.{Refused}
 
 -- The pump goes on.
 judged-then : (one two : ℕ) (old mid new : Front) → HasJudged one old mid → HasJudged two mid new → HasJudged (one + two) old new

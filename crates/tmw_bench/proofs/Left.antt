@@ -1,11 +1,5 @@
 -- The calls that a script has left become fewer with each answer.
-use Rattle.std.proofs.Common.{◌≡◌, ◌+◌, ◌<◌, ℕ, List, [], ◌∷◌, Some, length, ap, inl, inr, arith}
-use Rattle.std.proofs.lemmas.Bool.{cases_Bool}
-use Rattle.tmw_defs.specs.History.{ends}
-use Rattle.tmw_drive.proofs.Going.{next_left, next_of-some, left_of-goes_on}
-use Rattle.tmw_drive.specs.Playing.{left_of, next_of, GoesOn}
-use Rattle.tmw_drive.specs.declared.player.Player.{Player}
-use Rattle.tmw_events.specs.declared.event.Kind.{Kind}
+use Rattle.tmw_bench.proofs.Shared.{GoesOn, Kind, List, Player, Some, [], ap, arith, cases_Bool, ends, inl, inr, left_of, left_of-goes_on, length, next_left, next_of, next_of-some, ℕ, ◌+◌, ◌<◌, ◌∷◌, ◌≡◌}
 
 abbrev pub calls_left : List (List Kind) → ℕ
 calls_left [] = 0

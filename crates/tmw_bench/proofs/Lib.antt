@@ -14,6 +14,7 @@ pub mod PlayedRounds
 pub mod RepeatedRuns
 pub mod Returns
 pub mod RoundsOver
+mod Shared
 pub mod Starts
 pub mod Tries
 pub mod Whole

@@ -1,11 +1,5 @@
 -- The places that a writer has claimed in a log: of a log in two parts, and between which lengths they lie.
-use Rattle.std.proofs.Common.{◌≡◌, ◌==◌, ◌≤◌, ◌<◌, ◌+◌, ◌++◌, ℕ, List, [], ◌∷◌, length, inl, inr, ap, ◌∙◌, arith}
-use Rattle.std.specs.Prelude.{All}
-use Rattle.std.proofs.lemmas.Bool.{cases_Bool}
-use Rattle.std.proofs.lemmas.List.Elements.{All-cons, All-nil}
-use Rattle.tmw_events.specs.declared.event.Event.{Event}
-use Rattle.tmw_ring.specs.Parts.{made_from}
-use Rattle.tmw_ring.specs.declared.part.Made.{Made}
+use Rattle.tmw_bench.proofs.Shared.{All, All-cons, All-nil, Event, List, Made, [], ap, arith, cases_Bool, inl, inr, length, made_from, ℕ, ◌++◌, ◌+◌, ◌<◌, ◌==◌, ◌∙◌, ◌∷◌, ◌≡◌, ◌≤◌}
 
 pub made_from-append : (writer place : ℕ) (front back : List Event)
     → made_from writer place (front ++ back) ≡ made_from writer place front ++ made_from writer (place + length front) back

@@ -1,30 +1,9 @@
 -- A log of rounds is never malformed: each thread's events begin a run of its script, repeated.
-use Rattle.std.proofs.Common.{◌≡◌, ◌<◌, ℕ, zero, suc, List, [], ◌∷◌, length, get_or, take, IsTrue, inl, inr, refl, sym, ap, ◌∙◌, subst, append_assoc}
-use Rattle.std.specs.Prelude.{◌≢◌, All}
-use Rattle.std.proofs.lemmas.Bool.{both_ways, cases_lt}
-use Rattle.std.proofs.lemmas.List.{append-nil, get_or_past}
+use Rattle.tmw_bench.proofs.Shared.{All, Answer, AreWholeRounds, Call, Ending, EndsRound, Event, Headline, IsBeginning, IsFirst, IsInRounds, IsMalformed, IsTrue, IsWholeRun, Kind, List, Malformed, Rules, Verdict, WriterIs, [], ap, append-nil, append_assoc, are_transactions, both_ways, cases_lt, get_or, get_or_past, inl, inr, is_well_formed, kinds_of, kinds_of-append, length, no_kinds, refl, script_at, subst, suc, sym, take, whole_run-append, zero, ℕ, ◌<◌, ◌∙◌, ◌∷◌, ◌≡◌, ◌≢◌}
 use Rattle.tmw_bench.proofs.InRounds.{some_writer}
 use Rattle.tmw_bench.proofs.RepeatedRuns.{repeated, are_transactions-repeated, beginning-append, repeated-nil}
-use Rattle.tmw_bench.specs.Benched.{AreWholeRounds, EndsRound, IsInRounds}
-use Rattle.tmw_defs.specs.History.{is_well_formed}
-use Rattle.tmw_defs.specs.Texts.{kinds_of}
-use Rattle.tmw_defs.specs.Verdict.{Rules, IsFirst, IsMalformed}
-use Rattle.tmw_defs.specs.declared.verdict.Verdict.{Verdict}
-use Rattle.tmw_defs.specs.declared.verdict.Verdict.TheVariants.{Malformed}
-use Rattle.tmw_drive.proofs.Drives.{no_kinds}
-use Rattle.tmw_drive.specs.Driving.{script_at}
-use Rattle.tmw_drive.specs.declared.ending.Ending.{Ending}
 use Rattle.tmw_drive.specs.declared.ending.Ending.TheVariants.{Done, Left, Stopped}
-use Rattle.tmw_events.specs.declared.event.Event.{Event}
-use Rattle.tmw_events.specs.declared.event.Kind.{Kind}
-use Rattle.tmw_pump.specs.Headline.{Headline}
-use Rattle.tmw_ring.specs.Ends.{WriterIs}
-use Rattle.tmw_runs.proofs.LongerRuns.{whole_run-append}
 use Rattle.tmw_runs.proofs.NeverMalformed.{formed_law}
-use Rattle.tmw_runs.proofs.WellFormed.{kinds_of-append}
-use Rattle.tmw_runs.specs.Runs.{IsWholeRun, IsBeginning}
-use Rattle.tmw_runs.specs.Scripts.{are_transactions}
-use Rattle.tmw_tm.specs.Answers.{Call, Answer}
 
 -- a thread's events of whole rounds are a whole run of its script, repeated
 whole_run-rounds : (rules : Rules) (gives : Call → Answer → Type 0) (scripts : List (List (List Kind))) (count : ℕ) (log : List Event)

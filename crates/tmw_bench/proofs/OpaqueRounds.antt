@@ -1,10 +1,5 @@
 -- That the verdict was opaque so far at each bound, as the log goes on and when it is cut.
-use Rattle.std.proofs.Common.{◌≡◌, ◌≤◌, ◌++◌, ℕ, List, [], ◌∷◌, length, take, sym, subst, arith}
-use Rattle.std.proofs.lemmas.List.{length-append, length-take-le, take-append-le, take-take, take_all}
-use Rattle.tmw_bench.specs.Rounds.{last_bound, AllOpaque}
-use Rattle.tmw_defs.specs.Verdict.{Rules, IsVerdict}
-use Rattle.tmw_defs.specs.declared.verdict.Verdict.TheVariants.{OpaqueSoFar}
-use Rattle.tmw_events.specs.declared.event.Event.{Event}
+use Rattle.tmw_bench.proofs.Shared.{AllOpaque, Event, IsVerdict, List, OpaqueSoFar, Rules, [], arith, last_bound, length, length-append, length-take-le, subst, sym, take, take-append-le, take-take, take_all, ℕ, ◌++◌, ◌∷◌, ◌≡◌, ◌≤◌}
 
 -- the log has come as far as the last of the rounds
 pub last_bound-within : (rules : Rules) (bounds : List ℕ) (log : List Event) → AllOpaque rules bounds log → last_bound bounds ≤ length log

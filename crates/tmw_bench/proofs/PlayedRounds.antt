@@ -1,16 +1,5 @@
 -- What a writer has claimed in whole rounds, one round after another, and where writers meet in between.
-use Rattle.std.proofs.Common.{◌≡◌, ◌<◌, ◌≤◌, ℕ, List, [], ◌∷◌, Option, Some, None, sym, ◌∙◌, subst, arith}
-use Rattle.std.specs.Prelude.{All}
-use Rattle.std.proofs.lemmas.List.Elements.{All-append, All-nil}
-use Rattle.tmw_bench.specs.Rounds.{last_bound, HasPlayed, HasPlayedLast, IsReady}
-use Rattle.tmw_events.specs.declared.event.Kind.{Kind}
-use Rattle.tmw_pump.specs.Kinds.{kinds_made}
-use Rattle.tmw_ring.specs.Ends.{WriterIs}
-use Rattle.tmw_ring.specs.declared.part.Made.{Made}
-use Rattle.tmw_ring.specs.declared.refused.Refused.{Refused}
-use Rattle.tmw_bench.specs.Meeting.{HasMet}
-use Rattle.tmw_tm.specs.Answers.{Call, Answer}
-use Rattle.tmw_bench.specs.Working.{EndsWork, FindsFrom, HasWorked}
+use Rattle.tmw_bench.proofs.Shared.{All, All-append, All-nil, Answer, Call, EndsWork, FindsFrom, HasMet, HasPlayed, HasPlayedLast, HasWorked, IsReady, Kind, List, Made, None, Option, Refused, Some, WriterIs, [], arith, kinds_made, last_bound, subst, sym, ℕ, ◌<◌, ◌∙◌, ◌∷◌, ◌≡◌, ◌≤◌}
 
 -- a new writer is ready for the first round
 pub ready-new : (gives : Call → Answer → Type 0) (script : List (List Kind)) (writer : WriterIs) → writer.made ≡ [] → IsReady gives script [] writer

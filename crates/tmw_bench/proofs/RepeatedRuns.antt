@@ -1,12 +1,6 @@
 -- Runs of a script that is carried out again and again.
-use Rattle.std.proofs.Common.{◌≡◌, ◌++◌, ℕ, zero, suc, List, [], IsTrue, refl, sym, ◌∙◌, subst, append_assoc}
-use Rattle.std.proofs.lemmas.Bool.{and_from}
-use Rattle.std.proofs.lemmas.List.{append-nil}
+use Rattle.tmw_bench.proofs.Shared.{IsBeginning, IsTrue, IsWholeRun, Kind, List, [], and_from, append-nil, append_assoc, are_transactions, is_transaction, refl, subst, suc, sym, whole_run-append, zero, ℕ, ◌++◌, ◌∙◌, ◌≡◌}
 use Rattle.std.proofs.lemmas.List.Folds.{list_all-append}
-use Rattle.tmw_events.specs.declared.event.Kind.{Kind}
-use Rattle.tmw_runs.proofs.LongerRuns.{whole_run-append}
-use Rattle.tmw_runs.specs.Runs.{IsWholeRun, IsBeginning}
-use Rattle.tmw_runs.specs.Scripts.{is_transaction, are_transactions}
 
 -- the script, so many times
 abbrev pub repeated : ℕ → List (List Kind) → List (List Kind)

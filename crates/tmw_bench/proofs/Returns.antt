@@ -1,15 +1,5 @@
 -- What workers were given, and what they have done with it.
-use Rattle.std.proofs.Common.{◌≡◌, ◌<◌, ◌++◌, ℕ, true, List, [], ◌∷◌, Option, length, get_or, sym, ap, ◌∙◌, subst}
-use Rattle.std.proofs.Math.Seq.{get_or-append_seam}
-use Rattle.tmw_runs.proofs.StandingSteps.{all_stand-more}
-use Rattle.tmw_bench.specs.Playing.{GivesWithin}
-use Rattle.tmw_events.specs.declared.event.Kind.{Kind}
-use Rattle.tmw_ring.proofs.InOrder.{one_more}
-use Rattle.tmw_pump.specs.Kinds.{kinds_made}
-use Rattle.tmw_ring.specs.Ends.{WriterIs}
-use Rattle.tmw_ring.specs.declared.refused.Refused.{Refused}
-use Rattle.tmw_tm.specs.Answers.{Call, Answer}
-use Rattle.tmw_bench.specs.Working.{HasWorked}
+use Rattle.tmw_bench.proofs.Shared.{Answer, Call, GivesWithin, HasWorked, Kind, List, Option, Refused, WriterIs, [], all_stand-more, ap, get_or, get_or-append_seam, kinds_made, length, one_more, subst, sym, true, ℕ, ◌++◌, ◌<◌, ◌∙◌, ◌∷◌, ◌≡◌}
 
 -- What was carried out with answers that the memory gives was so with answers of which there may be more.
 pub worked-more : (gives more : Call → Answer → Type 0) (script : List (List Kind)) (before writer : WriterIs) (stop : Option Refused)

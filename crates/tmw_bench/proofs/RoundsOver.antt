@@ -1,24 +1,8 @@
 -- Where no further round was begun, and how the threads have ended.
-use Rattle.std.proofs.Common.{◌≡◌, ◌<◌, ◌++◌, ℕ, List, Option, None, length, get_or, map, inl, inr, sym, ap, ◌∙◌, subst, arith}
-use Rattle.std.proofs.lemmas.List.{length-append, length-map, get_or-map, take-append-le}
-use Rattle.std.specs.Prelude.{◌≢◌, ◌⊎◌}
+use Rattle.tmw_bench.proofs.Shared.{AreEndings, Ending, Event, Front, Headline, IsFine, IsOver, IsVerdict, Kind, List, None, OpaqueSoFar, Option, Refused, Rules, SomeStopped, Verdict, WriterIs, ap, arith, ending_of, get_or, get_or-map, inl, inr, length, length-append, length-map, map, subst, sym, take-append-le, verdict-one, ℕ, ◌++◌, ◌<◌, ◌∙◌, ◌≡◌, ◌≢◌, ◌⊎◌}
 use Rattle.tmw_bench.proofs.Whole.{some_stopped-endings}
-use Rattle.tmw_bench.specs.Begun.{IsOver}
-use Rattle.tmw_bench.specs.Benched.{SomeStopped}
-use Rattle.tmw_bench.specs.Rounds.{ending_of, AreEndings}
-use Rattle.tmw_defs.proofs.VerdictProof.{verdict-one}
-use Rattle.tmw_defs.specs.Verdict.{Rules, IsFine, IsVerdict}
 use Rattle.tmw_defs.specs.declared.criterion.Criterion.TheVariants.{Opacity}
-use Rattle.tmw_defs.specs.declared.verdict.Verdict.{Verdict}
-use Rattle.tmw_defs.specs.declared.verdict.Verdict.TheVariants.{OpaqueSoFar}
-use Rattle.tmw_drive.specs.declared.ending.Ending.{Ending}
-use Rattle.tmw_events.specs.declared.event.Event.{Event}
-use Rattle.tmw_events.specs.declared.event.Kind.{Kind}
 use Rattle.tmw_pump.proofs.Verdicts.{fine-opaque}
-use Rattle.tmw_pump.specs.Headline.{Headline}
-use Rattle.tmw_pump.specs.declared.front.Front.{Front}
-use Rattle.tmw_ring.specs.Ends.{WriterIs}
-use Rattle.tmw_ring.specs.declared.refused.Refused.{Refused}
 
 -- Each ending is that of its thread's refusal, if any.
 pub are_endings-map : (scripts : List (List (List Kind))) (stops : List (Option Refused)) (ends : List Ending) → length stops ≡ length scripts

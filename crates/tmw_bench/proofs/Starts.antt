@@ -1,17 +1,7 @@
 -- Workers that go to their threads.
-use Rattle.std.proofs.Common.{◌≡◌, ◌≤◌, ◌<◌, ◌+◌, ◌++◌, ℕ, List, [], ◌∷◌, Option, length, get_or, map, set, inl, inr, sym, ap, ◌∙◌, subst, arith}
+use Rattle.tmw_bench.proofs.Shared.{ArePairs, IsClosed, IsOpened, IsPairOf, Line, List, Option, Playing, Refused, Worker, WriterIs, [], ap, arith, cases_lt, get_or, get_or-append_seam, get_or-map, get_or-set_other, inl, inr, length, length-map, map, set, shorter, subst, sym, ℕ, ◌++◌, ◌+◌, ◌<◌, ◌∙◌, ◌∷◌, ◌≡◌, ◌≤◌}
 use Rattle.std.proofs.Math.ListN.{get_or-append}
-use Rattle.std.proofs.Math.Seq.{get_or-append_seam}
-use Rattle.std.proofs.lemmas.Bool.{cases_lt}
-use Rattle.std.proofs.lemmas.List.{get_or-map, get_or-set_other, length-map}
-use Rattle.tmw_ring.proofs.InOrder.{shorter}
-use Rattle.tmw_bench.specs.Lines.{ArePairs, IsClosed, IsOpened, IsPairOf}
-use Rattle.tmw_bench.specs.declared.line.Line.{Line}
-use Rattle.tmw_ring.specs.Ends.{WriterIs}
 use Rattle.std.specs.declared.thread.PromisedHandle.{PromisedHandle}
-use Rattle.tmw_bench.specs.declared.threads.Playing.{Playing}
-use Rattle.tmw_bench.specs.declared.worker.Worker.{Worker}
-use Rattle.tmw_ring.specs.declared.refused.Refused.{Refused}
 
 -- what a thread gives back, and the handle that promises it
 abbrev pub Back : Type 0

@@ -1,11 +1,5 @@
 -- The writer tries, waits, and tries again.
-use Rattle.std.proofs.Common.{◌≡◌, ℕ, Result, Ok, Err, IfOk, IfErr, sym, ◌∙◌}
-use Rattle.tmw_bench.specs.Recording.{HasTried, HasWaited, WasRefused}
-use Rattle.tmw_events.specs.declared.event.Kind.{Kind}
-use Rattle.tmw_ring.specs.Ends.{RingIs, WriterIs, WriterOf}
-use Rattle.tmw_ring.specs.Recording.{HasLooked, HasRecorded, IsRefusal}
-use Rattle.tmw_ring.specs.declared.refused.Refused.{Refused}
-use Rattle.tmw_ring.specs.declared.refused.Refused.TheVariants.{Full, Spent}
+use Rattle.tmw_bench.proofs.Shared.{Err, Full, HasLooked, HasRecorded, HasTried, HasWaited, IfErr, IfOk, IsRefusal, Kind, Ok, Refused, Result, RingIs, Spent, WasRefused, WriterIs, WriterOf, sym, ℕ, ◌∙◌, ◌≡◌}
 
 -- A refused call has recorded nothing, and has looked at tail.
 pub has_looked-refused : (kind : Kind) (old : WriterIs) (refused : Refused) (new : WriterIs) → IsRefusal kind old refused new

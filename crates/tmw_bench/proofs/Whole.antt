@@ -1,30 +1,11 @@
 -- From the settled ring, what its writers have claimed, and the headline to the whole bench.
-use Rattle.std.proofs.Common.{◌≡◌, ◌<◌, ◌≤◌, ◌+◌, ◌++◌, ℕ, List, Option, Some, None, length, get_or, IsTrue, sym, ap, ◌∙◌, subst}
-use Rattle.std.specs.Prelude.{◌≢◌, ◌⊎◌, All}
+use Rattle.tmw_bench.proofs.Shared.{All, AllOpaque, Answer, AreEndings, AreInOrder, Call, Ending, Event, HasBenched, HasNumbers, HaveAllPlayedLast, Headline, IsInRounds, IsLogOfAll, IsSettled, IsTrue, IsVerdict, Kind, List, None, OpaqueSoFar, Option, ReaderIs, ReaderOf, Refused, RingIs, Rules, Some, SomeStopped, Verdict, WriterIs, WriterOf, ap, are_transactions, ending_of, get_or, length, rules_of, script_at, subst, sym, zeros, ℕ, ◌++◌, ◌+◌, ◌<◌, ◌∙◌, ◌≡◌, ◌≢◌, ◌≤◌, ◌⊎◌}
 use Rattle.tmw_bench.proofs.InRounds.{in_rounds, log_of_all-settled}
 use Rattle.tmw_bench.proofs.NeverMalformed.{formed-in_rounds}
-use Rattle.tmw_bench.specs.Benched.{HasBenched, IsInRounds, SomeStopped}
-use Rattle.tmw_bench.specs.Rounds.{ending_of, AllOpaque, AreEndings, HaveAllPlayedLast, IsLogOfAll}
 use Rattle.tmw_bench.specs.declared.settings.Settings.{Settings}
-use Rattle.tmw_defs.specs.Opaque.{zeros}
-use Rattle.tmw_defs.specs.Verdict.{Rules, IsVerdict}
-use Rattle.tmw_defs.specs.declared.verdict.Verdict.{Verdict}
-use Rattle.tmw_defs.specs.declared.verdict.Verdict.TheVariants.{OpaqueSoFar}
-use Rattle.tmw_drive.specs.Driving.{script_at}
-use Rattle.tmw_drive.specs.declared.ending.Ending.{Ending}
-use Rattle.tmw_events.specs.declared.event.Event.{Event}
-use Rattle.tmw_events.specs.declared.event.Kind.{Kind}
 use Rattle.tmw_events.specs.declared.registers.Registers.{Registers}
-use Rattle.tmw_monitor.specs.Fitting.{rules_of}
-use Rattle.tmw_pump.specs.Headline.{Headline}
-use Rattle.tmw_ring.specs.Ends.{ReaderIs, ReaderOf, RingIs, WriterIs, WriterOf}
-use Rattle.tmw_ring.specs.Settling.{AreInOrder, IsSettled}
-use Rattle.tmw_ring.specs.declared.refused.Refused.{Refused}
 use Rattle.tmw_ring_defs.specs.Runs.{IsRunTo}
-use Rattle.tmw_ring_defs.specs.Sizes.{HasNumbers}
 use Rattle.tmw_ring_defs.specs.declared.ring_size.RingSize.{RingSize}
-use Rattle.tmw_runs.specs.Scripts.{are_transactions}
-use Rattle.tmw_tm.specs.Answers.{Call, Answer}
 
 -- a thread that was stopped has ended so
 pub some_stopped-endings : (scripts : List (List (List Kind))) (stops : List (Option Refused)) (ends : List Ending) (thread : ℕ) (refused : Refused)

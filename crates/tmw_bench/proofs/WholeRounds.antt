@@ -1,24 +1,8 @@
 -- From writers that have claimed whole rounds to the log of these rounds.
-use Rattle.std.proofs.Common.{◌≡◌, ◌≤◌, ◌<◌, ℕ, true, List, [], ◌∷◌, length, take, drop, inl, inr, sym, subst, arith}
-use Rattle.std.specs.Prelude.{All}
-use Rattle.std.proofs.lemmas.Bool.{cases_lt}
-use Rattle.std.proofs.lemmas.List.{length-take-le, nil_from_length, take-append-drop}
-use Rattle.std.proofs.lemmas.List.Elements.{All-drop, All-take}
+use Rattle.tmw_bench.proofs.Shared.{All, All-drop, All-take, AllOpaque, AllStand, Answer, AreWholeRounds, Call, Event, HasPlayed, IsWholeRound, IsWholeRun, Kind, List, Rules, [], arith, cases_lt, drop, inl, inr, kinds_of, last_bound, length, length-take-le, made_from, nil_from_length, no_kinds, script_at, subst, sym, take, take-append-drop, true, ℕ, ◌<◌, ◌∷◌, ◌≡◌, ◌≤◌}
 use Rattle.tmw_bench.proofs.Cutting.{cutting}
 use Rattle.tmw_bench.proofs.OpaqueRounds.{all_opaque-take, last_bound-within, opaque_at_last}
 use Rattle.tmw_bench.proofs.PlayedRounds.{earlier_played}
-use Rattle.tmw_bench.specs.Benched.{AreWholeRounds, IsWholeRound}
-use Rattle.tmw_bench.specs.Rounds.{last_bound, AllOpaque, HasPlayed}
-use Rattle.tmw_defs.specs.Texts.{kinds_of}
-use Rattle.tmw_defs.specs.Verdict.{Rules}
-use Rattle.tmw_drive.proofs.Drives.{no_kinds}
-use Rattle.tmw_drive.specs.Driving.{script_at}
-use Rattle.tmw_events.specs.declared.event.Event.{Event}
-use Rattle.tmw_events.specs.declared.event.Kind.{Kind}
-use Rattle.tmw_ring.specs.Parts.{made_from}
-use Rattle.tmw_runs.specs.Runs.{IsWholeRun}
-use Rattle.tmw_runs.specs.Standing.{AllStand}
-use Rattle.tmw_tm.specs.Answers.{Call, Answer}
 
 -- What a thread has done in a log whose last round begins at this length.
 pub record RoundAt (gives : Call → Answer → Type 0) (script : List (List Kind)) (earlier : List ℕ) (thread : ℕ) (log : List Event) : Type 0 where

@@ -1,25 +1,9 @@
 -- From one call to the next, and to the end of the script or to a refusal.
-use Rattle.std.proofs.Common.{◌≡◌, ◌++◌, ◌≤◌, ℕ, true, List, [], ◌∷◌, Option, Some, None, IsTrue, sym, subst, inl, inr, append_assoc, arith}
-use Rattle.std.proofs.lemmas.List.{append-nil}
-use Rattle.tmw_defs.specs.History.{answers}
-use Rattle.tmw_drive.proofs.Going.{next_left, next_of-some, leaves-next_left, are_transactions-next_left}
-use Rattle.tmw_drive.proofs.Players.{plays-new, plays-goes_on, whole-plays}
-use Rattle.tmw_drive.specs.Playing.{left_of, next_of, IsNew, Plays}
-use Rattle.tmw_drive.specs.declared.player.Player.{Player}
-use Rattle.tmw_events.specs.declared.event.Kind.{Kind}
-use Rattle.tmw_ring.specs.Ends.{WriterIs}
-use Rattle.tmw_ring.specs.declared.refused.Refused.{Refused}
+use Rattle.tmw_bench.proofs.Shared.{AllStand, Answer, Call, EndsWork, FindsFrom, HasCalled, HasClaimed, HasRunSoFar, HasWorked, IsBeginning, IsNew, IsTrue, Kind, List, None, Option, Player, Plays, Refused, Some, StopsAt, WriterIs, [], answers, append-nil, append_assoc, are_transactions, are_transactions-next_left, arith, inl, inr, leaves-next_left, left_of, next_left, next_of, next_of-some, plays-goes_on, plays-new, so_far_all, so_far_called, subst, sym, tail_of, true, whole-plays, ℕ, ◌++◌, ◌∷◌, ◌≡◌, ◌≤◌}
 use Rattle.tmw_runs.proofs.Calls.{are_calls-transactions}
 use Rattle.tmw_runs.proofs.LeavingSteps.{beginning, beginning_pending}
-use Rattle.tmw_runs.proofs.StandingSteps.{so_far_all, so_far_called}
 use Rattle.tmw_runs.specs.Leaving.{Leaves}
-use Rattle.tmw_runs.specs.Runs.{IsBeginning}
-use Rattle.tmw_runs.specs.Scripts.{are_transactions}
-use Rattle.tmw_runs.specs.Standing.{AllStand}
-use Rattle.tmw_tm.specs.Answers.{Call, Answer}
 use Rattle.tmw_bench.proofs.Claims.{claimed-none, claimed-more}
-use Rattle.tmw_bench.specs.Calling.{HasClaimed, HasCalled, HasRunSoFar, StopsAt}
-use Rattle.tmw_bench.specs.Working.{tail_of, EndsWork, FindsFrom, HasWorked}
 
 -- no call was made
 pub played-new : (gives : Call → Answer → Type 0) (registers : ℕ) (script : List (List Kind)) (thread : ℕ) (player : Player) (writer : WriterIs)

@@ -1,6 +1,7 @@
 pub mod OneKind
 pub mod Places
 pub mod Refusals
+mod Shared
 pub mod Taken
 pub mod Turns
 pub mod TurnsClosed

@@ -1,8 +1,6 @@
 -- Which kind a letter, a register and a value ask for.
-use Rattle.std.proofs.Common.{ℕ, refl, sym, ap, ◌∙◌, arith}
-use Rattle.tmw_c.specs.Law.{OneKindLaw}
+use Rattle.tmw_c.proofs.Shared.{A, C, K, N, OneKindLaw, R, T, V, W, X, ap, arith, refl, sym, ℕ, ◌∙◌}
 use Rattle.tmw_events.proofs.Same.{same_ix}
-use Rattle.tmw_events.specs.declared.event.Kind.TheVariants.{R, V, W, K, T, C, X, A, N}
 use Rattle.tmw_events.specs.declared.ix.Ix.{Ix}
 
 pub one_kind : OneKindLaw

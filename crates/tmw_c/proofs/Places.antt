@@ -1,5 +1,5 @@
 -- Two lists that grow together.
-use Rattle.std.proofs.Common.{◌≡◌, ◌<◌, ◌++◌, ℕ, zero, suc, List, [], ◌∷◌, length, get_or, arith}
+use Rattle.tmw_c.proofs.Shared.{List, [], arith, get_or, length, suc, zero, ℕ, ◌++◌, ◌<◌, ◌∷◌, ◌≡◌}
 
 -- What holds of the items of two lists at each place still does when an item is put behind each.
 pub both_more : {A B : Type 0} (P : A → B → Type 0) (left : List A) (right : List B) (a : A) (b : B) → length right ≡ length left

@@ -1,14 +1,8 @@
 -- What a handle holds after a refusal, by the status.
-use Rattle.std.proofs.Common.{◌≡◌, ℕ, refl}
-use Rattle.std.specs.Prelude.{List, Option, Some}
-use Rattle.tmw_c.specs.Closing.{IsClosing, IsUnended}
+use Rattle.tmw_c.proofs.Shared.{BadBounds, BadKind, BadLimit, BadRegister, BadRegisters, BadSize, BadStart, Closing, Done, Full, FullHandle, HeldRecorder, IsClosing, IsUnended, List, Memory, Misfit, Missing, NoHandle, NotCall, Option, OutOfTurn, RecorderHandle, Some, Spent, Status, refl, ℕ, ◌≡◌}
 use Rattle.tmw_c.specs.Recording.{HasRefused, IsRecording}
-use Rattle.tmw_c.specs.declared.status.Status.{Status}
-use Rattle.tmw_c.specs.declared.status.Status.TheVariants.{Done, NoHandle, FullHandle, BadRegisters, BadStart, BadBounds, BadSize, BadLimit, Memory, Full, Spent, BadKind, BadRegister, Missing, Closing, OutOfTurn, NotCall, Misfit}
 use Rattle.tmw_c.specs.declared.told.Told.{Told}
-use Rattle.tmw_handles.specs.declared.held_recorder.HeldRecorder.{HeldRecorder}
 use Rattle.tmw_handles.specs.declared.held_watch.HeldWatch.{HeldWatch}
-use Rattle.tmw_handles.specs.declared.recorder_handle.RecorderHandle.{RecorderHandle}
 
 pub recording-refused : (letter register value place : ℕ) (before after : HeldRecorder) (old new : Option HeldRecorder) → old ≡ Some before → new ≡ Some after
     → (status : Status) → HasRefused letter register value before after status → IsRecording letter register value old new place place status

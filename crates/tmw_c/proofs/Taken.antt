@@ -1,14 +1,7 @@
 -- What the recorders are that the handles of a watch hold.
-use Rattle.std.proofs.Common.{◌≡◌, ◌<◌, ◌++◌, ℕ, zero, suc, List, [], ◌∷◌, Option, None, Some, All, length, get_or, take, sym, ap, ◌∙◌, subst, arith}
+use Rattle.tmw_c.proofs.Shared.{All, AreAll, AreHeld, AreInPlace, HasNumber, HeldRecorder, IsHeld, IsHeldOf, List, None, Option, Recorder, RecorderHandle, RingIs, Some, WriterIs, [], ap, arith, get_or, length, subst, suc, sym, take, writers_of, zero, ℕ, ◌++◌, ◌<◌, ◌∙◌, ◌∷◌, ◌≡◌}
 use Rattle.std.proofs.Math.Seq.{take-append_seam}
-use Rattle.tmw_c.specs.Closing.{AreHeld, AreInPlace, IsHeld, IsHeldOf}
-use Rattle.tmw_handles.specs.Held.{HasNumber}
-use Rattle.tmw_handles.specs.declared.held_recorder.HeldRecorder.{HeldRecorder}
-use Rattle.tmw_handles.specs.declared.recorder_handle.RecorderHandle.{RecorderHandle}
-use Rattle.tmw_ring.specs.Ends.{RingIs, WriterIs}
-use Rattle.tmw_watch.specs.Closing.{AreAll, writers_of}
 use Rattle.tmw_watch.specs.Opening.{AreOf}
-use Rattle.tmw_watch.specs.declared.recorder.Recorder.{Recorder}
 
 -- Where handles hold recorders, those behind the first hold those behind the first.
 behind : (recorder : Recorder) (recorders : List Recorder) (handle : RecorderHandle) (handles : List RecorderHandle)

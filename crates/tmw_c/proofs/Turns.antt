@@ -1,17 +1,6 @@
 -- What a transaction is after its next event, and what a handle holds where the event was refused.
-use Rattle.std.proofs.Common.{◌≡◌, ◌+◌, ◌<◌, ◌++◌, ℕ, true, false, List, [], ◌∷◌, Option, length, get_or, drop, inl, inr, refl, sym, ap, subst, ◌∙◌, arith}
-use Rattle.std.proofs.lemmas.List.{append_assoc, drop_all}
-use Rattle.tmw_c.specs.Turning.{EndsTransaction, GoesOn, HasNotAnswered, HasNotCalled, Holds, IsAnswering, IsAt, IsCalling, IsTurn}
-use Rattle.tmw_c.specs.declared.status.Status.{Status}
-use Rattle.tmw_c.specs.declared.status.Status.TheVariants.{Full, Spent, BadKind, BadRegister, NotCall, Misfit}
-use Rattle.tmw_c.specs.declared.turn.Call.{Call}
-use Rattle.tmw_c.specs.declared.turn.Turn.{Turn}
-use Rattle.tmw_defs.specs.History.{answers}
+use Rattle.tmw_c.proofs.Shared.{A, BadKind, BadRegister, Call, EndsTransaction, Follows, Full, GoesOn, HasNotAnswered, HasNotCalled, HeldRecorder, Holds, IsAnswering, IsAt, IsCalling, IsTurn, IsWholeText, LeavesCalls, List, Misfit, NotCall, Option, Spent, Status, Turn, [], answers, ap, append_assoc, arith, drop, drop_all, false, get_or, inl, inr, is_abort, length, refl, subst, sym, true, ℕ, ◌++◌, ◌+◌, ◌<◌, ◌∙◌, ◌∷◌, ◌≡◌}
 use Rattle.tmw_events.specs.declared.event.Kind.{Kind}
-use Rattle.tmw_events.specs.declared.event.Kind.TheVariants.{A}
-use Rattle.tmw_handles.specs.declared.held_recorder.HeldRecorder.{HeldRecorder}
-use Rattle.tmw_runs.specs.Runs.{IsWholeText, is_abort}
-use Rattle.tmw_runs.specs.Turning.{Follows, LeavesCalls}
 use Rattle.tmw_runs.proofs.LeavingCalls.{leaves-aborted, leaves-answered, whole-text}
 
 -- the call that is due

@@ -1,31 +1,15 @@
 -- A watch that is closed, and whose recorders have recorded by turns alone, has a well-formed log.
-use Rattle.std.proofs.Common.{◌≡◌, ◌<◌, ◌≤◌, ℕ, List, [], ◌∷◌, All, length, get_or, take, inl, inr, refl, sym, ap, subst, ◌∙◌, arith}
-use Rattle.std.proofs.lemmas.Bool.{both_ways, cases_lt, ne_eqb}
-use Rattle.std.proofs.lemmas.List.Elements.{All-head, All-map, All-tail}
+use Rattle.tmw_c.proofs.Shared.{All, HasEnded, IsByTurns, List, NeverMalformedLaw, Recorder, T, Watch, WriterIs, [], ap, arith, get_or, inl, inr, is_well_formed, kinds_recorded, length, refl, subst, sym, take, writer_of, writers_of, ℕ, ◌<◌, ◌∙◌, ◌∷◌, ◌≡◌}
+use Rattle.tmw_runs.proofs.WellFormed.{no_kinds}
+use Rattle.std.proofs.lemmas.Bool.{both_ways, cases_lt}
+use Rattle.std.proofs.lemmas.List.Elements.{All-map}
 use Rattle.std.proofs.lemmas.List.Sorted.{All-permutation}
-use Rattle.tmw_c.specs.Law.{NeverMalformedLaw, kinds_recorded}
-use Rattle.tmw_defs.specs.History.{is_well_formed}
 use Rattle.tmw_defs.specs.Texts.{kinds_of}
 use Rattle.tmw_defs.specs.Verdict.{IsFirst, IsMalformed}
 use Rattle.tmw_events.specs.declared.event.Event.{Event}
-use Rattle.tmw_events.specs.declared.event.Kind.TheVariants.{T}
 use Rattle.tmw_pump.proofs.KindsMade.{kinds_made-made_from}
-use Rattle.tmw_ring.specs.Ends.{WriterIs}
 use Rattle.tmw_pump.specs.Kinds.{kinds_made}
 use Rattle.tmw_runs.proofs.Completing.{formed_by_turns}
-use Rattle.tmw_runs.specs.Turning.{IsByTurns}
-use Rattle.tmw_watch.specs.Closing.{HasEnded, writers_of}
-use Rattle.tmw_watch.specs.Shown.{writer_of}
-use Rattle.tmw_watch.specs.declared.recorder.Recorder.{Recorder}
-use Rattle.tmw_watch.specs.declared.watch.Watch.{Watch}
-
--- no thread beyond the writers has events
-no_kinds : (count thread : ℕ) (log : List Event) → All (λ event. event.thread.number < count) log → count ≤ thread → kinds_of thread log ≡ []
-no_kinds count thread [] own past = refl
-no_kinds count thread (event ∷ log) own past =
-    let low : event.thread.number < count = All-head (λ e. e.thread.number < count) event log own in
-    rw (ne_eqb event.thread.number thread (λ same. absurd (omega arith)))
-    (no_kinds count thread log (All-tail (λ e. e.thread.number < count) event log own) past)
 
 -- a thread that records nothing
 silent : (registers : ℕ) → IsByTurns registers []

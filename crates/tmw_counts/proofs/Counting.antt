@@ -1,5 +1,6 @@
 -- A counter that stands for a history, one event further.
-use Rattle.tmw_counts.proofs.Shared.{A, AllByRecursion, AreCounted, Bool, C, Counter, Counts, CountsSo, Event, HasCounts, HasWide, IsStep, IsTrue, Kind, Lies, List, None, Notes, Option, Some, Txn, X, [], aborts, add_event, and_parts, ap, arith, begun, both_ways, call_of, cases_Bool, commits, count_by, end_of, ends, eq-eqb, eqb-true, false, goes_on, if◌then◌else◌, inl, inr, is_aborted, is_call, is_committed, is_cut, is_some, is_unasked, is_well_formed, length, length-add, length-map, lies-transactions, live_count, live_count-add, live_of, max, meets, not, one_if, option_and_then, overlaps_any, pending_call, prefixes, refl, status_of, still, subst, suc, sym, take-push, take_all-push, text_of, texts_law, transactions, transactions-push, transactions_from, true, zero, ℕ, ◌&&◌, ◌++◌, ◌+◌, ◌-◌, ◌<◌, ◌==◌, ◌^◌, ◌↔◌, ◌∙◌, ◌∷◌, ◌≡◌, ◌≤◌}
+use Rattle.tmw_counts.proofs.Shared.{A, AllByRecursion, AreCounted, Bool, C, Counter, Counts, CountsSo, Event, HasCounts, HasWide, IsStep, IsTrue, Kind, Lies, List, None, Notes, Option, Some, Txn, X, [], aborts, add_event, and_parts, ap, arith, begun, both_ways, call_of, cases_Bool, commits, count_by, end_of, ends, eq-eqb, eqb-true, false, goes_on, if◌then◌else◌, inl, inr, is_aborted, is_call, is_committed, is_cut, is_some, is_unasked, is_well_formed, length, length-add, length-map, lies-transactions, live_count, live_count-add, live_of, max, meets, not, one_if, option_and_then, overlaps_any, pending_call, prefixes, refl, status_of, still, subst, suc, sym, take-push, take_all-push, text_of, transactions, transactions-push, transactions_from, true, zero, ℕ, ◌&&◌, ◌++◌, ◌+◌, ◌-◌, ◌<◌, ◌==◌, ◌^◌, ◌↔◌, ◌∙◌, ◌∷◌, ◌≡◌, ◌≤◌}
+use Rattle.tmw_defs.proofs.TextsProof.{texts_law}
 use Rattle.tmw_counts.specs.declared.threads.Threads.{Threads}
 use Rattle.tmw_counts.specs.Threads.{HasThreads}
 use Rattle.tmw_wellformed.specs.declared.note.End.{End}

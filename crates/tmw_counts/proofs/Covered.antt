@@ -20,7 +20,8 @@ stays rules h e (Undecided m States) w is one two =
     verdict-one rules (h ++ e ∷ []) w (Undecided m States) two (IsFirst-push IsTooMany rules h e m one)
 stays rules h e (Violated m) w is one two = verdict-one rules (h ++ e ∷ []) w (Violated m) two (IsFirst-push IsViolated rules h e m one)
 
-fine_of : (rules : Rules) (h : List Event) (v : Verdict) → is_open v ≡ true → IsVerdict rules h v → AreFine rules h
+-- an open verdict says that nothing is wrong
+pub fine_of : (rules : Rules) (h : List Event) (v : Verdict) → is_open v ≡ true → IsVerdict rules h v → AreFine rules h
 fine_of rules h OpaqueSoFar is judged = judged.1
 fine_of rules h StrictSoFar is judged = judged.1
 fine_of rules h (Malformed m) is judged = absurd (cc)

@@ -1,5 +1,6 @@
 -- How many transactions have ended in which way, with one event more.
-use Rattle.tmw_counts.proofs.Shared.{A, Bool, C, Event, IsTrue, Kind, List, None, Option, Some, T, Txn, X, [], aborts, add_event, add_event_here, add_event_past, and_parts, ap, arith, begun, both_ways, call_of, cases_Bool, commits, count_by, end_of, false, inl, inr, is_aborted, is_committed, is_ended, is_over, is_request, is_some, is_unasked, joins, length, length-append, live_of, longer, not, one_if, refl, slice_get, slice_get_end, status_after, status_of, suc, sym, text_of, true, zero, ℕ, ◌&&◌, ◌++◌, ◌+◌, ◌-◌, ◌==◌, ◌↔◌, ◌∙◌, ◌∷◌, ◌≡◌, ◌≤◌}
+use Rattle.tmw_counts.proofs.Shared.{A, Bool, C, Event, IsTrue, Kind, List, None, Option, Some, T, Txn, X, [], aborts, add_event, add_event_here, add_event_past, and_parts, ap, arith, begun, both_ways, call_of, cases_Bool, commits, count_by, end_of, false, inl, inr, is_aborted, is_committed, is_ended, is_over, is_request, is_some, is_unasked, joins, length, length-append, live_of, longer, not, one_if, refl, slice_get, status_after, status_of, suc, sym, text_of, true, zero, ℕ, ◌&&◌, ◌++◌, ◌+◌, ◌-◌, ◌==◌, ◌↔◌, ◌∙◌, ◌∷◌, ◌≡◌, ◌≤◌}
+use Rattle.tmw_defs.proofs.QuietTexts.{status_of-push}
 use Rattle.tmw_defs.specs.declared.status.Status.{Status}
 use Rattle.tmw_defs.specs.declared.status.Status.TheVariants.{Committed, Aborted}
 use Rattle.tmw_counts.proofs.Sums.{count-cons}
@@ -24,11 +25,6 @@ count_text-add p empty place e (t ∷ ts) =
             count_text-add p empty place e ts,
           ))
     ]
-
-pub status_of-push : (text : List Kind) (k : Kind) → status_of (text ++ k ∷ []) ≡ status_after (Some k)
-status_of-push text k =
-    let last : length (text ++ k ∷ []) - 1 ≡ length text = omega (arith, length-append text (k ∷ [])) in
-    rw (last, slice_get_end text k) refl
 
 pub committed-after : (k : Kind) → is_committed (status_after (Some k)) ≡ commits (end_of k)
 committed-after C = refl

@@ -6,7 +6,6 @@ pub use Rattle.std.specs.List.{AllByRecursion, list_any}
 pub use Rattle.std.specs.Prelude.{count_by, drop, filter, if◌then◌else◌, is_some, option_and_then, slice_get, take}
 pub use Rattle.tmw_defs.proofs.OneMore.{add_event_here, add_event_past, begun, ended_rest, joins, longer, only_one, transactions-push}
 pub use Rattle.tmw_defs.proofs.Places.{Lies, lies-transactions}
-pub use Rattle.tmw_defs.proofs.TextsProof.{slice_get_end, texts_law}
 pub use Rattle.tmw_defs.proofs.VerdictProof.{IsFirst-push, IsLastCut-open, verdict-one}
 pub use Rattle.tmw_defs.proofs.WindowsProof.{HasWide-open, HasWide_push, IsCutAt-push, IsCutAt_push, is_cut-push, length-push, take-append-drop-push, take-push, take_all-push}
 pub use Rattle.tmw_defs.specs.Counts.{HasCounts, is_aborted, is_committed, is_request, is_unasked, overlap, overlaps_any, prefixes}

@@ -1,5 +1,5 @@
 -- Counting the members of a list that pass a test.
-use Rattle.tmw_counts.proofs.Shared.{Bool, List, [], ap, arith, cases_Bool, count_by, false, inl, inr, length, list_any, not, one_if, refl, true, ◌&&◌, ◌++◌, ◌+◌, ◌<◌, ◌||◌, ◌∙◌, ◌∷◌, ◌≡◌, ◌≤◌}
+use Rattle.tmw_counts.proofs.Shared.{Bool, List, [], ap, arith, cases_Bool, count_by, false, inl, inr, length, list_any, not, one_if, refl, true, ◌&&◌, ◌++◌, ◌+◌, ◌<◌, ◌||◌, ◌∷◌, ◌≡◌, ◌≤◌}
 use Rattle.std.proofs.lemmas.List.Sums.{sum_by-cons}
 
 pub count-cons : {A : Type 0} (p : A → Bool) (x : A) (xs : List A) → count_by p (x ∷ xs) ≡ one_if (p x) + count_by p xs
@@ -69,7 +69,3 @@ none-count p (x ∷ xs) none =
       | inl holds ↦ absurd (omega (arith, none, count-cons p x xs, ap one_if holds))
       | inr fails ↦ rw fails (none-count p xs (omega (arith, none, count-cons p x xs, ap one_if fails)))
     ]
-
-pub any-ext : {A : Type 0} (p q : A → Bool) → ((x : A) → p x ≡ q x) → (xs : List A) → list_any p xs ≡ list_any q xs
-any-ext p q same [] = refl
-any-ext p q same (x ∷ xs) = ap (λ b. b || list_any p xs) (same x) ∙ ap (λ b. q x || b) (any-ext p q same xs)

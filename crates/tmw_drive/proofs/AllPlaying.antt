@@ -1,19 +1,8 @@
 -- All players, one of which does an entry of the order.
-use Rattle.std.proofs.Common.{◌≡◌, ◌<◌, ℕ, List, [], length, set, get_or, sym, ap, subst, ◌∙◌, inl, inr}
-use Rattle.std.proofs.lemmas.Bool.{cases_eq}
-use Rattle.std.proofs.lemmas.List.{get_or-set_same, get_or-set_other, length-set}
-use Rattle.tmw_defs.specs.Texts.{kinds_of}
+use Rattle.tmw_drive.proofs.Shared.{AllNew, AllPlay, Answer, Call, DoesEntry, Err, Event, IsTrue, Kind, List, Ok, OnOk, Player, Plays, Result, [], ap, are_transactions, cases_eq, get_or, get_or-set_other, get_or-set_same, inl, inr, kinds_of, length, length-set, script_at, set, subst, sym, ℕ, ◌<◌, ◌∙◌, ◌≡◌}
 use Rattle.tmw_drive.proofs.Entries.{kinds_of-entry_other}
 use Rattle.tmw_drive.proofs.Players.{plays-new}
-use Rattle.tmw_drive.specs.Driving.{script_at, DoesEntry}
-use Rattle.tmw_drive.specs.Playing.{AllNew, AllPlay, Plays}
-use Rattle.tmw_drive.specs.declared.player.Player.{Player}
-use Rattle.tmw_events.specs.declared.event.Event.{Event}
-use Rattle.tmw_events.specs.declared.event.Kind.{Kind}
 use Rattle.tmw_events.specs.declared.ix.Ix.{Ix}
-use Rattle.tmw_runs.specs.Scripts.{are_transactions}
-use Rattle.std.specs.Prelude.{IsTrue, Result, Ok, Err, OnOk}
-use Rattle.tmw_tm.specs.Answers.{Call, Answer}
 
 -- what follows from two facts about an answered call
 pub on_ok : {T : Type 0} {E : Type 0} (P Q S : Type 0) (result : Result T E) → (P → Q → S) → OnOk result P → OnOk result Q → OnOk result S

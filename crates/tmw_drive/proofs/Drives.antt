@@ -1,38 +1,12 @@
 -- What the players have recorded when the order is done.
-use Rattle.std.proofs.Common.{◌≡◌, ◌<◌, ◌≤◌, ◌^◌, ℕ, true, List, [], ◌∷◌, length, get_or, IsTrue, refl, sym, subst, ◌∙◌, inl, inr, arith}
-use Rattle.std.specs.Prelude.{All}
-use Rattle.std.proofs.lemmas.Bool.{cases_lt, ne_eqb}
-use Rattle.std.proofs.lemmas.List.{append-nil, get_or_past}
-use Rattle.std.proofs.lemmas.List.Elements.{All-head, All-nil, All-tail}
-use Rattle.tmw_defs.specs.Texts.{kinds_of}
-use Rattle.tmw_defs.specs.Verdict.{Rules, IsVerdict}
+use Rattle.tmw_drive.proofs.Shared.{All, All-nil, AllEnd, AllPlay, AllStand, Answer, Call, Drives, Ending, EndsAs, Event, IsBeginning, IsDriven, IsTrue, IsVerdict, IsWholeRun, Kind, List, Player, Rules, [], append-nil, arith, cases_lt, get_or, get_or_past, inl, inr, is_workload, kinds_of, length, no_kinds, refl, script_at, so_far_all, subst, sym, true, ℕ, ◌<◌, ◌^◌, ◌∙◌, ◌∷◌, ◌≡◌, ◌≤◌}
 use Rattle.tmw_defs.specs.declared.verdict.Verdict.{Verdict}
 use Rattle.tmw_defs.specs.declared.verdict.Verdict.TheVariants.{Malformed}
 use Rattle.tmw_drive.proofs.Entries.{length-drives, own-drives}
 use Rattle.tmw_drive.proofs.Players.{ends_as-plays}
 use Rattle.tmw_drive.proofs.Workloads.{are_transactions-workload, length-order, within-order}
-use Rattle.tmw_drive.specs.Driving.{script_at, Drives, EndsAs, IsDriven}
-use Rattle.tmw_drive.specs.Playing.{AllEnd, AllPlay}
-use Rattle.tmw_drive.specs.declared.ending.Ending.{Ending}
 use Rattle.tmw_drive.specs.declared.ending.Ending.TheVariants.{Done, Left, Stopped}
-use Rattle.tmw_drive.specs.declared.player.Player.{Player}
-use Rattle.tmw_events.specs.declared.event.Event.{Event}
-use Rattle.tmw_events.specs.declared.event.Kind.{Kind}
 use Rattle.tmw_runs.proofs.NeverMalformed.{formed_law, never_malformed}
-use Rattle.tmw_runs.proofs.StandingSteps.{so_far_all}
-use Rattle.tmw_runs.specs.Runs.{IsWholeRun, IsBeginning}
-use Rattle.tmw_runs.specs.Standing.{AllStand}
-use Rattle.tmw_tm.specs.Answers.{Call, Answer}
-use Rattle.tmw_workloads.specs.Workload.{is_workload}
-
--- a thread without a script has no events
-pub no_kinds : (threads thread : ℕ) (log : List Event) → All (λ event. event.thread.number < threads) log → threads ≤ thread
-    → kinds_of thread log ≡ []
-no_kinds threads thread [] own past = refl
-no_kinds threads thread (event ∷ log) own past =
-    let low : event.thread.number < threads = All-head (λ e. e.thread.number < threads) event log own in
-    rw (ne_eqb event.thread.number thread (λ same. absurd (omega arith)))
-    (no_kinds threads thread log (All-tail (λ e. e.thread.number < threads) event log own) past)
 
 some_player : (players : List Player) (place : ℕ) → place < length players → Player
 some_player [] place low = absurd (omega (arith, low))

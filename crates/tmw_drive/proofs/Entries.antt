@@ -1,14 +1,5 @@
 -- What an entry of the order adds to the log, and what a whole order does.
-use Rattle.std.proofs.Common.{◌≡◌, ◌<◌, ◌≤◌, ◌+◌, ◌*◌, ◌++◌, ℕ, List, [], ◌∷◌, length, sym, ap, subst, ◌∙◌, inl, inr, append_assoc, arith, length-append}
-use Rattle.std.specs.Prelude.{All}
-use Rattle.std.proofs.lemmas.Bool.{eq-eqb, ne_eqb}
-use Rattle.std.proofs.lemmas.List.{append-nil}
-use Rattle.std.proofs.lemmas.List.Elements.{All-append, All-cons, All-head, All-nil, All-tail}
-use Rattle.tmw_defs.specs.Texts.{kinds_of}
-use Rattle.tmw_drive.specs.Driving.{script_at, DoesEntry, Drives}
-use Rattle.tmw_events.specs.declared.event.Event.{Event}
-use Rattle.tmw_events.specs.declared.event.Kind.{Kind}
-use Rattle.tmw_runs.proofs.WellFormed.{kinds_of-append}
+use Rattle.tmw_drive.proofs.Shared.{All, All-append, All-cons, All-head, All-nil, All-tail, DoesEntry, Drives, Event, Kind, List, [], ap, append-nil, append_assoc, arith, eq-eqb, inl, inr, kinds_of, kinds_of-append, length, length-append, ne_eqb, script_at, subst, sym, ℕ, ◌*◌, ◌++◌, ◌+◌, ◌<◌, ◌∙◌, ◌∷◌, ◌≡◌, ◌≤◌}
 
 -- a call and its answer are pushed one after the other
 pub pushed-pair : (log reserved once twice : List Event) (call answer : Event) → reserved ≡ log → once ≡ reserved ++ call ∷ []

@@ -1,16 +1,5 @@
 -- What is left of a script after its next call and the answer to it.
-use Rattle.std.proofs.Common.{◌≡◌, ◌==◌, ◌+◌, ◌++◌, ℕ, List, [], ◌∷◌, Some, None, drop, IsTrue, refl, sym, ap, ◌∙◌, inl, inr, arith}
-use Rattle.std.specs.Prelude.{if◌then◌else◌}
-use Rattle.std.proofs.lemmas.Bool.{cases_Bool, and_parts, and_from, MatchBool-at_true, MatchBool-at_false, ne_eqb}
-use Rattle.std.proofs.lemmas.List.{drop-drop}
-use Rattle.tmw_defs.specs.History.{answers, ends}
-use Rattle.tmw_drive.specs.Playing.{from_call, left_of, next_of, BeginsNext, MakesNext, GoesOn}
-use Rattle.tmw_drive.specs.declared.player.Player.{Player}
-use Rattle.tmw_events.specs.declared.event.Kind.{Kind}
-use Rattle.tmw_events.specs.declared.event.Kind.TheVariants.{R, V, W, K, T, C, X, A, N}
-use Rattle.tmw_runs.specs.Leaving.{Leaves}
-use Rattle.tmw_runs.specs.Scripts.{is_operation, is_request, is_transaction, are_transactions}
-use Rattle.tmw_runs.proofs.LeavingSteps.{leaves_answered, leaves_aborted, leaves_next}
+use Rattle.tmw_drive.proofs.Shared.{A, BeginsNext, C, GoesOn, IsTrue, K, Kind, Leaves, List, MakesNext, MatchBool-at_false, MatchBool-at_true, N, None, Player, R, Some, T, V, W, X, [], and_from, and_parts, answers, ap, are_transactions, arith, cases_Bool, drop, drop-drop, ends, from_call, if◌then◌else◌, inl, inr, is_operation, is_request, is_transaction, leaves_aborted, leaves_answered, leaves_next, left_of, ne_eqb, next_of, refl, sym, ℕ, ◌++◌, ◌+◌, ◌==◌, ◌∙◌, ◌∷◌, ◌≡◌}
 
 -- what is left after this answer to the next call
 abbrev pub next_left : Kind → List (List Kind) → List (List Kind)

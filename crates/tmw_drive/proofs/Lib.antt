@@ -4,4 +4,5 @@ mod Entries
 pub mod Going
 pub mod Players
 mod Positions
+mod Shared
 pub mod Workloads

@@ -1,24 +1,8 @@
 -- A player that makes its next call, or has none left.
-use Rattle.std.proofs.Common.{◌≡◌, ◌==◌, ◌+◌, ◌++◌, ℕ, true, List, [], ◌∷◌, Option, Some, None, drop, IsTrue, refl, sym, ap, subst, ◌∙◌, inl, inr}
-use Rattle.std.specs.Prelude.{MatchBool}
-use Rattle.std.proofs.lemmas.Bool.{cases_Bool, MatchBool-at_true, MatchBool-at_false}
-use Rattle.tmw_defs.specs.History.{answers, ends}
+use Rattle.tmw_drive.proofs.Shared.{A, Answer, BeginsNext, Call, Ending, EndsAs, GoesOn, IsBeginning, IsEnding, IsNew, IsTrue, IsWholeRun, Kind, Leaves, List, MakesNext, MatchBool, MatchBool-at_false, MatchBool-at_true, None, Option, Player, Plays, Some, Stands, StandsSoFar, [], answers, ap, are_transactions, beginning, cases_Bool, drop, ends, from_call, inl, inr, leaves_all, left_of, next_of, not_whole, refl, so_far_answered, so_far_none, subst, sym, true, whole_run, ℕ, ◌++◌, ◌+◌, ◌==◌, ◌∙◌, ◌∷◌, ◌≡◌}
 use Rattle.tmw_drive.proofs.Going.{next_left, next_of-some, next_of-none, left_of-goes_on, first-goes_on, leaves-next_left, are_transactions-next_left}
-use Rattle.tmw_drive.specs.Driving.{EndsAs}
 use Rattle.tmw_drive.specs.Fresh.{IsFresh}
-use Rattle.tmw_drive.specs.Playing.{from_call, left_of, next_of, BeginsNext, MakesNext, GoesOn, IsNew, IsEnding, Plays}
-use Rattle.tmw_drive.specs.declared.ending.Ending.{Ending}
-use Rattle.tmw_drive.specs.declared.player.Player.{Player}
-use Rattle.tmw_events.specs.declared.event.Kind.{Kind}
-use Rattle.tmw_events.specs.declared.event.Kind.TheVariants.{A}
 use Rattle.tmw_runs.proofs.Calls.{answers_abort, are_calls-transactions, are_calls_first}
-use Rattle.tmw_runs.proofs.LeavingSteps.{leaves_all, whole_run, beginning, not_whole}
-use Rattle.tmw_runs.proofs.StandingSteps.{so_far_none, so_far_answered}
-use Rattle.tmw_runs.specs.Leaving.{Leaves}
-use Rattle.tmw_runs.specs.Runs.{IsWholeRun, IsBeginning}
-use Rattle.tmw_runs.specs.Scripts.{are_transactions}
-use Rattle.tmw_runs.specs.Standing.{Stands, StandsSoFar}
-use Rattle.tmw_tm.specs.Answers.{Call, Answer}
 
 -- a new player has its whole script left
 pub left_of-new : (script : List (List Kind)) (thread : ℕ) (player : Player) → IsNew thread player → left_of script player ≡ script

@@ -1,12 +1,6 @@
 -- The script and the call that are read at a player's position.
-use Rattle.std.proofs.Common.{◌≡◌, ◌<◌, ℕ, zero, suc, List, [], ◌∷◌, Some, length, drop, get_or, refl, sym, ap, ◌∙◌}
+use Rattle.tmw_drive.proofs.Shared.{Kind, List, Some, [], ap, calls_of, drop, from_call, get_or, get_or-map, length, next_of, refl, script_at, script_of, scripts_of, slice_get, suc, sym, zero, ℕ, ◌<◌, ◌∙◌, ◌∷◌, ◌≡◌}
 use Rattle.std.specs.Global.{Vec}
-use Rattle.std.specs.Prelude.{slice_get}
-use Rattle.std.proofs.lemmas.List.{get_or-map}
-use Rattle.tmw_drive.specs.Driving.{script_at}
-use Rattle.tmw_drive.specs.Playing.{calls_of, from_call, next_of}
-use Rattle.tmw_events.specs.declared.event.Kind.{Kind}
-use Rattle.tmw_runs.specs.Scripts.{script_of, scripts_of}
 
 next_of-drop : (calls : List Kind) (call : ℕ) (later : List (List Kind)) → next_of (drop call calls ∷ later) ≡ slice_get calls call
 next_of-drop [] zero later = refl

@@ -1,13 +1,6 @@
 -- What a workload tells of its scripts and its order.
-use Rattle.std.proofs.Common.{◌<◌, ◌≤◌, ◌&&◌, ℕ, zero, suc, List, [], ◌∷◌, length, IsTrue, refl}
-use Rattle.std.specs.Prelude.{All, nat_lt, nat_le}
+use Rattle.tmw_drive.proofs.Shared.{All, All-cons, All-nil, IsTrue, Kind, List, [], and_from, and_parts, are_scripts, are_transactions, is_short_script, is_short_transaction, is_workload, leb-true, length, ltb-true, nat_le, nat_lt, refl, script_at, suc, zero, ℕ, ◌&&◌, ◌<◌, ◌∷◌, ◌≤◌}
 use Rattle.std.specs.List.{list_all}
-use Rattle.std.proofs.lemmas.Bool.{and_parts, and_from, leb-true, ltb-true}
-use Rattle.std.proofs.lemmas.List.Elements.{All-cons, All-nil}
-use Rattle.tmw_drive.specs.Driving.{script_at}
-use Rattle.tmw_events.specs.declared.event.Kind.{Kind}
-use Rattle.tmw_runs.specs.Scripts.{are_transactions}
-use Rattle.tmw_workloads.specs.Workload.{is_short_transaction, is_short_script, are_scripts, is_workload}
 
 pub length-order : (registers : ℕ) (scripts : List (List (List Kind))) (order : List ℕ) → IsTrue (is_workload registers scripts order)
     → length order ≤ 100000

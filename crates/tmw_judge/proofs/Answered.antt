@@ -1,22 +1,7 @@
 -- What is answered where the judges have been fed what is read of a trace, and where its lines find no memory.
-use Rattle.std.proofs.Common.{◌≡◌, ℕ, Bool, true, false, List, [], Option, inl, inr, sym, subst, append-nil, ◌∙◌, arith}
-use Rattle.tmw_lines.specs.declared.text_fault.TextFault.TheVariants.{Memory}
-use Rattle.tmw_events.specs.declared.event.Event.{Event}
-use Rattle.tmw_trace.specs.declared.header.Header.{Header}
-use Rattle.tmw_counts.specs.declared.summary.Summary.{Summary}
-use Rattle.tmw_defs.specs.declared.criterion.Asked.{Asked}
-use Rattle.tmw_defs.specs.declared.verdict.Verdict.{Verdict}
+use Rattle.tmw_judge.proofs.Shared.{Answer, AreFed, AreJudgesOf, AreReports, Asked, Bool, Bounds, ByCriterion, CountsFor, Event, HasFaultFor, HasSummary, Header, IsAnswer, IsReadFor, Judges, List, Memory, Option, Report, Summary, Verdict, [], append-nil, arith, counted_part, false, inl, inr, subst, sym, told_verdicts, true, verdicts_of, ℕ, ◌∙◌, ◌≡◌}
 use Rattle.tmw_monitor.specs.Breaking.{TellsBroken}
-use Rattle.tmw_monitor.specs.declared.bounds.Bounds.{Bounds}
 use Rattle.tmw_monitor.specs.declared.broken.Broken.{Broken}
-use Rattle.tmw_judge.specs.Answering.{told_verdicts, HasFaultFor, IsAnswer, IsReadFor}
-use Rattle.tmw_judge.specs.Counted.{counted_part, CountsFor, HasSummary, verdicts_of}
-use Rattle.tmw_judge.specs.FeedingFirst.{AreJudgesOf}
-use Rattle.tmw_judge.specs.Judging.{AreFed, AreReports}
-use Rattle.tmw_judge.specs.declared.answer.Answer.{Answer}
-use Rattle.tmw_judge.specs.declared.by_criterion.ByCriterion.{ByCriterion}
-use Rattle.tmw_judge.specs.declared.judges.Judges.{Judges}
-use Rattle.tmw_judge.specs.declared.report.Report.{Report}
 use Rattle.tmw_judge.proofs.CountedParts.{told-same}
 use Rattle.tmw_judge.proofs.FirstOpen.{AreOpenBefore-open, open-told}
 

@@ -1,31 +1,9 @@
 -- The part of a history that is counted, with one event more.
-use Rattle.std.proofs.Common.{◌≡◌, ◌||◌, ◌+◌, ◌++◌, ◌≤◌, ℕ, zero, suc, Bool, true, false, List, [], ◌∷◌, length, IsTrue, IsFalse, refl, sym, ap, subst, ◌∙◌, inl, inr, arith}
-use Rattle.std.specs.Prelude.{take}
-use Rattle.std.proofs.lemmas.Bool.{cases_Bool}
-use Rattle.tmw_events.specs.declared.event.Event.{Event}
-use Rattle.tmw_trace.specs.declared.header.Header.{Header}
-use Rattle.tmw_defs.specs.declared.criterion.Asked.{Asked}
-use Rattle.tmw_defs.specs.declared.criterion.Criterion.TheVariants as by
-use Rattle.tmw_defs.specs.declared.verdict.Verdict.{Verdict}
+use Rattle.tmw_judge.proofs.Shared.{AreFed, AreJudged, AreReports, Asked, Bool, Both, Bounds, ByCriterion, CountsFor, Event, Header, IsFalse, IsTrue, Judges, List, Monitor, Opacity, Report, Strict, Verdict, [], any_open, ap, arith, as_formed, as_formed-le, cases_Bool, counted_of, counted_part, false, inl, inr, is_open, length, length-push, refl, step, subst, suc, sym, take, take-push, take_all-push, take_whole, told_verdicts, trace_rules, true, verdict_of, verdicts_of, zero, ℕ, ◌++◌, ◌+◌, ◌||◌, ◌∙◌, ◌∷◌, ◌≡◌, ◌≤◌}
+use Rattle.tmw_defs.proofs.QuietProof.{or_none}
 use Rattle.tmw_defs.specs.History.{is_well_formed}
-use Rattle.tmw_counts.proofs.Covered.{as_formed, as_formed-le, step, take_whole}
-use Rattle.tmw_counts.specs.Parts.{is_open}
 use Rattle.tmw_defs.proofs.VerdictProof.{verdict-one}
-use Rattle.tmw_defs.proofs.WindowsProof.{length-push, take-push, take_all-push}
-use Rattle.tmw_monitor.specs.Monitor.{verdict_of}
-use Rattle.tmw_monitor.specs.declared.bounds.Bounds.{Bounds}
-use Rattle.tmw_monitor.specs.declared.monitor.Monitor.{Monitor}
-use Rattle.tmw_judge.specs.Counted.{any_open, AreJudged, counted_of, counted_part, CountsFor, verdicts_of}
-use Rattle.tmw_judge.specs.declared.judges.Judges.{Judges}
-use Rattle.tmw_judge.specs.Judging.{AreFed, AreReports, trace_rules}
-use Rattle.tmw_judge.specs.Answering.{told_verdicts}
-use Rattle.tmw_judge.specs.declared.report.Report.{Report}
-use Rattle.tmw_judge.specs.declared.by_criterion.ByCriterion.{ByCriterion}
-use Rattle.tmw_judge.specs.declared.by_criterion.ByCriterion.TheVariants.{Opacity, Strict, Both}
-
-pub or_none : (a b : Bool) → (a || b) ≡ false → (a ≡ false) × (b ≡ false)
-or_none true b is = absurd (cc)
-or_none false b is = (refl, is)
+use Rattle.tmw_defs.specs.declared.criterion.Criterion.TheVariants as by
 
 module _ (header : Header) (bounds : Bounds) (asked : Asked) (h : List Event) (e : Event) where
   abbrev formed : Bool

@@ -1,9 +1,7 @@
 -- What holds of each, for each criterion.
+use Rattle.tmw_judge.proofs.Shared.{Both, ByCriterion, Each, Opacity, Strict}
 use Rattle.tmw_defs.specs.declared.criterion.Criterion.{Criterion}
 use Rattle.tmw_defs.specs.declared.criterion.Criterion.TheVariants as by
-use Rattle.tmw_judge.specs.declared.by_criterion.ByCriterion.{ByCriterion}
-use Rattle.tmw_judge.specs.declared.by_criterion.ByCriterion.TheVariants.{Opacity, Strict, Both}
-use Rattle.tmw_judge.specs.ByCriterion.{Each}
 
 pub each-weaker : {T : Type 0} (Is Js : Criterion → T → Type 0) (had : ByCriterion T) → ((criterion : Criterion) (one : T) → Is criterion one → Js criterion one)
     → Each Is had → Each Js had

@@ -1,15 +1,6 @@
 -- Reading on to the end: the judges have been fed the events of the lines read.
-use Rattle.std.proofs.Common.{Result, Ok, Err, ◌++◌, sym}
+use Rattle.tmw_judge.proofs.Shared.{AreFedAllRead, AreFedSoMany, BadHeader, BadLine, CountsFor, Cut, Err, FeedsEvents, FromSource, Io, Judges, LackAnEvent, Lines, Memory, Ok, Result, TakeEvents, TextFault, TooLong, Version, sym, trace_grammar, ◌++◌}
 use Rattle.tmw_lines.specs.ItemsGiven.{GivesAll}
-use Rattle.tmw_lines.specs.declared.lines.Lines.{Lines}
-use Rattle.tmw_lines.specs.declared.text_fault.TextFault.{TextFault}
-use Rattle.tmw_lines.specs.declared.text_fault.TextFault.TheVariants.{BadHeader, BadLine, Cut, Memory, Io, TooLong}
-use Rattle.tmw_trace.specs.Text.{trace_grammar}
-use Rattle.tmw_trace.specs.declared.version.Version.{Version}
-use Rattle.tmw_judge.specs.Counted.{CountsFor}
-use Rattle.tmw_judge.specs.declared.judges.Judges.{Judges}
-use Rattle.tmw_judge.specs.Feeding.{AreFedAllRead, AreFedSoMany, FeedsEvents, TakeEvents, LackAnEvent}
-use Rattle.tmw_streams.specs.Streams.{FromSource}
 
 -- the judges have been fed as many events as lines were read behind the header's
 pub fed-so_many : {C : Type 0} (Counts : CountsFor C) (lines : Lines Version) (judges : Judges C) → AreFedAllRead Counts lines judges

@@ -1,21 +1,5 @@
 -- Judging a trace, by `--first` or to its end: its first line is read, then its events are fed, and what was told is what was read.
-use Rattle.std.proofs.Common.{ℕ, Bool, true, false, List, Ok, Err}
-use Rattle.tmw_lines.specs.Lines.{format_by, unread_bytes}
-use Rattle.tmw_lines.specs.Text.{front_of}
-use Rattle.tmw_lines.specs.declared.lines.Lines.{Lines}
-use Rattle.tmw_lines.specs.declared.text_fault.TextFault.{TextFault}
-use Rattle.tmw_streams.specs.Streams.{FromSource, ToSink}
-use Rattle.tmw_streams.specs.Told.{Tells}
-use Rattle.tmw_trace.specs.declared.version.Version.{Version}
-use Rattle.tmw_defs.specs.declared.criterion.Asked.{Asked}
-use Rattle.tmw_monitor.specs.declared.bounds.Bounds.{Bounds}
-use Rattle.tmw_report.specs.Putting.{fault_of}
-use Rattle.tmw_report.specs.Quote.{number_of, QuotesLine}
-use Rattle.tmw_report.specs.Quoting.{QuotesHeld}
-use Rattle.tmw_judge.specs.Counted.{CountsFor}
-use Rattle.tmw_judge.specs.Feeding.{ReadsBeginning}
-use Rattle.tmw_judge.specs.FeedingFirst.{AnswersFed, FeedsFor}
-use Rattle.tmw_judge.specs.declared.judges.Judges.{Judges}
+use Rattle.tmw_judge.proofs.Shared.{AnswersFed, Asked, Bool, Bounds, CountsFor, Err, FeedsFor, FromSource, Judges, Lines, List, Ok, QuotesHeld, QuotesLine, ReadsBeginning, Tells, TextFault, ToSink, Version, false, fault_of, format_by, front_of, number_of, true, unread_bytes, ℕ}
 use Rattle.tmw_judge.proofs.FirstTaken.{first-done, first-fault, first-unbegun}
 use Rattle.tmw_judge.proofs.Taken.{answers-end, answers-fault, answers-first, first-quoted}
 

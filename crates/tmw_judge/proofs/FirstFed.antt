@@ -1,25 +1,6 @@
 -- Reading on to the event at which all verdicts are final.
-use Rattle.std.proofs.Common.{◌≡◌, ◌<◌, ◌^◌, ℕ, Ok, Err, true, false, List, [], ◌∷◌, ◌++◌, inl, inr, sym, ◌∙◌, append_assoc, append-nil, length-append, arith}
-use Rattle.tmw_lines.specs.Lines.{IsReading, HasRead, GivesItem, GivesEnd, FailsAtLine}
-use Rattle.tmw_lines.specs.ItemsRead.{FailsHolding}
-use Rattle.tmw_lines.specs.declared.lines.Lines.{Lines}
-use Rattle.tmw_lines.specs.declared.text_fault.TextFault.{TextFault}
-use Rattle.tmw_lines.specs.declared.text_fault.TextFault.TheVariants.{BadHeader, BadLine, Cut, Memory, Io, TooLong}
+use Rattle.tmw_judge.proofs.Shared.{AreFedAllRead, AreFedSoMany, AreJudged, AreOpen, AreOpenBefore, AreReadFirst, Asked, BadHeader, BadLine, Bounds, CountsFor, Cut, Err, Event, FailsAtLine, FailsHolding, FeedsFirst, FromSource, GivesEnd, GivesItem, HasRead, Header, Io, IsReading, Judges, Lines, List, Memory, Ok, TakeEvents, Tells, Tells-more, Tells-none, TextFault, TooLong, Version, [], any_open, append-nil, append_assoc, arith, false, inl, inr, length-append, sym, trace_grammar, true, verdicts_of, ℕ, ◌++◌, ◌<◌, ◌^◌, ◌∙◌, ◌∷◌, ◌≡◌}
 use Rattle.tmw_lines.proofs.LinesRead.{fails-holding}
-use Rattle.tmw_streams.specs.Streams.{FromSource}
-use Rattle.tmw_streams.specs.Told.{Tells}
-use Rattle.tmw_streams.proofs.ToldBytes.{Tells-none, Tells-more}
-use Rattle.tmw_events.specs.declared.event.Event.{Event}
-use Rattle.tmw_trace.specs.Text.{trace_grammar}
-use Rattle.tmw_trace.specs.declared.header.Header.{Header}
-use Rattle.tmw_trace.specs.declared.version.Version.{Version}
-use Rattle.tmw_defs.specs.declared.criterion.Asked.{Asked}
-use Rattle.tmw_monitor.specs.declared.bounds.Bounds.{Bounds}
-use Rattle.tmw_judge.specs.Counted.{any_open, AreJudged, CountsFor, verdicts_of}
-use Rattle.tmw_judge.specs.Feeding.{AreFedAllRead, AreFedSoMany, TakeEvents}
-use Rattle.tmw_judge.specs.FeedingFirst.{AreReadFirst, FeedsFirst}
-use Rattle.tmw_judge.specs.Answering.{AreOpen, AreOpenBefore}
-use Rattle.tmw_judge.specs.declared.judges.Judges.{Judges}
 use Rattle.tmw_judge.proofs.FedEvents.{fed-so_many}
 use Rattle.tmw_judge.proofs.FirstOpen.{AreOpenBefore-push, open-fed}
 
@@ -35,7 +16,7 @@ pub record HasFed {S C : Type 0} (From : FromSource S) (Counts : CountsFor C) (o
   pub before : (header : Header) (bounds : Bounds) (asked : Asked) (given : List Event) → AreJudged Counts header bounds asked given judges
       → AreOpenBefore header bounds asked given → AreOpenBefore header bounds asked (given ++ events)
 
-module _ {S C : Type 0} (From : FromSource S) (Counts : CountsFor C) (a : S) (lines : Lines Version) (judges : Judges C) where
+module _ {S C : Type 0} {From : FromSource S} {Counts : CountsFor C} {a : S} {lines : Lines Version} {judges : Judges C} where
   pub HasFed-none : HasFed From Counts a a lines lines judges judges
   HasFed-none = record {
     bytes = [];
@@ -46,7 +27,7 @@ module _ {S C : Type 0} (From : FromSource S) (Counts : CountsFor C) (a : S) (li
     before = λ header bounds asked given was open_before. rw (append-nil given) open_before;
   }
 
-  module _ (b : S) (now : Lines Version) (fed : Judges C) (h : HasFed From Counts a b lines now judges fed) where
+  module _ {b : S} {now : Lines Version} {fed : Judges C} (h : HasFed From Counts a b lines now judges fed) where
     -- all lines that were read are of events that were fed
     pub fed-all : AreFedAllRead Counts lines judges → AreFedAllRead Counts now fed
     fed-all all = record {

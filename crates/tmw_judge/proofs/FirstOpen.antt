@@ -1,41 +1,16 @@
 -- Histories with which nothing is wrong by one of the criteria that are asked for: their prefixes are such too.
-use Rattle.std.proofs.Common.{◌≡◌, ℕ, true, List, [], ◌∷◌, ◌++◌, refl, sym, subst, inl, inr, arith}
-use Rattle.std.specs.Prelude.{take}
-use Rattle.std.proofs.lemmas.Bool.{or_cases}
+use Rattle.tmw_judge.proofs.Shared.{AreFed, AreOpen, AreOpenBefore, AreReports, Asked, Both, Bounds, ByCriterion, Event, Header, List, Monitor, Opacity, Report, Strict, Verdict, [], any_open, arith, fine_of, inl, inr, is_open, length-push, or_cases, refl, subst, sym, take, take-push, told_verdicts, trace_rules, true, verdict_of, verdicts_of, ℕ, ◌++◌, ◌∷◌, ◌≡◌}
 use Rattle.std.proofs.lemmas.List.{length-take, take-take}
-use Rattle.tmw_events.specs.declared.event.Event.{Event}
-use Rattle.tmw_trace.specs.declared.header.Header.{Header}
-use Rattle.tmw_defs.specs.declared.criterion.Asked.{Asked}
+use Rattle.tmw_defs.specs.declared.verdict.Verdict.TheVariants.{OpaqueSoFar, StrictSoFar}
+use Rattle.tmw_defs.specs.Verdict.{AreFine, IsFine, IsVerdict, Rules}
 use Rattle.tmw_defs.specs.declared.criterion.Asked.TheVariants as asks
 use Rattle.tmw_defs.specs.declared.criterion.Criterion.TheVariants as by
-use Rattle.tmw_defs.specs.declared.verdict.Verdict.{Verdict}
-use Rattle.tmw_defs.specs.declared.verdict.Verdict.TheVariants.{OpaqueSoFar, StrictSoFar, Violated, Undecided, Malformed}
-use Rattle.tmw_defs.specs.Verdict.{AreFine, IsFine, IsVerdict, Rules}
-use Rattle.tmw_defs.proofs.WindowsProof.{length-push, take-push}
-use Rattle.tmw_counts.specs.Parts.{is_open}
-use Rattle.tmw_monitor.specs.declared.bounds.Bounds.{Bounds}
-use Rattle.tmw_monitor.specs.declared.monitor.Monitor.{Monitor}
-use Rattle.tmw_monitor.specs.Monitor.{verdict_of}
-use Rattle.tmw_judge.specs.Counted.{any_open, verdicts_of}
-use Rattle.tmw_judge.specs.Answering.{told_verdicts, AreOpen, AreOpenBefore}
-use Rattle.tmw_judge.specs.Judging.{AreFed, AreReports, trace_rules}
-use Rattle.tmw_judge.specs.declared.by_criterion.ByCriterion.{ByCriterion}
-use Rattle.tmw_judge.specs.declared.by_criterion.ByCriterion.TheVariants.{Opacity, Strict, Both}
-use Rattle.tmw_judge.specs.declared.report.Report.{Report}
 
 -- where nothing is wrong with any prefix, nothing is with a prefix's prefixes
 fine-prefix : (rules : Rules) (h : List Event) (j : ℕ) → AreFine rules h → AreFine rules (take j h)
 fine-prefix rules h j fine = λ k within.
     let long = length-take j h in
     subst (λ (es : List Event). IsFine rules es) (sym (take-take k j h (omega (arith, within, long)))) (fine k (omega (arith, within, long)))
-
--- an open verdict says that nothing is wrong
-open-fine : (rules : Rules) (h : List Event) (v : Verdict) → is_open v ≡ true → IsVerdict rules h v → AreFine rules h
-open-fine rules h OpaqueSoFar is judged = judged.1
-open-fine rules h StrictSoFar is judged = judged.1
-open-fine rules h (Violated m) is judged = absurd (cc)
-open-fine rules h (Undecided m why) is judged = absurd (cc)
-open-fine rules h (Malformed m) is judged = absurd (cc)
 
 module _ (header : Header) (bounds : Bounds) where
   -- each prefix of an open history is open
@@ -63,11 +38,11 @@ module _ (header : Header) (bounds : Bounds) where
   module _ (h : List Event) where
     opaque-fine : (v : Verdict) → is_open v ≡ true → IsVerdict (trace_rules header bounds by.Opacity) h v
         → IsVerdict (trace_rules header bounds by.Opacity) h OpaqueSoFar
-    opaque-fine v is judged = (refl, open-fine (trace_rules header bounds by.Opacity) h v is judged)
+    opaque-fine v is judged = (refl, fine_of (trace_rules header bounds by.Opacity) h v is judged)
 
     strict-fine : (v : Verdict) → is_open v ≡ true → IsVerdict (trace_rules header bounds by.Strict) h v
         → IsVerdict (trace_rules header bounds by.Strict) h StrictSoFar
-    strict-fine v is judged = (refl, open-fine (trace_rules header bounds by.Strict) h v is judged)
+    strict-fine v is judged = (refl, fine_of (trace_rules header bounds by.Strict) h v is judged)
 
     module _ (asked : Asked) where
       -- where one of the monitors is open, the history is

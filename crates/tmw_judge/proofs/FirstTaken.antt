@@ -1,29 +1,5 @@
 -- Judging up to the first final verdict: the first line is read, then events are fed, and what was told is what was read.
-use Rattle.std.proofs.Common.{ℕ, true, List, [], ◌∷◌, ◌++◌, Ok, Err, inl, inr, refl}
-use Rattle.tmw_lines.specs.ItemsRead.{AreReadFor, FailsBehind}
-use Rattle.tmw_lines.specs.Lines.{HasRead, format_by, unread_bytes}
-use Rattle.tmw_lines.specs.Text.{front_of}
-use Rattle.tmw_lines.specs.declared.lines.Lines.{Lines}
-use Rattle.tmw_lines.specs.declared.text_fault.TextFault.{TextFault}
-use Rattle.tmw_lines.specs.declared.text_fault.TextFault.TheVariants.{BadHeader, BadLine, Cut, Memory, Io, TooLong}
-use Rattle.tmw_streams.specs.Streams.{FromSource, ToSink}
-use Rattle.tmw_streams.specs.Told.{Tells}
-use Rattle.tmw_streams.proofs.ToldBytes.{Tells-more}
-use Rattle.tmw_events.specs.declared.event.Event.{Event}
-use Rattle.tmw_trace.specs.Text.{trace_grammar}
-use Rattle.tmw_trace.specs.declared.header.Header.{Header}
-use Rattle.tmw_trace.specs.declared.version.Version.{Version}
-use Rattle.tmw_defs.specs.declared.criterion.Asked.{Asked}
-use Rattle.tmw_monitor.specs.declared.bounds.Bounds.{Bounds}
-use Rattle.tmw_report.specs.Putting.{fault_of}
-use Rattle.tmw_report.specs.Quote.{number_of, QuotesLine}
-use Rattle.tmw_report.specs.Quoting.{QuotesHeld}
-use Rattle.tmw_report.proofs.Quotes.{quoted-read}
-use Rattle.tmw_judge.specs.Feeding.{IsBeginning, ReadsBeginning}
-use Rattle.tmw_judge.specs.Answering.{AreOpen, AreOpenBefore, EndsSoonBehindOpen, HasFaultInTime}
-use Rattle.tmw_judge.specs.FeedingFirst.{AnswersFed, AreReadFirst, FeedsFirst}
-use Rattle.tmw_judge.specs.Counted.{CountsFor}
-use Rattle.tmw_judge.specs.declared.judges.Judges.{Judges}
+use Rattle.tmw_judge.proofs.Shared.{AnswersFed, AreOpen, AreOpenBefore, AreReadFirst, AreReadFor, Asked, BadHeader, BadLine, Bounds, CountsFor, Cut, EndsSoonBehindOpen, Err, Event, FailsBehind, FeedsFirst, FromSource, HasFaultInTime, HasRead, Header, Io, IsBeginning, Judges, Lines, List, Memory, Ok, QuotesHeld, QuotesLine, ReadsBeginning, Tells, Tells-more, TextFault, ToSink, TooLong, Version, [], fault_of, format_by, front_of, inl, inr, number_of, quoted-read, refl, trace_grammar, true, unread_bytes, ℕ, ◌++◌, ◌∷◌}
 use Rattle.tmw_judge.proofs.FirstOpen.{AreOpenBefore-none}
 
 -- what was read when memory was wanted ends soon behind whole lines, and no verdict came before the last of them

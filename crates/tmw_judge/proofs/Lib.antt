@@ -7,5 +7,6 @@ mod FirstFed
 mod FirstOpen
 mod FirstTaken
 mod Plain
+mod Shared
 mod Taken
 mod Taking

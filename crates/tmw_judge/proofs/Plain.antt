@@ -1,19 +1,7 @@
 -- A run of `judge` that ends at no verdict and counts nothing answers by its reports alone.
-use Rattle.std.proofs.Common.{◌≡◌, ◌++◌, ℕ, false, List, Option, Some, None, Result, Ok, Err, append-nil, refl, subst, ◌∙◌}
-use Rattle.tmw_counts.specs.declared.summary.Summary.{Summary}
-use Rattle.tmw_defs.specs.declared.criterion.Asked.{Asked}
-use Rattle.tmw_events.specs.declared.event.Event.{Event}
-use Rattle.tmw_monitor.specs.declared.bounds.Bounds.{Bounds}
-use Rattle.tmw_report.specs.CommandRun.{answer_status, answer_text, failures_after_answer}
-use Rattle.tmw_report.specs.Putting.{IsPut}
+use Rattle.tmw_judge.proofs.Shared.{Answer, AnswersBy, AnswersTrace, Asked, Bounds, ByCriterion, Err, Event, FromSource, HasSummary, IsPut, JudgesBytes, JudgesWith, List, None, Ok, Option, Report, Result, Some, Summary, ToSink, append-nil, counted_part, false, judged_lines, judged_status, plain, refl, report_lines, report_status, subst, summary_lines, told_verdicts, ℕ, ◌++◌, ◌∙◌, ◌≡◌}
 use Rattle.tmw_report.specs.declared.fault.Fault.{Fault}
-use Rattle.tmw_streams.specs.Streams.{FromSource, ToSink}
-use Rattle.tmw_judge.specs.Answering.{judged_lines, judged_status, summary_lines, told_verdicts, AnswersBy, JudgesWith, plain}
-use Rattle.tmw_judge.specs.Counted.{counted_part, HasSummary}
-use Rattle.tmw_judge.specs.Judging.{report_lines, report_status, AnswersTrace, JudgesBytes}
-use Rattle.tmw_judge.specs.declared.answer.Answer.{Answer}
-use Rattle.tmw_judge.specs.declared.by_criterion.ByCriterion.{ByCriterion}
-use Rattle.tmw_judge.specs.declared.report.Report.{Report}
+use Rattle.tmw_report.specs.CommandRun.{answer_status, answer_text, failures_after_answer}
 
 abbrev reports_in : Result Answer Fault → Result (ByCriterion Report) Fault
 reports_in (Ok answer) = Ok answer.reports

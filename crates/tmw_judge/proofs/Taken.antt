@@ -1,32 +1,6 @@
 -- Judging a trace: its first line is read, then its events are fed, and what was told is what was read.
-use Rattle.std.proofs.Common.{◌≡◌, ℕ, false, List, [], ◌++◌, Ok, Err, refl}
-use Rattle.tmw_lines.specs.ItemsRead.{AreReadFor}
-use Rattle.tmw_lines.specs.TextFault.{HasTextFault, failures_after}
-use Rattle.tmw_lines.specs.declared.lines.Lines.{Lines}
-use Rattle.tmw_lines.specs.declared.text_fault.TextFault.{TextFault}
-use Rattle.tmw_lines.specs.declared.text_fault.TextFault.TheVariants.{BadHeader, BadLine, Cut, Memory, Io, TooLong}
+use Rattle.tmw_judge.proofs.Shared.{AnswersFed, AreReadAndFed, AreReadFor, Asked, BadHeader, BadLine, Bounds, CountsFor, Cut, Err, Event, FeedsEvents, FromSource, HasTextFault, Header, Io, IsBeginning, Judges, Lines, List, Memory, Ok, QuotesHeld, QuotesLine, ReadsBeginning, Tells, Tells-more, TextFault, ToSink, TooLong, Version, [], false, fault_of, format_by, front_of, number_of, quoted-first, quoted-read, refl, trace_grammar, unread_bytes, ℕ, ◌++◌}
 use Rattle.tmw_lines.proofs.TextsRead.{soon-behind, text_fault-first, text_fault-read}
-use Rattle.tmw_lines.specs.Lines.{format_by, unread_bytes}
-use Rattle.tmw_lines.specs.Text.{front_of}
-use Rattle.tmw_streams.specs.Streams.{FromSource, ToSink}
-use Rattle.tmw_streams.specs.Told.{Tells}
-use Rattle.tmw_streams.proofs.ToldBytes.{Tells-more}
-use Rattle.tmw_events.specs.declared.event.Event.{Event}
-use Rattle.tmw_trace.specs.Text.{trace_grammar}
-use Rattle.tmw_trace.specs.declared.header.Header.{Header}
-use Rattle.tmw_trace.specs.declared.version.Version.{Version}
-use Rattle.tmw_defs.specs.declared.criterion.Asked.{Asked}
-use Rattle.tmw_monitor.specs.declared.bounds.Bounds.{Bounds}
-use Rattle.tmw_report.specs.declared.fault.Fault.{Fault}
-use Rattle.tmw_report.specs.Putting.{fault_of}
-use Rattle.tmw_report.specs.CommandRun.{failures_after_answer}
-use Rattle.tmw_report.specs.Quote.{number_of, QuotesLine}
-use Rattle.tmw_report.specs.Quoting.{QuotesHeld}
-use Rattle.tmw_report.proofs.Quotes.{quoted-first, quoted-read}
-use Rattle.tmw_judge.specs.Feeding.{IsBeginning, ReadsBeginning, AreFedAllRead, AreReadAndFed, FeedsEvents}
-use Rattle.tmw_judge.specs.Counted.{CountsFor}
-use Rattle.tmw_judge.specs.declared.judges.Judges.{Judges}
-use Rattle.tmw_judge.specs.FeedingFirst.{AnswersFed}
 
 module _ {C : Type 0} (Counts : CountsFor C) where
   -- the fault of the first line, or want of memory behind it, is the text's
@@ -71,20 +45,6 @@ module _ {C : Type 0} (Counts : CountsFor C) where
       → AnswersFed false Counts bounds asked Ended bytes (Err (fault_of told))
   answers-first Ended lines bounds asked bytes told is = (told, refl, first-fault Ended lines bounds asked bytes told is)
 
-  -- a trace was begun
-  pub begun-fed : {S : Type 0} (From : FromSource S) (Ended : Type 0) (a b : S)
-      (lines : Lines Version) (bounds : Bounds) (asked : Asked) (judges : Judges C)
-      → ReadsBeginning From Counts Ended a b lines bounds asked (Ok judges) → AreFedAllRead Counts lines judges
-  begun-fed From Ended a b lines bounds asked judges reads = record {
-    header = reads.is.0;
-    bounds = bounds;
-    asked = asked;
-    history = [];
-    bytes = reads.bytes;
-    read = reads.is.1;
-    fed = reads.is.2;
-  }
-
 module _ {S C : Type 0} (From : FromSource S) (Counts : CountsFor C) (First Ended : Type 0) (a b c : S)
     (lines after : Lines Version) (bounds : Bounds) (asked : Asked) (judges fed : Judges C)
     (begins : ReadsBeginning From Counts First a b lines bounds asked (Ok judges)) where
@@ -120,13 +80,3 @@ module _ {S C : Type 0} (From : FromSource S) (Counts : CountsFor C) (First Ende
         (told, refl, text_fault-read Done trace_grammar Ended after begins.is.0 feeds.events all told read),
         quoted-read Errors Ended after all old new begins.is.0 feeds.events Done told read held,
       )
-
--- a failed read is counted, and no other fault is
-pub failures_after-fault : (Found : Type 0) (told : TextFault) (fault : Fault) (count : ℕ) → fault ≡ fault_of told
-    → failures_after told count ≡ failures_after_answer {Found = Found} (Err fault) count
-failures_after-fault Found BadHeader fault count is = rw is refl
-failures_after-fault Found (BadLine line) fault count is = rw is refl
-failures_after-fault Found (Cut line) fault count is = rw is refl
-failures_after-fault Found Memory fault count is = rw is refl
-failures_after-fault Found Io fault count is = rw is refl
-failures_after-fault Found TooLong fault count is = rw is refl

@@ -1,19 +1,6 @@
 -- Judges take events by being fed them.
-use Rattle.std.proofs.Common.{ℕ, ◌+◌, ◌-◌, ◌<◌, ◌^◌, Result, Ok, Err, OnErr, List, [], ◌∷◌, ◌++◌, length, length-append, arith}
-use Rattle.tmw_events.specs.declared.event.Event.{Event}
+use Rattle.tmw_judge.proofs.Shared.{AreFed, AreFedSoMany, Asked, Both, Bounds, ByCriterion, CountsFor, Each, Err, Event, Header, Judges, List, Monitor, Ok, OnErr, Opacity, Result, Strict, TakeEvents, [], arith, fed_of, length, length-append, trace_rules, ℕ, ◌++◌, ◌+◌, ◌-◌, ◌<◌, ◌^◌, ◌∷◌}
 use Rattle.tmw_monitor.specs.Fitting.{Fits}
-use Rattle.tmw_monitor.specs.Monitor.{fed_of}
-use Rattle.tmw_monitor.specs.declared.monitor.Monitor.{Monitor}
-use Rattle.tmw_judge.specs.ByCriterion.{Each}
-use Rattle.tmw_judge.specs.Counted.{CountsFor}
-use Rattle.tmw_judge.specs.Feeding.{AreFedSoMany, TakeEvents}
-use Rattle.tmw_judge.specs.Judging.{AreFed, trace_rules}
-use Rattle.tmw_judge.specs.declared.by_criterion.ByCriterion.{ByCriterion}
-use Rattle.tmw_judge.specs.declared.by_criterion.ByCriterion.TheVariants.{Opacity, Strict, Both}
-use Rattle.tmw_trace.specs.declared.header.Header.{Header}
-use Rattle.tmw_defs.specs.declared.criterion.Asked.{Asked}
-use Rattle.tmw_monitor.specs.declared.bounds.Bounds.{Bounds}
-use Rattle.tmw_judge.specs.declared.judges.Judges.{Judges}
 use Rattle.tmw_judge.proofs.Each.{each-weaker}
 
 module _ {C : Type 0} (Counts : CountsFor C) where

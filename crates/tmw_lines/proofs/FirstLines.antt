@@ -1,27 +1,9 @@
 -- The first line of a text: held whole, or longer than can be held.
-use Rattle.std.proofs.Common.{◌≡◌, ℕ, ◌+◌, ◌<◌, ◌≤◌, Err, Ok, List, ◌∷◌, ◌++◌, length, take, drop, refl, sym, ap, ◌∙◌, inl, inr, length-append, arith}
-use Rattle.std.proofs.lemmas.List.{nil_from_length}
-use Rattle.tmw_streams.specs.Told.{Reads}
-use Rattle.tmw_lines.specs.Grammar.{Grammar, IsNoHeader}
-use Rattle.tmw_lines.specs.LineRead.{ReadsHeader}
-use Rattle.tmw_lines.specs.LongLine.{Skips}
-use Rattle.tmw_lines.specs.Parts.{IsFree}
-use Rattle.tmw_lines.specs.Text.{line}
-use Rattle.tmw_lines.specs.TextFault.{HasBadHeader}
-use Rattle.tmw_lines.specs.declared.long_line.LineEnd.TheVariants.{Feed, End, Failed}
-use Rattle.tmw_lines.specs.declared.text_fault.TextFault.TheVariants.{BadHeader, Cut, Io}
+use Rattle.tmw_lines.proofs.Shared.{BadHeader, Cut, End, Err, Failed, Feed, FromSource, Grammar, HasBadHeader, Io, IsFree, IsNoHeader, List, Ok, Reads, ReadsHeader, Skips, Tells-more, ap, arith, drop, inl, inr, length, length-append, line, nil_from_length, refl, sym, take, ℕ, ◌++◌, ◌+◌, ◌<◌, ◌∙◌, ◌∷◌, ◌≡◌, ◌≤◌}
 use Rattle.tmw_lines.proofs.Fronts.{holds-long, holds-same}
 use Rattle.tmw_lines.proofs.HeldLines.{line-split, bytes-joined}
 use Rattle.tmw_lines.proofs.LongLines.{long-bad}
 use Rattle.tmw_lines.proofs.Splits.{free-append}
-use Rattle.tmw_streams.proofs.ToldBytes.{Tells-more}
-use Rattle.tmw_streams.specs.Streams.{FromSource}
-
-pub take_header-some : {F H E : Type 0} (grammar : Grammar F H E) (bytes left : List ℕ) (count : ℕ) (header : H)
-    → drop count bytes ≡ 10 ∷ drop (count + 1) bytes → left ≡ drop (count + 1) bytes
-    → take count bytes ≡ grammar.header_text header → bytes ≡ line (grammar.header_text header) ++ left
-take_header-some grammar bytes left count header feed is text =
-    rw is (line-split bytes (grammar.header_text header) count feed text)
 
 pub take_header-none : {F H E : Type 0} (grammar : Grammar F H E) (bytes : List ℕ) (count : ℕ)
     → IsFree 10 (take count bytes) → drop count bytes ≡ 10 ∷ drop (count + 1) bytes

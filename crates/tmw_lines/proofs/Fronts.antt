@@ -1,12 +1,5 @@
 -- How the first line of bytes begins, and which line of a text has a number.
-use Rattle.std.proofs.Common.{◌≡◌, ℕ, ◌+◌, suc, List, [], ◌∷◌, ◌++◌, length, take, drop, refl, sym, ap, ◌∙◌, append_assoc, append-nil, arith}
-use Rattle.std.proofs.Math.Seq.{take-append-add, drop-append-add}
-use Rattle.std.proofs.lemmas.List.{take-append-le}
-use Rattle.std.proofs.lemmas.List.Elements.{recursion_from_All}
-use Rattle.std.specs.List.{AllByRecursion}
-use Rattle.tmw_lines.specs.Grammar.{Grammar, IsNaming, items_text, lines_text, AllFit}
-use Rattle.tmw_lines.specs.Parts.{IsFree}
-use Rattle.tmw_lines.specs.Text.{line, feed_at, front_of, behind_front, line_at, HoldsFront}
+use Rattle.tmw_lines.proofs.Shared.{AllByRecursion, AllFit, Grammar, HoldsFront, IsFree, IsNaming, List, [], ap, append-nil, append_assoc, arith, behind_front, drop, drop-append-add, feed_at, front_of, items_text, length, line, line_at, lines_text, recursion_from_All, refl, suc, sym, take, take-append-add, take-append-le, ℕ, ◌++◌, ◌+◌, ◌∙◌, ◌∷◌, ◌≡◌}
 use Rattle.tmw_lines.proofs.Splits.{position_or_len-free}
 
 -- what is free of line feeds stands before the first

@@ -1,23 +1,8 @@
 -- Lines whose items a taker is given, one after another.
-use Rattle.std.proofs.Common.{ℕ, ◌+◌, ◌<◌, ◌≤◌, ◌^◌, List, [], ◌∷◌, ◌++◌, length, drop, refl, ap, ◌∙◌, length-append, length-drop, arith}
-use Rattle.std.proofs.lemmas.List.{drop-drop}
-use Rattle.std.proofs.lemmas.List.Elements.{All-push}
-use Rattle.tmw_lines.specs.Given.{AreFirst}
-use Rattle.tmw_lines.specs.GivenLines.{AreTaken, IsLastLacked}
-use Rattle.tmw_lines.specs.Grammar.{Grammar, items_text}
-use Rattle.tmw_lines.specs.LineRead.{IsItemLine}
-use Rattle.tmw_lines.specs.Text.{line}
+use Rattle.tmw_lines.proofs.Shared.{All-push, AreFirst, AreTaken, Grammar, IsItemLine, IsLastLacked, List, [], ap, arith, drop, drop-drop, items_text, length, length-append, length-drop, line, ℕ, ◌++◌, ◌+◌, ◌<◌, ◌^◌, ◌∙◌, ◌∷◌, ◌≤◌}
 use Rattle.tmw_lines.proofs.LinesRead.{items_text-push}
 
 module _ {F H E : Type 0} (grammar : Grammar F H E) (format : F) (bytes : List ℕ) where
-  -- no line
-  pub AreFirst-none : AreFirst grammar format [] 0 bytes
-  AreFirst-none = record {
-    within = omega arith;
-    split = refl;
-    fit = λ i d within. absurd (omega arith);
-  }
-
   -- one line more
   pub AreFirst-push : (items : List E) (item : E) (count more : ℕ) → AreFirst grammar format items count bytes
       → more ≤ length (drop count bytes) → IsItemLine grammar format item (drop count bytes) (drop more (drop count bytes))
@@ -30,11 +15,11 @@ module _ {F H E : Type 0} (grammar : Grammar F H E) (format : F) (bytes : List �
     fit = All-push (grammar.FitsItem format) items item first.fit is.fits;
   }
 
-module _ {F H E T : Type 0} (grammar : Grammar F H E) (Takes : T → List E → T → Type 0) (Counts : T → ℕ → Type 0)
+module _ {F H E T : Type 0} {grammar : Grammar F H E} {Takes : T → List E → T → Type 0} {Counts : T → ℕ → Type 0}
     (more_taken : (a b c : T) (xs ys : List E) → Takes a xs b → Takes b ys c → Takes a (xs ++ ys) c)
-    (format : F) (bytes : List ℕ) (read : ℕ) (before between after : T) (count all more : ℕ)
+    {format : F} {bytes : List ℕ} {read : ℕ} {before between after : T} {count all more : ℕ}
     (t : AreTaken grammar Takes Counts format bytes read before between count all) (left : all < 2 ^ 40)
-    (within : more ≤ length (drop count bytes)) (item : E)
+    (within : more ≤ length (drop count bytes)) {item : E}
     (is : IsItemLine grammar format item (drop count bytes) (drop more (drop count bytes))) where
   -- its item was taken
   pub AreTaken-push : Takes between (item ∷ []) after → ((taken : ℕ) → Counts between taken → Counts after (taken + 1))
@@ -49,9 +34,9 @@ module _ {F H E T : Type 0} (grammar : Grammar F H E) (Takes : T → List E → 
   }
 
   -- memory was refused for its item
-  pub IsLastLacked-push : (Lacks : T → E → T → Type 0) → Lacks between item after
+  pub IsLastLacked-push : {Lacks : T → E → T → Type 0} → Lacks between item after
       → IsLastLacked grammar Takes Lacks format bytes read before after (count + more) (all + 1)
-  IsLastLacked-push Lacks lacks = record {
+  IsLastLacked-push lacks = record {
     items = t.items;
     last = item;
     between = between;

@@ -1,8 +1,5 @@
 -- Bytes in a buffer: those let go of at the front, moved to the front, and read behind the others.
-use Rattle.std.proofs.Common.{◌≡◌, ℕ, ◌+◌, ◌-◌, ◌<◌, ◌≤◌, List, ◌∷◌, ◌++◌, [], length, take, drop, get_or, set, sym, ap, ◌∙◌, length-set, length-drop, arith}
-use Rattle.std.proofs.Math.Seq.{take-append-add}
-use Rattle.std.proofs.lemmas.List.{take_more, take_more_set, drop-set-lt, drop-take, drop-drop, get_or-drop, length-take-le, take-append-le}
-use borrow.Rule.Slice.PartMut.{put_mid, post_of}
+use Rattle.tmw_lines.proofs.Shared.{List, [], ap, arith, drop, drop-drop, drop-set-lt, drop-take, get_or, get_or-drop, length, length-drop, length-set, length-take-le, post_of, put_mid, set, sym, take, take-append-add, take-append-le, take_more, take_more_set, ℕ, ◌++◌, ◌+◌, ◌-◌, ◌<◌, ◌∙◌, ◌∷◌, ◌≡◌, ◌≤◌}
 
 -- the bytes from `start` up to `end`, less the first `count`
 pub between-less : (buffer : List ℕ) (start end count : ℕ) → count + start ≤ end

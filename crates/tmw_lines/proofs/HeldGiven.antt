@@ -1,27 +1,6 @@
 -- The reader has read the lines, among the bytes that it held, whose items a taker was given.
-use Rattle.std.proofs.Common.{◌≡◌, ℕ, ◌+◌, ◌≤◌, ◌^◌, Bool, true, false, List, [], ◌∷◌, ◌++◌, length, drop, sym, ap, ◌∙◌, length-append, append_assoc, arith}
-use Rattle.std.proofs.lemmas.Grind.{flat_map-append}
-use Rattle.std.proofs.lemmas.List.Elements.{All-append}
-use Rattle.tmw_lines.specs.Given.{AreFirst, ReadsHeld, GivesItems, LacksLast}
-use Rattle.tmw_lines.specs.GivenLines.{AreTaken, IsLastLacked, IsRunBy}
-use Rattle.tmw_lines.specs.Grammar.{Grammar, items_text}
-use Rattle.tmw_lines.specs.Held.{bytes_of}
-use Rattle.tmw_lines.specs.Text.{line}
-use Rattle.tmw_lines.specs.declared.lines.Lines.{Lines}
+use Rattle.tmw_lines.proofs.Shared.{All-append, AreFirst, AreTaken, GivesItems, Grammar, IsLastLacked, LacksLast, Lines, List, ReadsHeld, [], ap, append_assoc, arith, bytes_of, drop, flat_map-append, items_text, length, length-append, line, sym, ℕ, ◌++◌, ◌+◌, ◌∙◌, ◌∷◌, ◌≡◌}
 use Rattle.tmw_lines.proofs.LinesRead.{few-held}
-
-module _ {F H E T : Type 0} (grammar : Grammar F H E) (Takes : T → List E → T → Type 0) (Lacks : T → E → T → Type 0)
-    (Counts : T → ℕ → Type 0) (format : F) (bytes : List ℕ) (read : ℕ) (before after : T) (count all : ℕ) where
-  -- the lines are among the bytes, and are few
-  pub run-within : (refused : Bool) → IsRunBy grammar Takes Lacks Counts format bytes read before after count all refused
-      → count ≤ length bytes
-  run-within false t = t.first.within
-  run-within true t = t.first.within
-
-  pub run-few : (refused : Bool) → IsRunBy grammar Takes Lacks Counts format bytes read before after count all refused
-      → all ≤ 2 ^ 40
-  run-few false t = t.few
-  run-few true t = t.few
 
 module _ {F H E : Type 0} (grammar : Grammar F H E) (old new : Lines F) (state : new.state ≡ old.state)
     (format : new.format ≡ old.format) (count : ℕ) (left : bytes_of new.held ≡ drop count (bytes_of old.held)) where

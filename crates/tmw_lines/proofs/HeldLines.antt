@@ -1,8 +1,5 @@
 -- A line that is held whole, and the bytes read for one that is not.
-use Rattle.std.proofs.Common.{◌≡◌, ℕ, ◌+◌, ◌<◌, List, [], ◌∷◌, ◌++◌, length, take, drop, sym, ap, ◌∙◌, length-drop, append_assoc, take-append-drop, arith}
-use Rattle.tmw_streams.specs.Told.{Reads}
-use Rattle.tmw_lines.specs.Text.{line}
-use Rattle.tmw_streams.specs.Streams.{FromSource}
+use Rattle.tmw_lines.proofs.Shared.{FromSource, List, Reads, [], ap, append_assoc, arith, drop, length, length-drop, line, sym, take, take-append-drop, ℕ, ◌++◌, ◌+◌, ◌<◌, ◌∙◌, ◌∷◌, ◌≡◌}
 
 -- the bytes up to a line feed, and those after it
 pub line-split : (bytes text : List ℕ) (count : ℕ) → drop count bytes ≡ 10 ∷ drop (count + 1) bytes → take count bytes ≡ text

@@ -1,17 +1,6 @@
 -- Reading on to the end: a taker was given the items of the lines read so far.
-use Rattle.std.proofs.Common.{◌≡◌, ℕ, ◌+◌, Ok, Err, List, [], ◌∷◌, ◌++◌, sym, ◌∙◌, append_assoc, append-nil, length-append, arith}
-use Rattle.tmw_lines.specs.Given.{GivesItems, LacksLast}
-use Rattle.tmw_lines.specs.Grammar.{Grammar}
-use Rattle.tmw_lines.specs.ItemsGiven.{GivesAll, AreGiven, ReadsToFault}
-use Rattle.tmw_lines.specs.ItemsRead.{HasBegunToRead}
-use Rattle.tmw_lines.specs.Lines.{IsReading, HasRead, GivesItem, GivesEnd, FailsAtLine}
-use Rattle.tmw_lines.specs.declared.lines.Lines.{Lines}
-use Rattle.tmw_lines.specs.declared.text_fault.TextFault.{TextFault}
-use Rattle.tmw_lines.specs.declared.text_fault.TextFault.TheVariants.{BadHeader, BadLine, Cut, Memory, Io, TooLong}
+use Rattle.tmw_lines.proofs.Shared.{AreGiven, BadHeader, BadLine, Cut, Err, FailsAtLine, FromSource, GivesAll, GivesEnd, GivesItem, GivesItems, Grammar, HasBegunToRead, HasRead, Io, IsReading, LacksLast, Lines, List, Memory, Ok, ReadsToFault, Tells, Tells-more, Tells-none, TextFault, TooLong, [], append-nil, append_assoc, arith, length-append, sym, ℕ, ◌++◌, ◌+◌, ◌∙◌, ◌∷◌, ◌≡◌}
 use Rattle.tmw_lines.proofs.LinesRead.{fails-holding}
-use Rattle.tmw_streams.specs.Streams.{FromSource}
-use Rattle.tmw_streams.specs.Told.{Tells}
-use Rattle.tmw_streams.proofs.ToldBytes.{Tells-none, Tells-more}
 
 -- the items of all lines read since were taken
 pub record HasGiven {F H E S T : Type 0} (grammar : Grammar F H E) (From : FromSource S) (Takes : T → List E → T → Type 0) (old new : S) (lines lines_after : Lines F)
@@ -23,8 +12,8 @@ pub record HasGiven {F H E S T : Type 0} (grammar : Grammar F H E) (From : FromS
   pub read : (header : H) (given : List E) (earlier : List ℕ) → HasRead grammar lines header given earlier
       → HasRead grammar lines_after header (given ++ items) (earlier ++ bytes)
 
-module _ {F H E S T : Type 0} (grammar : Grammar F H E) (From : FromSource S)
-    (Takes : T → List E → T → Type 0) (a : S) (lines : Lines F) (before : T) where
+module _ {F H E S T : Type 0} {grammar : Grammar F H E} {From : FromSource S}
+    {Takes : T → List E → T → Type 0} {a : S} {lines : Lines F} {before : T} where
   pub HasGiven-none : Takes before [] before → HasGiven grammar From Takes a a lines lines before before
   HasGiven-none none = record {
     bytes = [];
@@ -34,7 +23,7 @@ module _ {F H E S T : Type 0} (grammar : Grammar F H E) (From : FromSource S)
     read = λ header given earlier r. rw (append-nil given, append-nil earlier) r;
   }
 
-  module _ (b : S) (now : Lines F) (between : T) (h : HasGiven grammar From Takes a b lines now before between) where
+  module _ {b : S} {now : Lines F} {between : T} (h : HasGiven grammar From Takes a b lines now before between) where
     -- no fault was answered yet, and not the end
     pub reads_on : HasBegunToRead grammar lines → IsReading now
     reads_on begun = (h.read begun.header begun.items begun.bytes begun.read).reading

@@ -1,12 +1,5 @@
 -- What was read where a taker, such as a list, holds the items that it takes behind those that it held.
-use Rattle.std.proofs.Common.{◌≡◌, Result, Ok, Err, List, ◌++◌, ◌∙◌}
-use Rattle.tmw_lines.specs.Grammar.{Grammar}
-use Rattle.tmw_lines.specs.ItemsGiven.{GivesAll}
-use Rattle.tmw_lines.specs.ItemsRead.{ReadsItems}
-use Rattle.tmw_lines.specs.declared.lines.Lines.{Lines}
-use Rattle.tmw_lines.specs.declared.text_fault.TextFault.{TextFault}
-use Rattle.tmw_lines.specs.declared.text_fault.TextFault.TheVariants.{BadHeader, BadLine, Cut, Memory, Io, TooLong}
-use Rattle.tmw_streams.specs.Streams.{FromSource}
+use Rattle.tmw_lines.proofs.Shared.{BadHeader, BadLine, Cut, Err, FromSource, GivesAll, Grammar, Io, Lines, List, Memory, Ok, ReadsItems, Result, TextFault, TooLong, ◌++◌, ◌∙◌, ◌≡◌}
 
 module _ {F H E S T Done : Type 0} (grammar : Grammar F H E) (From : FromSource S)
     (Ended : Type 0) (Takes : T → List E → T → Type 0) (Lacks : T → E → T → Type 0) (held : T → List E)

@@ -10,6 +10,7 @@ pub mod LinesRead
 mod LongLines
 mod NextLines
 mod Pieces
+mod Shared
 pub mod Splits
 pub mod TextNames
 pub mod TextsRead

@@ -1,20 +1,7 @@
 -- What a reader of lines has read, after one line more.
-use Rattle.std.proofs.Common.{◌≡◌, ℕ, ◌+◌, ◌<◌, ◌≤◌, ◌^◌, List, [], ◌∷◌, ◌++◌, length, sym, ap, ◌∙◌, inr, length-append, length-take, append_assoc, arith}
-use Rattle.std.proofs.lemmas.Grind.{flat_map-append}
-use Rattle.std.proofs.lemmas.List.{append-nil}
-use Rattle.std.proofs.lemmas.List.Elements.{All-push}
-use Rattle.tmw_lines.specs.Grammar.{Grammar, items_text, lines_text, AreLines}
-use Rattle.tmw_lines.specs.Held.{bytes_of}
-use Rattle.tmw_lines.specs.ItemsRead.{FailsBehind, FailsHolding}
-use Rattle.tmw_lines.specs.LineRead.{IsItemLine, HasLineFault}
-use Rattle.tmw_lines.specs.Lines.{HasRead, IsNew, IsReading, IsOver, HasFailed, FailsAtLine}
-use Rattle.tmw_lines.specs.Text.{line}
-use Rattle.tmw_lines.specs.TextFault.{HasTextFault, HasBegun}
+use Rattle.tmw_lines.proofs.Shared.{All-push, AreLines, BadHeader, BadLine, Cut, FailsAtLine, FailsBehind, FailsHolding, Grammar, HasBegun, HasFailed, HasLineFault, HasRead, HasTextFault, Io, IsItemLine, IsNew, IsOver, IsReading, Lines, List, Memory, TextFault, TooLong, [], ap, append-nil, append_assoc, arith, bytes_of, flat_map-append, inr, items_text, length, length-append, length-take, line, lines_text, sym, ℕ, ◌++◌, ◌+◌, ◌<◌, ◌^◌, ◌∙◌, ◌∷◌, ◌≡◌, ◌≤◌}
 use Rattle.tmw_lines.specs.declared.held.Held.{Held}
-use Rattle.tmw_lines.specs.declared.lines.Lines.{Lines}
 use Rattle.tmw_lines.specs.declared.lines.State.TheVariants.{Reading}
-use Rattle.tmw_lines.specs.declared.text_fault.TextFault.{TextFault}
-use Rattle.tmw_lines.specs.declared.text_fault.TextFault.TheVariants.{BadHeader, BadLine, Cut, Memory, Io, TooLong}
 
 pub few-held : (held : Held) → length (bytes_of held) ≤ 4096
 few-held held = simp length-take (omega (arith, held.within))

@@ -1,15 +1,6 @@
 -- Reading on through a line that is longer than can be held.
-use Rattle.std.proofs.Common.{◌≡◌, ℕ, ◌<◌, ◌≤◌, List, [], ◌∷◌, ◌++◌, length, take, drop, sym, ap, ◌∙◌, ◌==◌, ◌+◌, append_assoc, append-nil, length-append, take-append-drop, refl, arith}
-use Rattle.std.specs.List.{position_or_len}
-use Rattle.std.proofs.lemmas.List.{take_all}
-use Rattle.tmw_lines.specs.LongLine.{HasFeed, Skips}
-use Rattle.tmw_lines.specs.Parts.{IsFree}
-use Rattle.tmw_lines.specs.TextFault.{BeginsWithBad}
-use Rattle.tmw_lines.specs.declared.long_line.LineEnd.TheVariants.{Feed, End, Failed}
-use Rattle.tmw_streams.specs.Streams.{FromSource}
-use Rattle.tmw_streams.specs.Told.{Tells}
+use Rattle.tmw_lines.proofs.Shared.{BeginsWithBad, Feed, FromSource, HasFeed, IsFree, List, Skips, Tells, Tells-more, ap, append_assoc, arith, drop, length, length-append, position_or_len, sym, take, take-append-drop, take_all, ℕ, ◌++◌, ◌+◌, ◌<◌, ◌==◌, ◌∙◌, ◌∷◌, ◌≡◌, ◌≤◌}
 use Rattle.tmw_lines.proofs.Splits.{free-append, free-before, drop-before}
-use Rattle.tmw_streams.proofs.ToldBytes.{Tells-none, Tells-more}
 
 -- where a line feed is among the bytes, the first is found
 has-feed : (bytes : List ℕ) → position_or_len (λ byte. byte == 10) bytes < length bytes → HasFeed bytes
@@ -30,9 +21,6 @@ pub record HasSkipped {S : Type 0} (From : FromSource S) (old new : S) : Type 0 
 
 -- reading on from one state to the next, which tells these bytes and holds them
 module _ {S : Type 0} (From : FromSource S) (a : S) where
-  pub HasSkipped-none : HasSkipped From a a
-  HasSkipped-none = record { bytes = []; told = Tells-none From a; free = refl }
-
   pub HasSkipped-more : (b c : S) (bytes : List ℕ) → HasSkipped From a b → Tells From b bytes c
       → length bytes ≤ position_or_len (λ byte. byte == 10) bytes → HasSkipped From a c
   HasSkipped-more b c bytes before told all = record {
@@ -54,21 +42,6 @@ module _ {S : Type 0} (From : FromSource S) (a : S) where
           free = free-append 10 before.bytes feed.front before.free feed.free;
         };
       }
-
-  pub Skips-end : (Ended : Type 0) (b c : S) → HasSkipped From a b → Tells From b [] c → Ended → Skips From Ended a c End
-  Skips-end Ended b c before told ended = record {
-    bytes = before.bytes ++ [];
-    told = Tells-more From a b c before.bytes [] before.told told;
-    is = (ended, rw append-nil before.free);
-  }
-
-  pub Skips-failed : (Ended : Type 0) (b c : S) → HasSkipped From a b → Tells From b [] c → (Ended → ⊥)
-      → Skips From Ended a c Failed
-  Skips-failed Ended b c before told no_end = record {
-    bytes = before.bytes ++ [];
-    told = Tells-more From a b c before.bytes [] before.told told;
-    is = (no_end, rw append-nil before.free);
-  }
 
 -- held bytes without a line feed and the rest of their line are a line too long to be good
 pub long-bad : (IsBad : List ℕ → Type 0) (held bytes : List ℕ) → ((text : List ℕ) → 4096 ≤ length text → IsBad text)

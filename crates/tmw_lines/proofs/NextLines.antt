@@ -1,20 +1,9 @@
 -- One line of an item: held whole, or longer than can be held.
-use Rattle.std.proofs.Common.{◌≡◌, ℕ, ◌+◌, ◌<◌, ◌≤◌, ◌^◌, Some, None, Err, List, [], ◌∷◌, ◌++◌, length, take, drop, refl, sym, ap, ◌∙◌, append-nil, length-append, Ok, arith}
-use Rattle.std.proofs.lemmas.List.{nil_from_length}
-use Rattle.tmw_lines.specs.Grammar.{Grammar, IsNoItem}
-use Rattle.tmw_lines.specs.LineRead.{IsItemLine, ReadsLine}
-use Rattle.tmw_lines.specs.TextFault.{IsBadLine}
-use Rattle.tmw_lines.specs.LongLine.{Skips}
-use Rattle.tmw_lines.specs.Parts.{IsFree}
-use Rattle.tmw_lines.specs.declared.long_line.LineEnd.TheVariants.{Feed, End, Failed}
-use Rattle.tmw_lines.specs.declared.text_fault.TextFault.TheVariants.{BadLine, Cut, Io, TooLong}
+use Rattle.tmw_lines.proofs.Shared.{BadLine, Cut, End, Err, Failed, Feed, FromSource, Grammar, Io, IsBadLine, IsFree, IsItemLine, IsNoItem, List, None, Ok, Reads, ReadsLine, Skips, Some, Tells, Tells-more, Tells-none, TooLong, [], ap, append-nil, arith, drop, length, length-append, nil_from_length, refl, sym, take, ℕ, ◌++◌, ◌+◌, ◌<◌, ◌^◌, ◌∙◌, ◌∷◌, ◌≡◌, ◌≤◌}
 use Rattle.tmw_lines.proofs.Fronts.{holds-long, holds-same}
 use Rattle.tmw_lines.proofs.HeldLines.{line-split, bytes-joined}
 use Rattle.tmw_lines.proofs.LongLines.{long-bad}
 use Rattle.tmw_lines.proofs.Splits.{free-append}
-use Rattle.tmw_streams.specs.Streams.{FromSource}
-use Rattle.tmw_streams.specs.Told.{Tells, Reads}
-use Rattle.tmw_streams.proofs.ToldBytes.{Tells-none, Tells-more}
 
 pub take_item-some : {F H E : Type 0} (grammar : Grammar F H E) (format : F) (bytes left : List ℕ) (count : ℕ)
     (item : E) → drop count bytes ≡ 10 ∷ drop (count + 1) bytes → left ≡ drop (count + 1) bytes

@@ -1,15 +1,7 @@
 -- Reading on through a line: the bytes seen so far hold no line feed.
-use Rattle.std.proofs.Common.{◌≡◌, ℕ, ◌+◌, ◌<◌, ◌≤◌, List, [], ◌∷◌, ◌++◌, not, length, take, drop, sym, ap, ◌∙◌, ◌==◌, length-drop, length-append, append_assoc, append-nil, arith}
-use Rattle.std.specs.List.{position_or_len}
-use Rattle.std.proofs.Math.Seq.{take-add}
-use Rattle.std.proofs.lemmas.List.{drop-drop, take-append-le, take_all}
+use Rattle.tmw_lines.proofs.Shared.{FromSource, IsFree, IsSeen, List, Reads, Tells, Tells-more, ap, append_assoc, arith, drop, drop-drop, length, length-append, length-drop, not, position_or_len, sym, take, take-add, take-append-le, take_all, ℕ, ◌++◌, ◌+◌, ◌<◌, ◌==◌, ◌∙◌, ◌∷◌, ◌≡◌, ◌≤◌}
 use Rattle.std.proofs.lemmas.List.Sums.{prefix_len-le-length}
-use Rattle.tmw_lines.specs.Parts.{IsFree}
-use Rattle.tmw_lines.specs.Piece.{IsSeen}
 use Rattle.tmw_lines.proofs.Splits.{free-append, free-before, drop-before}
-use Rattle.tmw_streams.specs.Streams.{FromSource}
-use Rattle.tmw_streams.specs.Told.{Tells, Reads}
-use Rattle.tmw_streams.proofs.ToldBytes.{Tells-none, Tells-more}
 
 -- the part of the bytes after those seen, up to its first line feed, is seen too
 pub IsSeen-more : (bytes : List ℕ) (seen more : ℕ) → IsSeen seen bytes
@@ -41,14 +33,11 @@ IsSeen-append bytes rest seen s = record {
 pub free-seen : (bytes : List ℕ) (seen : ℕ) → length bytes ≤ seen → IsSeen seen bytes → IsFree 10 bytes
 free-seen bytes seen all s = rw (take_all seen bytes all) at s.free
 
-module _ {S : Type 0} (From : FromSource S) (a : S) (xs : List ℕ) where
-  pub Reads-none : Reads From a a xs xs
-  Reads-none = record { bytes = []; told = Tells-none From a; is = sym (append-nil xs) }
-
+module _ {S : Type 0} {From : FromSource S} {a : S} {xs : List ℕ} where
   -- what one more read told came behind the bytes held
-  pub Reads-more : (b c : S) (ys bytes zs : List ℕ) → Reads From a b xs ys → Tells From b bytes c
+  pub Reads-more : {b c : S} {ys bytes zs : List ℕ} → Reads From a b xs ys → Tells From b bytes c
       → zs ≡ ys ++ bytes → Reads From a c xs zs
-  Reads-more b c ys bytes zs r told is = record {
+  Reads-more {b = b} {c = c} {bytes = bytes} r told is = record {
     bytes = r.bytes ++ bytes;
     told = Tells-more From a b c r.bytes bytes r.told told;
     is = is ∙ ap (λ z. z ++ bytes) r.is ∙ append_assoc xs r.bytes bytes;

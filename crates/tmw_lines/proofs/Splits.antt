@@ -1,10 +1,7 @@
 -- Parts of bytes round the first of a byte: what stands before it has none, and that fixes the parts.
-use Rattle.std.proofs.Common.{◌≡◌, ℕ, ◌+◌, ◌<◌, ◌^◌, true, false, not, List, [], ◌∷◌, ◌++◌, suc, length, take, drop, sym, ap, refl, inl, inr, ◌==◌, arith}
-use Rattle.std.specs.List.{position_or_len}
+use Rattle.tmw_lines.proofs.Shared.{IsFree, List, [], and_from, and_parts, ap, arith, cases_Bool, drop, eqb-true, false, inl, inr, is_next, length, not, position_or_len, refl, suc, sym, take, true, ℕ, ◌++◌, ◌+◌, ◌<◌, ◌==◌, ◌^◌, ◌∷◌, ◌≡◌}
 use Rattle.std.specs.Fmt.{decimal}
 use Rattle.std.specs.Str.Parse.{AllDigits}
-use Rattle.tmw_lines.specs.Parts.{IsFree, is_next}
-use Rattle.std.proofs.lemmas.Bool.{and_parts, and_from, eqb-true, cases_Bool}
 use Rattle.std.proofs.lemmas.Bool.Decides.{nat_tests}
 use Rattle.std.proofs.lemmas.Fmt.{decimal_is_IsNumeral}
 use Rattle.std.proofs.lemmas.Str.Parse.{digit_from_value}

@@ -1,10 +1,5 @@
 -- A text names its header and its items: two lists of lines with one text are one.
-use Rattle.std.proofs.Common.{◌≡◌, ℕ, List, [], ◌∷◌, ◌++◌, length, drop, refl, sym, ap, ◌∙◌, length-append, append_assoc, arith}
-use Rattle.std.specs.List.{AllByRecursion}
-use Rattle.std.proofs.lemmas.List.Elements.{recursion_from_All}
-use Rattle.tmw_lines.specs.Grammar.{Grammar, IsNaming, items_text, lines_text, AllFit}
-use Rattle.tmw_lines.specs.Parts.{IsFree}
-use Rattle.tmw_lines.specs.Text.{line}
+use Rattle.tmw_lines.proofs.Shared.{AllByRecursion, AllFit, Grammar, IsFree, IsNaming, List, [], ap, append_assoc, arith, drop, items_text, length, length-append, line, lines_text, recursion_from_All, refl, sym, ℕ, ◌++◌, ◌∙◌, ◌∷◌, ◌≡◌}
 use Rattle.tmw_lines.proofs.Splits.{split_free}
 
 -- a line and what follows it are fixed by the bytes

@@ -1,17 +1,6 @@
 -- Reading a whole text: its header, and then the items of all other lines.
-use Rattle.std.proofs.Common.{◌≡◌, ℕ, Ok, Err, List, [], ◌∷◌, ◌++◌, ap, inl, subst, ◌∙◌}
-use Rattle.tmw_lines.specs.Grammar.{Grammar, lines_text, AreLines}
-use Rattle.tmw_lines.specs.Held.{bytes_of}
-use Rattle.tmw_lines.specs.ItemsRead.{AreReadFor, ReadsItems}
-use Rattle.tmw_lines.specs.Lines.{HasRead}
-use Rattle.tmw_lines.specs.TextFault.{HasTextFault, HasFirstLineFault, EndsSoon}
-use Rattle.tmw_lines.specs.declared.lines.Lines.{Lines}
-use Rattle.tmw_lines.specs.declared.text_fault.TextFault.{TextFault}
-use Rattle.tmw_lines.specs.declared.text_fault.TextFault.TheVariants.{BadHeader, BadLine, Cut, Memory, Io, TooLong}
+use Rattle.tmw_lines.proofs.Shared.{AreLines, AreReadFor, BadHeader, BadLine, Cut, EndsSoon, Err, FromSource, Grammar, HasFirstLineFault, HasRead, HasTextFault, Io, Lines, List, Memory, Ok, ReadsItems, Tells, Tells-more, TextFault, TooLong, [], ap, bytes_of, inl, lines_text, subst, ℕ, ◌++◌, ◌∙◌, ◌∷◌, ◌≡◌}
 use Rattle.tmw_lines.proofs.LinesRead.{text_fault-behind}
-use Rattle.tmw_streams.specs.Streams.{FromSource}
-use Rattle.tmw_streams.specs.Told.{Tells}
-use Rattle.tmw_streams.proofs.ToldBytes.{Tells-more}
 
 -- a fault of the first line is the text's
 pub text_fault-first : {F H E : Type 0} (grammar : Grammar F H E) (Ended : Type 0) (bytes : List ℕ) (fault : TextFault)
@@ -50,8 +39,8 @@ text_fault-read Done grammar Ended lines header items bytes Io f = text_fault-be
 text_fault-read Done grammar Ended lines header items bytes TooLong f = text_fault-behind grammar Ended header items bytes TooLong f.fails
 
 -- a whole text: the header was read, and then the items of all other lines
-module _ {F H E S : Type 0} (grammar : Grammar F H E) (From : FromSource S)
-    (Ended : Type 0) (a b c : S) (lines after : Lines F) (header : H) (first : List ℕ) (held items : List E)
+module _ {F H E S : Type 0} {grammar : Grammar F H E} {From : FromSource S}
+    {Ended : Type 0} {a b c : S} {lines after : Lines F} {header : H} {first : List ℕ} {held items : List E}
     (told : Tells From a first b) (read : HasRead grammar lines header [] first) where
   pub all-ends : {Done : Type 0} (done : Done) → held ≡ []
       → ReadsItems grammar From Ended b c lines after held items (Ok done)

@@ -1,14 +1,7 @@
 -- An event joins the first of its thread's transactions that has not ended, or begins one, as the code finds it.
-use Rattle.std.proofs.Common.{◌≡◌, ◌<◌, ◌≤◌, ℕ, zero, suc, true, false, List, [], ◌∷◌, ◌++◌, length, Some, None, get_or, refl, sym, ap, ◌∙◌, inl, inr, arith}
-use Rattle.std.specs.Prelude.{slice_set, position, nat_lt}
-use Rattle.std.specs.List.{position_or_len}
-use Rattle.std.proofs.lemmas.Bool.{cases_Bool, ltb-false}
+use Rattle.tmw_plain_check.proofs.Shared.{Event, List, None, Some, Transaction, [], add_event, ap, arith, cases_Bool, false, get_or, inl, inr, joins, length, ltb-false, nat_lt, position, position_or_len, refl, slice_set, suc, sym, true, txn_of, txns_of, zero, ℕ, ◌++◌, ◌<◌, ◌∙◌, ◌∷◌, ◌≡◌, ◌≤◌}
 use Rattle.std.proofs.lemmas.List.Sums.{fails_before_first}
 use Rattle.std.proofs.lemmas.List.Quantifiers.{position-Some}
-use Rattle.tmw_events.specs.declared.event.Event.{Event}
-use Rattle.tmw_defs.specs.History.{add_event}
-use Rattle.tmw_plain_check.specs.declared.transaction.Transaction.{Transaction}
-use Rattle.tmw_plain_check.specs.TransactionViews.{txn_of, txns_of, joins}
 
 add_event_here : (place : ℕ) (e : Event) (t : Transaction) (ts : List Transaction) → joins e.thread.number t ≡ true
     → add_event place e (txns_of (t ∷ ts)) ≡ record (txn_of t) { last = place; text = t.text.items ++ e.kind ∷ [] } ∷ txns_of ts

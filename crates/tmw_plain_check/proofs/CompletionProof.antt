@@ -1,11 +1,5 @@
 -- The search through completions is sound and complete: it answers true exactly where the transactions have a strict order.
-use Rattle.std.proofs.Common.{◌≡◌, ◌&&◌, true, false, List, [], ◌∷◌, ◌++◌, IsTrue, refl, sym, ap, ◌∙◌, inl, inr, append_assoc, append-nil}
-use Rattle.std.proofs.lemmas.Bool.{and_parts, and_from, or_cases, or_left, or_right}
-use Rattle.tmw_defs.specs.History.{Txn, status_of}
-use Rattle.tmw_defs.specs.Opaque.{State, may_hold, HasOrder}
-use Rattle.tmw_defs.specs.Strict.{AreHeld, HasStrictOrder}
-use Rattle.tmw_defs.proofs.DecisionProof.{is_explained-sound, is_explained-complete}
-use Rattle.tmw_plain_check.specs.Completions.{goes_with, has_completion}
+use Rattle.tmw_plain_check.proofs.Shared.{AreHeld, HasOrder, HasStrictOrder, IsTrue, List, State, Txn, [], and_from, and_parts, ap, append-nil, append_assoc, false, goes_with, has_completion, inl, inr, is_explained-complete, is_explained-sound, may_hold, or_cases, or_left, or_right, refl, status_of, sym, true, ◌&&◌, ◌++◌, ◌∙◌, ◌∷◌, ◌≡◌}
 use Rattle.tmw_plain_check.proofs.StrictOrders.{strict-held}
 
 -- what is held behind members has, with them, a legal serial order

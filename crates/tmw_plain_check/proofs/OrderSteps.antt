@@ -1,18 +1,7 @@
 -- The steps of the search for a serial order, as the code makes them.
-use Rattle.std.proofs.Common.{◌≡◌, ◌==◌, ◌&&◌, ◌||◌, ◌-◌, ◌+◌, ◌<◌, ℕ, suc, Bool, true, false, List, [], ◌∷◌, length, Some, Result, IfOk, Bor, IsTrue, refl, sym, ap, ◌∙◌, arith, take, drop}
-use Rattle.std.specs.Prelude.{remove, slice_get}
+use Rattle.tmw_plain_check.proofs.Shared.{Bool, Bor, IfOk, IfOk-weaker, IsTrue, List, Result, Some, State, Transaction, Txn, [], after_writes, ap, arith, drop, drop-map, false, found_below, has_order, is_explained, is_free, length, map-append, may_come, may_hold, ne_eqb, one_below, operations, reads_hold, refl, remove, shown, slice_get, slice_get-map, slice_get_within, status_of, suc, sym, take, take-map, true, txn_of, ℕ, ◌&&◌, ◌+◌, ◌-◌, ◌<◌, ◌==◌, ◌||◌, ◌∙◌, ◌∷◌, ◌≡◌}
 use Rattle.std.specs.Option.{option_map}
-use Rattle.std.proofs.lemmas.Bool.{ne_eqb}
-use Rattle.std.proofs.lemmas.List.{map-append, take-map, drop-map}
 use Rattle.std.proofs.lemmas.List.Edits.{length-remove}
-use Rattle.std.proofs.lemmas.Option.{slice_get-map, slice_get_within}
-use Rattle.std.proofs.lemmas.Result.{IfOk-weaker}
-use Rattle.tmw_defs.specs.History.{Txn, operations, status_of}
-use Rattle.tmw_defs.specs.Opaque.{State, may_hold, reads_hold, after_writes}
-use Rattle.tmw_defs.specs.Decision.{is_free, may_come, one_below, has_order, is_explained}
-use Rattle.tmw_defs.proofs.DecisionProof.{found_below}
-use Rattle.tmw_plain_check.specs.declared.transaction.Transaction.{Transaction}
-use Rattle.tmw_plain_check.specs.TransactionViews.{txn_of, shown}
 
 pub shown-remove : (ws : List (Bor Transaction)) (i : ℕ) → shown (remove ws i) ≡ remove (shown ws) i
 shown-remove ws i =

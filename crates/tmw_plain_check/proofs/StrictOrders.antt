@@ -1,11 +1,5 @@
 -- Transactions that have a legal serial order have one of what a completion of them holds: those that it leaves out change nothing.
-use Rattle.std.proofs.Common.{◌≡◌, ℕ, zero, suc, true, false, List, [], ◌∷◌, Some, IsTrue, refl, sym, ap, subst, ◌∙◌, inl, inr}
-use Rattle.std.specs.Prelude.{not, remove, slice_get}
-use Rattle.std.specs.List.{list_all}
-use Rattle.std.proofs.lemmas.Bool.{and_parts, and_from, cases_Bool}
-use Rattle.tmw_defs.specs.History.{Txn, status_of}
-use Rattle.tmw_defs.specs.Opaque.{State, Placed, precedes, may_hold, after, Explains, HasOrder}
-use Rattle.tmw_defs.specs.Strict.{AreHeld, HasStrictOrder}
+use Rattle.tmw_plain_check.proofs.Shared.{AreHeld, Explains, HasOrder, HasStrictOrder, IsTrue, List, Placed, Some, State, Txn, [], after, and_from, and_parts, ap, cases_Bool, false, inl, inr, list_all, may_hold, not, precedes, refl, remove, slice_get, status_of, subst, suc, sym, true, zero, ℕ, ◌∙◌, ◌∷◌, ◌≡◌}
 use Rattle.tmw_defs.proofs.Held.{list_all-held}
 use Rattle.tmw_defs.proofs.Removals.{list_all-places}
 

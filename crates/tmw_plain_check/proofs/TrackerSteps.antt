@@ -1,13 +1,8 @@
 -- One event of a list more, for a tracker.
-use Rattle.std.proofs.Common.{◌≡◌, ◌+◌, ◌++◌, ◌<◌, ℕ, true, false, List, [], ◌∷◌, length, take, Result, Ok, Err, IfOk, IfErr, get_or, sym, ap, subst, ◌∙◌}
-use Rattle.std.specs.Prelude.{IsFalse, is_err}
-use Rattle.std.proofs.lemmas.List.{take_more}
-use Rattle.tmw_events.specs.declared.event.Event.{Event}
-use Rattle.tmw_defs.specs.History.{is_well_formed}
+use Rattle.tmw_plain_check.proofs.Shared.{Err, Event, IfErr, IfOk, IsFalse, List, Ok, Result, Tracks, [], ap, false, get_or, is_err, is_well_formed, length, subst, sym, take, take_more, true, ℕ, ◌++◌, ◌+◌, ◌<◌, ◌∙◌, ◌∷◌, ◌≡◌}
 use Rattle.tmw_wellformed.specs.declared.malformed.Malformed.{Malformed}
 use Rattle.tmw_wellformed.specs.declared.tracker.Tracker.{Tracker}
 use Rattle.tmw_wellformed.specs.Faults.{Refuses}
-use Rattle.tmw_wellformed.specs.Tracks.{Tracks}
 
 take-next : (events : List Event) (place : ℕ) (event : Event) → place < length events → event ≡ get_or events place event
     → take place events ++ event ∷ [] ≡ take (place + 1) events

@@ -1,22 +1,9 @@
 -- From what is found of one prefix to the answer for the history.
-use Rattle.std.proofs.Common.{◌≡◌, ◌+◌, ◌<◌, ◌≤◌, ℕ, Bool, true, false, List, [], length, take, Ok, Err, IsTrue, refl, sym, ap, subst, ◌∙◌, inl, inr, arith}
-use Rattle.std.specs.Prelude.{IsFalse}
-use Rattle.std.proofs.lemmas.Bool.{both_ways, cases_lt}
-use Rattle.std.proofs.lemmas.List.{length-map, length-take}
-use Rattle.tmw_events.specs.declared.event.Event.{Event}
-use Rattle.tmw_defs.specs.declared.criterion.Criterion.{Criterion}
+use Rattle.tmw_plain_check.proofs.Shared.{Bool, Criterion, Err, Event, HasNinth, HasOrderBy, IsFalse, IsFaultless, IsFirstAtFault, IsNotFinal, IsTrue, JudgesBy, List, Ok, State, Transaction, Txn, Weighs, [], ap, arith, both_ways, cases_lt, false, has_completion, inl, inr, is_explained, is_explained-complete, is_explained-sound, is_well_formed, length, length-map, length-take, refl, subst, sym, take, transactions, true, txns_of, ℕ, ◌+◌, ◌<◌, ◌∙◌, ◌≡◌, ◌≤◌}
 use Rattle.tmw_defs.specs.declared.criterion.Criterion.TheVariants.{Opacity, Strict}
 use Rattle.tmw_defs.specs.Criteria.{IsFinalBy}
-use Rattle.tmw_defs.specs.Decision.{is_explained}
-use Rattle.tmw_defs.specs.History.{Txn, transactions, is_well_formed}
-use Rattle.tmw_defs.specs.Opaque.{State}
-use Rattle.tmw_defs.proofs.DecisionProof.{is_explained-sound, is_explained-complete}
-use Rattle.tmw_plain_check.specs.declared.transaction.Transaction.{Transaction}
 use Rattle.tmw_plain_check.specs.declared.whole.WholeFault.{WholeFault}
 use Rattle.tmw_plain_check.specs.declared.whole.WholeFault.TheVariants.{IllFormed, Ninth, Memory}
-use Rattle.tmw_plain_check.specs.Completions.{has_completion}
-use Rattle.tmw_plain_check.specs.TransactionViews.{txns_of}
-use Rattle.tmw_plain_check.specs.Verdict.{IsFaultless, HasNinth, IsNotFinal, IsFirstAtFault, JudgesBy, HasOrderBy, Weighs}
 use Rattle.tmw_plain_check.proofs.CompletionProof.{has_completion-sound, has_completion-complete}
 
 -- what a history is asked by a criterion: to be well-formed, and that its transactions have an order

@@ -1,23 +1,9 @@
 -- What was counted of a judged front before and after one event more is judged.
-use Rattle.std.proofs.Common.{◌≡◌, ◌++◌, ℕ, true, false, List, [], ◌∷◌, IsTrue, IsFalse, refl, sym, ap, subst, ◌∙◌, inl, inr}
-use Rattle.std.proofs.Math.Logic.{∥∥₁_map}
-use Rattle.std.proofs.lemmas.Bool.{both_ways, cases_Bool}
+use Rattle.tmw_pump.proofs.Shared.{Criterion, Event, Fits, IsFalse, IsOpen, IsTrue, IsVerdict, List, Malformed, Monitor, OpaqueSoFar, Rules, StrictSoFar, Undecided, Verdict, Violated, WasCounted, [], ap, both_ways, cases_Bool, criterion_of, false, inl, inr, is_open, part_by, refl, so_far, subst, sym, true, verdict-one, verdict_of, ℕ, ∥∥₁_map, ◌++◌, ◌∙◌, ◌∷◌, ◌≡◌}
 use Rattle.tmw_counts.specs.Counting.{CountsSo}
-use Rattle.tmw_counts.specs.Parts.{is_open, part_by}
 use Rattle.tmw_counts.specs.declared.counter.Counter.{Counter}
 use Rattle.tmw_counts.proofs.Covered.{counted-more, part-none, stays}
-use Rattle.tmw_defs.proofs.VerdictProof.{verdict-one}
-use Rattle.tmw_defs.specs.Criteria.{so_far}
 use Rattle.tmw_defs.specs.History.{is_well_formed}
-use Rattle.tmw_defs.specs.Verdict.{IsVerdict, Rules}
-use Rattle.tmw_defs.specs.declared.criterion.Criterion.{Criterion}
-use Rattle.tmw_defs.specs.declared.verdict.Verdict.{Verdict}
-use Rattle.tmw_defs.specs.declared.verdict.Verdict.TheVariants.{OpaqueSoFar, StrictSoFar, Violated, Undecided, Malformed}
-use Rattle.tmw_events.specs.declared.event.Event.{Event}
-use Rattle.tmw_monitor.specs.Fitting.{Fits}
-use Rattle.tmw_monitor.specs.Monitor.{IsOpen, criterion_of, verdict_of}
-use Rattle.tmw_monitor.specs.declared.monitor.Monitor.{Monitor}
-use Rattle.tmw_pump.specs.Held.{WasCounted}
 
 -- a verdict that nothing is wrong is the criterion's
 is_so_far : (rules : Rules) (h : List Event) (c : Criterion) (v : Verdict) → c ≡ rules.criterion → is_open v ≡ true → IsVerdict rules h v

@@ -1,13 +1,7 @@
 -- What a monitor was fed before and after it is fed the held event.
-use Rattle.std.proofs.Common.{◌≡◌, ◌+◌, ◌<◌, ◌≤◌, ◌^◌, List, length, Option, Some, subst, arith}
+use Rattle.tmw_pump.proofs.Shared.{Event, Fits, List, Monitor, Option, Rules, Some, WasFed, arith, length, listed, subst, ∥∥₁_elim, ∥∥₁_map, ◌+◌, ◌<◌, ◌^◌, ◌≡◌, ◌≤◌}
 use Rattle.std.proofs.Math.Bridge.{le_prop}
 use Rattle.std.proofs.Math.Nat.{ℕ_set}
-use Rattle.std.proofs.Math.Logic.{∥∥₁_elim, ∥∥₁_map}
-use Rattle.tmw_events.specs.declared.event.Event.{Event}
-use Rattle.tmw_defs.specs.Verdict.{Rules}
-use Rattle.tmw_monitor.specs.Fitting.{Fits}
-use Rattle.tmw_monitor.specs.declared.monitor.Monitor.{Monitor}
-use Rattle.tmw_pump.specs.Held.{listed, WasFed}
 
 -- A held event leaves room for one more to be judged.
 pub few-held : (judged : List Event) (held : Option Event) (event : Event) → held ≡ Some event

@@ -1,16 +1,5 @@
 -- The headline, from the monitor's fit to the judged front.
-use Rattle.std.proofs.Common.{◌≡◌, ◌++◌, List, refl, sym, ◌∙◌, subst, append_assoc}
-use Rattle.tmw_events.specs.declared.event.Event.{Event}
-use Rattle.tmw_defs.specs.Verdict.{Rules, IsVerdict}
-use Rattle.tmw_defs.specs.declared.criterion.Criterion.TheVariants.{Opacity}
-use Rattle.tmw_defs.specs.declared.verdict.Verdict.{Verdict}
-use Rattle.tmw_defs.specs.declared.verdict.Verdict.TheVariants.{OpaqueSoFar, Violated, Undecided, Malformed}
-use Rattle.tmw_defs.specs.declared.verdict.Why.TheVariants.{Transactions, States}
-use Rattle.tmw_ring.specs.Ends.{WriterIs}
-use Rattle.tmw_pump.specs.Fronts.{KeepsFit, came}
-use Rattle.tmw_pump.specs.Held.{listed}
-use Rattle.tmw_pump.specs.declared.front.Front.{Front}
-use Rattle.tmw_pump.specs.Headline.{IsLogOf, Headline, GivesHeadline}
+use Rattle.tmw_pump.proofs.Shared.{Event, Front, GivesHeadline, Headline, IsLogOf, IsVerdict, KeepsFit, List, Malformed, Opacity, OpaqueSoFar, Rules, States, Transactions, Undecided, Verdict, Violated, WriterIs, append_assoc, came, listed, refl, subst, sym, ◌++◌, ◌∙◌, ◌≡◌}
 use Rattle.tmw_pump.proofs.Verdicts.{opaque-fine, fine-opaque, violation-first, first-violation, verdict-is}
 
 -- A log that begins with what came begins with what was judged of it.

@@ -1,19 +1,9 @@
 -- What is kept of the judged front, from one event to the next.
-use Rattle.std.proofs.Common.{◌≡◌, List, [], Option, sym, subst}
-use Rattle.std.proofs.Math.Logic.{∥∥₁_elim, ∥∥₁_map}
+use Rattle.tmw_pump.proofs.Shared.{Event, Fits, Front, HasCome, IsKept, IsVerdict, KeepsFit, List, Monitor, Option, Rules, StaysKept, Verdict, WasKept, [], subst, sym, verdict-one, ∥∥₁_elim, ∥∥₁_map, ◌≡◌}
 use Rattle.std.specs.Global.{Vec}
 use Rattle.std.specs.Coded.{Coded-set, coded_list}
-use Rattle.tmw_defs.proofs.VerdictProof.{verdict-one}
-use Rattle.tmw_defs.specs.Verdict.{Rules, IsVerdict}
-use Rattle.tmw_defs.specs.declared.verdict.Verdict.{Verdict}
-use Rattle.tmw_events.specs.contracts.event.Event as event
-use Rattle.tmw_events.specs.declared.event.Event.{Event}
-use Rattle.tmw_monitor.specs.Fitting.{Fits}
-use Rattle.tmw_monitor.specs.declared.monitor.Monitor.{Monitor}
 use Rattle.tmw_pump.proofs.Turns.{fits-came}
-use Rattle.tmw_pump.specs.Fronts.{HasCome, KeepsFit}
-use Rattle.tmw_pump.specs.Keeping.{IsKept, StaysKept, WasKept}
-use Rattle.tmw_pump.specs.declared.front.Front.{Front}
+use Rattle.tmw_events.specs.contracts.event.Event as event
 
 -- Where the log is kept, it is what was judged.
 pub all_kept : (front : Front) (log : Vec Event) → ∥ WasKept (λ rules history verdict (kept : Vec Event). kept.items ≡ history) front log ∥₁

@@ -1,11 +1,8 @@
 -- The kinds of the events for which places were claimed: of one list of places behind another, and of a writer's places in a log.
-use Rattle.std.proofs.Common.{◌≡◌, ◌==◌, ◌+◌, ◌++◌, ℕ, List, [], ◌∷◌, inl, inr, refl, ap}
-use Rattle.std.proofs.lemmas.Bool.{cases_Bool}
+use Rattle.tmw_pump.proofs.Shared.{Event, List, [], ap, cases_Bool, inl, inr, made_from, refl, ℕ, ◌++◌, ◌+◌, ◌==◌, ◌∷◌, ◌≡◌}
 use Rattle.tmw_defs.specs.Texts.{kinds_of}
-use Rattle.tmw_events.specs.declared.event.Event.{Event}
 use Rattle.tmw_events.specs.declared.event.Kind.{Kind}
 use Rattle.tmw_pump.specs.Kinds.{kinds_made}
-use Rattle.tmw_ring.specs.Parts.{made_from}
 use Rattle.tmw_ring.specs.declared.part.Made.{Made}
 
 pub kinds_made-append : (old fresh : List Made) → kinds_made (old ++ fresh) ≡ kinds_made old ++ kinds_made fresh

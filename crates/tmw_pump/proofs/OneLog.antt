@@ -1,11 +1,6 @@
 -- The one log of a settled ring.
-use Rattle.std.proofs.Common.{◌≡◌, ◌++◌, List, [], sym, ap, ◌∙◌}
-use Rattle.std.proofs.lemmas.List.{append-nil}
-use Rattle.tmw_events.specs.declared.event.Event.{Event}
-use Rattle.tmw_ring.specs.Ends.{WriterIs, ReaderIs}
-use Rattle.tmw_ring.specs.Parts.{made_from}
+use Rattle.tmw_pump.proofs.Shared.{Event, IsLogOf, List, ReaderIs, WriterIs, [], ap, append-nil, made_from, sym, ◌++◌, ◌∙◌, ◌≡◌}
 use Rattle.tmw_ring.specs.Settling.{AreInOrder, IsSettled}
-use Rattle.tmw_pump.specs.Headline.{IsLogOf}
 
 pub log-settled : (reader : ReaderIs) (writers : List WriterIs) (left all : List Event) → IsSettled reader writers left
     → AreInOrder writers → all ≡ reader.taken ++ left → IsLogOf all writers all

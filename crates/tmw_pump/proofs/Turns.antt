@@ -1,16 +1,6 @@
 -- What a call has done, turn by turn: each turn judges one event more.
-use Rattle.std.proofs.Common.{◌≡◌, ◌+◌, ◌++◌, ◌<◌, ◌≤◌, ◌^◌, ℕ, List, [], ◌∷◌, length, Option, Some, None, refl, sym, ap, ◌∙◌, subst, append_assoc, arith}
-use Rattle.std.proofs.lemmas.List.{append-nil, length-append, length_push}
-use Rattle.tmw_events.specs.declared.event.Event.{Event}
-use Rattle.tmw_monitor.specs.Fitting.{Fits}
-use Rattle.tmw_monitor.specs.declared.monitor.Monitor.{Monitor}
-use Rattle.tmw_ring.specs.Ends.{ReaderIs}
-use Rattle.tmw_pump.specs.Fronts.{came, HasCome, KeepsFit, HasJudged}
-use Rattle.tmw_pump.specs.Held.{listed}
-use Rattle.tmw_pump.specs.Pumping.{PumpIs, HasTakenAll, HasPumped}
+use Rattle.tmw_pump.proofs.Shared.{Event, Fits, Front, HasCome, HasJudged, HasPumped, HasRested, HasTakenAll, IsRested, KeepsFit, List, Monitor, None, Option, PumpIs, ReaderIs, RestIs, Some, [], all_of, ap, append-nil, append_assoc, arith, came, length, length-append, length_push, listed, refl, subst, sym, ℕ, ◌++◌, ◌+◌, ◌<◌, ◌^◌, ◌∙◌, ◌∷◌, ◌≡◌, ◌≤◌}
 use Rattle.tmw_pump.specs.declared.pumped.Pumped.{Pumped}
-use Rattle.tmw_pump.specs.declared.front.Front.{Front}
-use Rattle.tmw_pump.specs.Resting.{RestIs, all_of, HasRested, IsRested}
 
 pub taken-append : (one two three : ReaderIs) (first second : List Event) → HasTakenAll one first two → HasTakenAll two second three
     → HasTakenAll one (first ++ second) three

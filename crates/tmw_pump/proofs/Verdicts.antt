@@ -1,19 +1,8 @@
 -- What each verdict says of a history in the field's words, from the definition of the verdict.
-use Rattle.std.proofs.Common.{◌≡◌, ◌↔◌, ℕ, List, length, sym, subst, inl, inr, arith}
+use Rattle.tmw_pump.proofs.Shared.{Criterion, Event, HasMany, IsFinalBy, IsFirst, IsFirstViolation, IsTooMany, IsVerdict, IsViolated, IsWithinBounds, List, Opacity, OpaqueSoFar, Rules, States, Undecided, Verdict, Violated, arith, cases_lt, inl, inr, length, subst, sym, verdict-one, ℕ, ◌↔◌, ◌≡◌}
 use Rattle.std.specs.Prelude.{take}
-use Rattle.std.proofs.lemmas.Bool.{cases_lt}
-use Rattle.tmw_events.specs.declared.event.Event.{Event}
-use Rattle.tmw_defs.proofs.VerdictProof.{verdict-one}
-use Rattle.tmw_defs.specs.Criteria.{IsFinalBy}
 use Rattle.tmw_defs.specs.Opaque.{IsFinalOpaque, IsOpaque}
-use Rattle.tmw_defs.specs.Verdict.{Rules, HasMany, IsTooMany, IsViolated, IsFirst, IsVerdict}
 use Rattle.tmw_defs.specs.Windows.{HasWide}
-use Rattle.tmw_defs.specs.declared.criterion.Criterion.{Criterion}
-use Rattle.tmw_defs.specs.declared.criterion.Criterion.TheVariants.{Opacity}
-use Rattle.tmw_defs.specs.declared.verdict.Verdict.{Verdict}
-use Rattle.tmw_defs.specs.declared.verdict.Verdict.TheVariants.{OpaqueSoFar, Violated, Undecided}
-use Rattle.tmw_defs.specs.declared.verdict.Why.TheVariants.{States}
-use Rattle.tmw_pump.specs.Headline.{IsWithinBounds, IsFirstViolation}
 
 -- Where the criterion is opacity, final-state opacity is what is asked of a prefix.
 final-opaque : (rules : Rules) (h : List Event) → rules.criterion ≡ Opacity → IsFinalBy rules.criterion rules.registers rules.start h

@@ -1,7 +1,6 @@
 -- What is told of a line that has a fault, by what a reader of a trace holds of it, is what is told of the line with its number.
-use Rattle.std.proofs.Common.{◌≡◌, ◌∙◌, ℕ, ◌+◌, List, ◌++◌, Some, Ok, Err, Result, length, take, nat_lt, inl, inr, refl, sym, ap, length-take, arith}
+use Rattle.tmw_report.proofs.Shared.{Err, IsSent, List, Ok, Puts, QuotesLine, Result, Some, ap, arith, fault_of, inl, inr, length, length-take, nat_lt, number_of, quoted, refl, sym, take, take-take, trace_grammar, trace_text, version_digit, version_in, wrong_of, ℕ, ◌++◌, ◌+◌, ◌∙◌, ◌≡◌}
 use Rattle.std.proofs.lemmas.Bool.Decides.{nat_tests}
-use Rattle.std.proofs.lemmas.List.{take-take}
 use Rattle.tmw_lines.specs.ItemsRead.{AreReadFor, FailsHolding}
 use Rattle.tmw_lines.specs.Lines.{format_by, unread_bytes}
 use Rattle.tmw_lines.specs.Text.{HoldsFront, front_of, line_at}
@@ -11,14 +10,10 @@ use Rattle.tmw_lines.specs.declared.text_fault.TextFault.{TextFault}
 use Rattle.tmw_lines.specs.declared.text_fault.TextFault.TheVariants.{BadHeader, BadLine, Cut, Memory, Io, TooLong}
 use Rattle.tmw_lines.proofs.Fronts.{line-behind}
 use Rattle.tmw_streams.specs.Streams.{ToSink}
-use Rattle.tmw_streams.specs.Told.{Puts}
 use Rattle.tmw_events.specs.declared.event.Event.{Event}
-use Rattle.tmw_trace.specs.Text.{trace_grammar, trace_text, version_digit}
 use Rattle.tmw_trace.specs.TextNames.{trace_naming}
 use Rattle.tmw_trace.specs.declared.header.Header.{Header}
 use Rattle.tmw_trace.specs.declared.version.Version.{Version}
-use Rattle.tmw_report.specs.Putting.{IsSent, fault_of}
-use Rattle.tmw_report.specs.Quote.{number_of, quoted, version_in, wrong_of, QuotesLine}
 use Rattle.tmw_report.specs.Quoting.{QuotesHeld}
 use Rattle.tmw_report.specs.declared.fault.Fault.{Fault}
 

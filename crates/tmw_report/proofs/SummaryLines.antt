@@ -1,5 +1,5 @@
 -- The compact text of the object of the counts, and a line feed after it, are their line.
-use Rattle.std.proofs.Common.{◌≡◌, ◌++◌, ℕ, List, [], ◌∷◌, append_assoc, refl, false, ap, ◌∙◌}
+use Rattle.tmw_report.proofs.Shared.{List, [], ap, append_assoc, false, refl, ℕ, ◌++◌, ◌∙◌, ◌∷◌, ◌≡◌}
 use Rattle.serde_json.specs.Data.{Data}
 use Rattle.serde_json.specs.Written.{compact_text, has_float}
 use Rattle.serde_json.proofs.OnLiterals.{serde_json_on_literals}

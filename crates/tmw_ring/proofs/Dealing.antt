@@ -1,18 +1,6 @@
 -- The parts of a new ring are dealt to its writers, one after another.
-use Rattle.std.proofs.Common.{◌≡◌, ◌⊎◌, ◌+◌, ◌-◌, ◌<◌, ℕ, zero, suc, List, [], ◌∷◌, ◌++◌, length, get_or, refl, sym, ap, ◌∙◌, subst, inl, inr, arith}
-use Rattle.std.proofs.lemmas.List.Elements.{All-push}
-use Rattle.atomic_table.specs.Seated.{TableId}
-use Rattle.atomic_table.specs.Table.{Me}
+use Rattle.tmw_ring.proofs.Shared.{All-push, AreNewWriters, IsIdleWriter, IsNewWriter, IsWriter, Ix, List, Me, Parts, Reads, RingIs, RingSize, TableId, WriterIs, WriterOf, WriterPart, Writes, [], ap, arith, get_or, inl, inr, ix_of, length, new_reader, new_writer, new_writers, refl, second_alone, subst, suc, sym, without_second, writer_in, writer_is, zero, ℕ, ◌++◌, ◌+◌, ◌-◌, ◌<◌, ◌∙◌, ◌∷◌, ◌≡◌, ◌⊎◌}
 use Rattle.tmw_events.proofs.Same.{same_ix}
-use Rattle.tmw_events.specs.Unpacking.{ix_of}
-use Rattle.tmw_events.specs.declared.ix.Ix.{Ix}
-use Rattle.tmw_ring_defs.specs.declared.ring_size.RingSize.{RingSize}
-use Rattle.tmw_ring.specs.Ends.{RingIs, WriterIs, WriterOf}
-use Rattle.tmw_ring.specs.NewRing.{IsNewWriter, AreNewWriters}
-use Rattle.tmw_ring.specs.Parts.{Parts, new_writer, new_writers, new_reader}
-use Rattle.tmw_ring.specs.Seats.{second_alone, without_second, writer_in, writer_is, IsWriter, IsIdleWriter}
-use Rattle.tmw_ring.specs.declared.part.Part.TheVariants.{Writes, Reads}
-use Rattle.tmw_ring.specs.declared.part.WriterPart.{WriterPart}
 
 -- the parts that are left when the writers below this number have theirs
 abbrev pub left_parts : RingSize → ℕ → Parts

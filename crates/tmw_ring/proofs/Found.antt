@@ -1,22 +1,5 @@
 -- A seat with any parts may load tail, and what its parts know is of one run and its log.
-use Rattle.std.proofs.Common.{◌≡◌, ◌++◌, ℕ, zero, suc, List, [], ◌∷◌, map, set, drop, slice_index, append-nil, refl, sym, ap, ◌∙◌, subst, arith}
-use Rattle.std.proofs.lemmas.List.{take-append-drop}
-use mathlib.Core.Option.{none, some, some-injective, some-ne-none}
-use lib.ListN.{get_elem?}
-use Rattle.atomic_table.proofs.Lists.{at_map}
-use Rattle.atomic_table.specs.Table.{Me, Allows, keeps, step}
-use Rattle.tmw_events.specs.declared.event.Event.{Event}
-use Rattle.tmw_ring_defs.specs.Ring.{Core, new_core}
-use Rattle.tmw_ring_defs.specs.RingSound.{Sound}
-use Rattle.tmw_ring_defs.specs.Runs.{IsRunTo, Runs}
-use Rattle.tmw_ring_defs.specs.declared.ring_size.RingSize.{RingSize}
-use Rattle.tmw_ring_defs.specs.declared.ring_step.Answered.{Answered}
-use Rattle.tmw_ring.specs.Meeting.{with_tail, IsOfLog, HasFoundTail}
-use Rattle.tmw_ring.specs.Parts.{Parts, key, run_of, size_of}
-use Rattle.tmw_ring.specs.Rule.{PartFits, Shown}
-use Rattle.tmw_ring.specs.Words.{words_of, tail_word}
-use Rattle.tmw_ring.specs.declared.part.Part.{Part}
-use Rattle.tmw_ring.specs.declared.part.Part.TheVariants.{Writes, Reads}
+use Rattle.tmw_ring.proofs.Shared.{Allows, Answered, Core, Event, HasFoundTail, IsOfLog, IsRunTo, List, Me, Part, PartFits, Parts, Reads, RingSize, Runs, Shown, Sound, Writes, [], ap, append-nil, arith, at_map, drop, get_elem?, keeps, key, map, new_core, none, refl, run_of, set, size_of, slice_index, some, some-injective, some-ne-none, step, subst, suc, sym, tail_word, take-append-drop, with_tail, words_of, zero, ℕ, ◌++◌, ◌∙◌, ◌∷◌, ◌≡◌}
 use Rattle.tmw_ring.proofs.Moves.{Follows, Remains, knows_all, moves_each}
 
 -- What stands in a mapped list is the image of what stood there.

@@ -1,8 +1,6 @@
 -- Items one behind another, as writers that go to threads or become recorders, and what holds of each at its place.
-use Rattle.std.proofs.Common.{◌≡◌, ◌<◌, ◌++◌, ℕ, zero, suc, List, [], ◌∷◌, length, get_or, sym, ap, ◌∙◌, subst, arith}
+use Rattle.tmw_ring.proofs.Shared.{AreNewWriters, IsNewWriter, List, RingIs, WriterIs, WriterOf, [], ap, arith, get_or, length, subst, suc, sym, zero, ℕ, ◌++◌, ◌<◌, ◌∙◌, ◌∷◌, ◌≡◌}
 use Rattle.std.proofs.Math.Seq.{get_or-append_seam}
-use Rattle.tmw_ring.specs.Ends.{RingIs, WriterIs, WriterOf}
-use Rattle.tmw_ring.specs.NewRing.{IsNewWriter, AreNewWriters}
 
 -- What holds of each item at its place still does when one more is put behind them.
 pub one_more : {A : Type 0} (P : ℕ → A → Type 0) (items : List A) (item : A)

@@ -1,13 +1,5 @@
 -- A seat may take in the parts of another.
-use Rattle.std.proofs.Common.{◌≡◌, ◌≢◌, ◌⊎◌, ◌+◌, ℕ, zero, suc, List, [], ◌∷◌, ◌++◌, length, set, sym, ap, ◌∙◌, subst, inl, inr, arith}
-use mathlib.Core.Option.{some, some-ne-none}
-use lib.ListN.{get_elem?}
-use native.Mathlib.Decide.{ℕ_discrete}
-use Rattle.atomic_table.proofs.Lists.{at_longer, at_set, set_else}
-use Rattle.atomic_table.specs.Table.{State, Joins}
-use Rattle.tmw_ring_defs.specs.declared.ring_size.RingSize.{RingSize}
-use Rattle.tmw_ring.specs.Parts.{Parts}
-use Rattle.tmw_ring.specs.Rule.{Lies, Shown}
+use Rattle.tmw_ring.proofs.Shared.{Joins, Lies, List, Parts, RingSize, Shown, State, [], ap, arith, at_longer, at_set, get_elem?, inl, inr, length, set, set_else, some, some-ne-none, subst, suc, sym, zero, ℕ, ℕ_discrete, ◌++◌, ◌+◌, ◌∙◌, ◌∷◌, ◌≡◌, ◌≢◌, ◌⊎◌}
 use Rattle.tmw_ring.proofs.Moves.{Rearranged, Stays, lies_among, rearrange, set_over}
 use Rattle.tmw_ring.proofs.Seats.{from_seat, from_this, from_other}
 

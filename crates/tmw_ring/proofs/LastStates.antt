@@ -1,24 +1,5 @@
 -- What the last state of a ring's table tells, when all its ends are in one seat: every place that nobody took is published.
-use Rattle.std.proofs.Common.{◌≡◌, ◌≤◌, ◌<◌, ℕ, zero, suc, List, [], ◌∷◌, ◌++◌, length, get_or, map, Some, refl, sym, ap, ◌∙◌, subst, inl, inr, arith}
-use Rattle.std.proofs.lemmas.Option.{slice_get_within}
-use Rattle.std.specs.Prelude.{slice_get}
-use mathlib.Core.Option.{some}
-use lib.ListN.{get_elem?}
-use Rattle.atomic_table.specs.Table.{Me, Final, Seen}
-use Rattle.tmw_ring_defs.specs.Ring.{Core, new_core}
-use Rattle.tmw_ring_defs.specs.RingSound.{Sound, IsHeld, IsPublished}
-use Rattle.tmw_ring_defs.specs.declared.ring_phase.WriterPhase.TheVariants.{Idle, Claimed}
-use Rattle.tmw_ring_defs.specs.Runs.{Runs}
-use Rattle.tmw_ring_defs.specs.declared.ring_size.RingSize.{RingSize}
-use Rattle.tmw_ring_defs.specs.declared.ring_step.Answered.{Answered}
-use Rattle.tmw_ring.specs.Ends.{WriterIs}
-use Rattle.tmw_ring.specs.Parts.{Parts}
-use Rattle.tmw_ring.specs.Rule.{PartFits, IsReal, Knows, Lies, ReaderFits, Shown}
-use Rattle.tmw_ring.specs.Seats.{reader_in, IsReader}
-use Rattle.tmw_ring.specs.Settling.{AreInOrder, part_of}
-use Rattle.tmw_ring.specs.Words.{words_of}
-use Rattle.tmw_ring.specs.declared.part.Part.TheVariants.{Reads}
-use Rattle.tmw_ring.specs.declared.part.ReaderPart.{ReaderPart}
+use Rattle.tmw_ring.proofs.Shared.{Answered, AreInOrder, Claimed, Core, Final, Idle, IsHeld, IsPublished, IsReader, IsReal, Knows, Lies, List, Me, PartFits, Parts, ReaderFits, ReaderPart, Reads, RingSize, Runs, Seen, Shown, Some, Sound, WriterIs, [], ap, arith, get_elem?, get_or, inl, inr, length, map, new_core, part_of, reader_in, refl, slice_get, slice_get_within, some, subst, suc, sym, words_of, zero, ℕ, ◌++◌, ◌<◌, ◌∙◌, ◌∷◌, ◌≡◌, ◌≤◌}
 
 -- The ring at its end, when its ends knew this.
 pub record Ended (size : RingSize) (reader : ReaderPart) (writers : List WriterIs) (words : List ℕ) : Type 0 where

@@ -1,22 +1,5 @@
 -- What the words of published places' cells tell: the log's events.
-use Rattle.std.proofs.Common.{◌≡◌, ◌+◌, ◌%◌, ◌≤◌, ◌<◌, ℕ, zero, suc, List, [], ◌∷◌, drop, Some, sym, ap, ◌∙◌, subst, arith}
-use Rattle.std.proofs.lemmas.List.{drop_all}
-use Rattle.std.proofs.lemmas.Option.{same_Some}
-use Rattle.std.specs.Prelude.{slice_get}
-use Rattle.tmw_events.proofs.PackedWords.{stamped-parts}
-use Rattle.tmw_events.proofs.Unpacks.{unpacked-pack, pack-words}
-use Rattle.tmw_events.specs.Packing.{packed_header, kind_value, pack, header_of}
-use Rattle.tmw_events.specs.Text.{FitsKind}
-use Rattle.tmw_events.specs.Unpacking.{unpacked}
-use Rattle.tmw_events.specs.declared.event.Event.{Event}
-use Rattle.tmw_ring_defs.specs.Ring.{Core}
-use Rattle.tmw_ring_defs.specs.RingCells.{empty_cell}
-use Rattle.tmw_ring_defs.specs.RingSound.{Sound, IsPublished}
-use Rattle.tmw_ring_defs.specs.RingSteps.{cell_at}
-use Rattle.tmw_ring_defs.proofs.RingStores.{has_cell}
-use Rattle.tmw_ring.specs.Rule.{IsReal}
-use Rattle.tmw_ring.specs.Settling.{HasEvent, header_at, value_at, event_at, events_from}
-use Rattle.tmw_ring.specs.Words.{words_of}
+use Rattle.tmw_ring.proofs.Shared.{Core, Event, FitsKind, HasEvent, IsPublished, IsReal, List, Some, Sound, [], ap, arith, cell_at, drop, drop_all, empty_cell, event_at, events_from, has_cell, header_at, header_of, kind_value, pack, pack-words, packed_header, same_Some, slice_get, stamped-parts, subst, suc, sym, unpacked, unpacked-pack, value_at, words_of, zero, ℕ, ◌%◌, ◌+◌, ◌<◌, ◌∙◌, ◌∷◌, ◌≡◌, ◌≤◌}
 use Rattle.tmw_ring.proofs.Words.{stamp_found, value_found}
 
 -- The words of a published place's cell are its event's.

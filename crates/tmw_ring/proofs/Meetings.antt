@@ -1,19 +1,6 @@
 -- What two seats with one part each know once they have met, and what a seat knows once it has found tail, as their writers and
 -- their reader see it.
-use Rattle.std.proofs.Common.{◌≡◌, ℕ, List, [], ◌∷◌, ◌++◌, length, refl, sym, ap, ◌∙◌, subst, arith}
-use Rattle.atomic_table.specs.Seated.{TableId}
-use Rattle.atomic_table.specs.Table.{Me, Step}
-use Rattle.tmw_events.specs.declared.event.Event.{Event}
-use Rattle.tmw_events.specs.declared.ix.Ix.{Ix}
-use Rattle.tmw_ring_defs.specs.declared.ring_step.Answered.{Answered}
-use Rattle.tmw_ring.specs.Ends.{WriterIs, ReaderIs}
-use Rattle.tmw_ring.specs.Meeting.{with_tail, IsOf, HasFoundTail, SeatsHaveMet, WriterMeets, ReaderMeets}
-use Rattle.tmw_ring.specs.Parts.{Parts}
-use Rattle.tmw_ring.specs.Seats.{second_alone, without_second, writer_in, reader_in, writer_is, reader_is, IsIdleWriter, IsWaitingReader}
-use Rattle.tmw_ring.specs.declared.part.Part.{Part}
-use Rattle.tmw_ring.specs.declared.part.Part.TheVariants.{Writes, Reads}
-use Rattle.tmw_ring.specs.declared.part.ReaderPart.{ReaderPart}
-use Rattle.tmw_ring.specs.declared.part.WriterPart.{WriterPart}
+use Rattle.tmw_ring.proofs.Shared.{Answered, Event, HasFoundTail, IsIdleWriter, IsOf, IsWaitingReader, Ix, List, Me, Part, Parts, ReaderIs, ReaderMeets, ReaderPart, Reads, SeatsHaveMet, Step, TableId, WriterIs, WriterMeets, WriterPart, Writes, [], ap, arith, length, reader_in, reader_is, refl, second_alone, subst, sym, with_tail, without_second, writer_in, writer_is, ℕ, ◌++◌, ◌∙◌, ◌∷◌, ◌≡◌}
 
 module _ {S : Type 0} where
   -- The seats' parts are put together, find tail, and are cut apart again.

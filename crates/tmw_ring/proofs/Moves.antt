@@ -1,22 +1,5 @@
 -- A step of one seat keeps the rule of a ring's table, and so does another arrangement of the parts.
-use Rattle.std.proofs.Common.{◌≡◌, ◌≢◌, ◌++◌, ◌≤◌, ℕ, zero, suc, List, [], ◌∷◌, set, Some, refl, sym, ap, ◌∙◌, subst, inl, inr}
-use mathlib.Core.Option.{some, some-injective, some-ne-none}
-use lib.ListN.{get_elem?}
-use native.Mathlib.Decide.{ℕ_discrete}
-use Rattle.atomic_table.proofs.Lists.{at_set, set_else}
-use Rattle.atomic_table.specs.Table.{State, keeps, stepped}
-use Rattle.tmw_ring_defs.specs.Ring.{Core}
-use Rattle.tmw_ring_defs.specs.RingSound.{Sound}
-use Rattle.tmw_ring_defs.specs.RingSteps.{core_step}
-use Rattle.tmw_ring_defs.specs.Runs.{actor_of, NoneOf, Runs}
-use Rattle.tmw_ring_defs.specs.declared.ring_size.RingSize.{RingSize}
-use Rattle.tmw_ring_defs.specs.declared.ring_step.Answered.{Answered}
-use Rattle.tmw_ring_defs.proofs.RunsProof.{runs-append, gone-none, gone-others, own-others}
-use Rattle.tmw_ring_defs.specs.Ring.{new_core}
-use Rattle.tmw_ring.specs.Parts.{Parts, key, run_of}
-use Rattle.tmw_ring.specs.Rule.{PartFits, IsReal, Knows, Lies, Shown}
-use Rattle.tmw_ring.specs.Words.{words_of}
-use Rattle.tmw_ring.specs.declared.part.Part.{Part}
+use Rattle.tmw_ring.proofs.Shared.{Answered, Core, IsReal, Knows, Lies, List, NoneOf, Part, PartFits, Parts, RingSize, Runs, Shown, Some, Sound, State, [], actor_of, ap, at_set, core_step, get_elem?, gone-none, gone-others, inl, inr, keeps, key, new_core, own-others, refl, run_of, runs-append, set, set_else, some, some-injective, some-ne-none, stepped, subst, suc, sym, words_of, zero, ℕ, ℕ_discrete, ◌++◌, ◌∙◌, ◌∷◌, ◌≡◌, ◌≢◌, ◌≤◌}
 
 -- Each new part is the same actor's, fits the new ring and knows this run.
 abbrev pub Follows : Core → List Answered → Parts → Parts → Type 0

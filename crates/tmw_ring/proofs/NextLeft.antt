@@ -1,15 +1,5 @@
 -- The next event that is left of a ring is the one whose words are read.
-use Rattle.std.proofs.Common.{◌≡◌, ◌≢◌, ◌+◌, ◌-◌, ◌≤◌, ℕ, suc, List, ◌∷◌, Option, Some, None, sym, ap, ◌∙◌, arith}
-use Rattle.std.specs.Prelude.{IfNone}
-use mathlib.Core.Option.{some}
-use lib.ListN.{get_elem?}
-use Rattle.tmw_events.proofs.Unpacks.{unpacked-pack}
-use Rattle.tmw_events.specs.Packing.{pack, stamp_of, header_of}
-use Rattle.tmw_events.specs.Text.{FitsKind}
-use Rattle.tmw_events.specs.Unpacking.{unpacked}
-use Rattle.tmw_events.specs.declared.event.Event.{Event}
-use Rattle.tmw_ring.specs.Settling.{HasEvent, header_at, value_at, event_at, events_from}
-use Rattle.tmw_ring.specs.Words.{stamp_word, value_word}
+use Rattle.tmw_ring.proofs.Shared.{Event, FitsKind, HasEvent, IfNone, List, None, Option, Some, ap, arith, event_at, events_from, get_elem?, header_at, header_of, pack, some, stamp_of, stamp_word, suc, sym, unpacked, unpacked-pack, value_at, value_word, ℕ, ◌+◌, ◌-◌, ◌∙◌, ◌∷◌, ◌≡◌, ◌≢◌, ◌≤◌}
 use Rattle.tmw_ring.proofs.Words.{word_read}
 
 -- The two words of the place's cell, the first of them split, were found.

@@ -1,20 +1,5 @@
 -- What a writer's steps, one after another, come to: an event is recorded at a place, or refused.
-use Rattle.std.proofs.Common.{◌≡◌, ◌+◌, ◌-◌, ◌≤◌, ◌<◌, ℕ, Bool, true, false, List, [], ◌∷◌, refl, ap, ◌∙◌, subst, arith}
-use Rattle.std.proofs.lemmas.Bool.{ltb-false}
-use Rattle.atomic_table.specs.Seated.{TableId}
-use Rattle.atomic_table.specs.Table.{Me}
-use Rattle.tmw_events.specs.declared.event.Kind.{Kind}
-use Rattle.tmw_ring_defs.proofs.RunsProof.{made-then}
-use Rattle.tmw_ring_defs.specs.Room.{is_spent, is_full, room_reply}
-use Rattle.tmw_ring_defs.specs.Runs.{HasMade, writer_actor}
-use Rattle.tmw_ring_defs.specs.declared.ring_step.Answered.{Answered}
-use Rattle.tmw_ring_defs.specs.declared.ring_step.Step.TheVariants.{Tail}
-use Rattle.tmw_ring.specs.Parts.{Parts}
-use Rattle.tmw_ring.specs.Recording.{HasLooked, HasRecorded, IsRefusal}
-use Rattle.tmw_ring.specs.Seats.{writer_in, writer_is}
-use Rattle.tmw_ring.specs.WriterSteps.{front_seen, tail_seen, claimed, value_filled, done, front_look, tail_look, claiming, filling, publishing, HasSeenFront, HasSeenTail, HasClaimed, HasFilled, HasPublished}
-use Rattle.tmw_ring.specs.declared.part.WriterPart.{WriterPart}
-use Rattle.tmw_ring.specs.declared.refused.Refused.TheVariants.{Full, Spent}
+use Rattle.tmw_ring.proofs.Shared.{Answered, Bool, Full, HasClaimed, HasFilled, HasLooked, HasMade, HasPublished, HasRecorded, HasSeenFront, HasSeenTail, IsRefusal, Kind, List, Me, Parts, Spent, TableId, Tail, WriterPart, [], ap, arith, claimed, claiming, done, false, filling, front_look, front_seen, is_full, is_spent, ltb-false, made-then, publishing, refl, room_reply, subst, tail_look, tail_seen, true, value_filled, writer_actor, writer_in, writer_is, ℕ, ◌+◌, ◌-◌, ◌<◌, ◌∙◌, ◌∷◌, ◌≡◌, ◌≤◌}
 
 -- a writer's two looks, as they are answered where places are spent and the ring is full, or not
 abbrev two_looks : Kind → (front tail : ℕ) → (spent full : Bool) → WriterPart → List Answered

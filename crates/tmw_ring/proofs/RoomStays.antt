@@ -1,29 +1,7 @@
 -- A record that is refused after several were found to have room has found that as many places more were claimed.
-use Rattle.std.proofs.Common.{◌≡◌, ◌≢◌, ◌+◌, ◌++◌, ◌≤◌, ◌<◌, ℕ, Bool, true, false, List, [], ◌∷◌, length, Some, leb, slice_get, append_assoc, refl, sym, ap, ◌∙◌, subst, arith}
-use Rattle.std.proofs.lemmas.Bool.{leb-true, leb-false}
-use Rattle.std.proofs.lemmas.List.{length_push}
-use Rattle.std.proofs.lemmas.Option.{none-some, option_and_then_some, some_pair_parts}
-use Rattle.tmw_events.specs.declared.event.Kind.{Kind}
-use Rattle.tmw_events.specs.declared.ix.Ix.{Ix}
-use Rattle.tmw_ring_defs.proofs.RunsActors.{own-cut}
-use Rattle.tmw_ring_defs.proofs.RunsProof.{own-append, runs-cut}
-use Rattle.tmw_ring_defs.proofs.RunsRoom.{places_claimed-append, places_freed-append, room_law, run-counted, runs-tail}
-use Rattle.tmw_ring_defs.specs.Ring.{Core, new_core}
-use Rattle.tmw_ring_defs.specs.RingSteps.{tail_step}
-use Rattle.tmw_ring_defs.specs.Room.{is_spent, is_full, room_reply, HasRoomFor}
-use Rattle.tmw_ring_defs.specs.RoomLaw.{places_claimed, places_freed}
-use Rattle.tmw_ring_defs.specs.Runs.{IsRun, own, writer_actor}
-use Rattle.tmw_ring_defs.specs.declared.ring_phase.WriterPhase.{WriterPhase}
-use Rattle.tmw_ring_defs.specs.declared.ring_phase.WriterPhase.TheVariants.{Idle, Looked, Cleared, Claimed}
-use Rattle.tmw_ring_defs.specs.declared.ring_size.RingSize.{RingSize}
-use Rattle.tmw_ring_defs.specs.declared.ring_step.Answered.{Answered}
+use Rattle.tmw_ring.proofs.Shared.{Answered, Bool, Claimed, Cleared, Core, Front, Full, HasFoundRoom, HasRoomFor, HasStepped, Idle, IsRun, Ix, Kind, List, Looked, RingSize, RoomStaysLaw, Some, Spent, Tail, WriterIs, WriterPhase, [], ap, append_assoc, arith, false, is_full, is_spent, leb, leb-false, leb-true, length, length_push, new_core, none-some, option_and_then_some, own, own-append, own-cut, places_claimed, places_claimed-append, places_freed, places_freed-append, refl, room_law, room_reply, run-counted, runs-cut, runs-tail, slice_get, some_pair_parts, subst, sym, tail_step, true, writer_actor, ℕ, ◌++◌, ◌+◌, ◌<◌, ◌∙◌, ◌∷◌, ◌≡◌, ◌≢◌, ◌≤◌}
 use Rattle.tmw_ring_defs.specs.declared.ring_step.Reply.{Reply}
 use Rattle.tmw_ring_defs.specs.declared.ring_step.Reply.TheVariants.{Saw, Cleared as IsCleared, Full as IsFull, Spent as IsSpent, Place, Filled, Published, Ready, NotReady, Word, Taken, Stopped, NotNow}
-use Rattle.tmw_ring_defs.specs.declared.ring_step.Step.TheVariants.{Front, Tail}
-use Rattle.tmw_ring.specs.Ends.{WriterIs}
-use Rattle.tmw_ring.specs.Recording.{HasStepped}
-use Rattle.tmw_ring.specs.Rooms.{HasFoundRoom, RoomStaysLaw}
-use Rattle.tmw_ring.specs.declared.refused.Refused.TheVariants.{Full, Spent}
 
 -- A refusal tells this tail.
 abbrev Tells : ℕ → Reply → Type 0

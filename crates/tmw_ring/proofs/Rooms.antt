@@ -1,26 +1,5 @@
 -- A writer may look at front, and what it then knows with the tail that it finds next.
-use Rattle.std.proofs.Common.{◌≡◌, ◌++◌, ◌+◌, ◌-◌, ◌≤◌, ℕ, zero, suc, Bool, true, false, List, [], ◌∷◌, set, slice_index, min, append-nil, refl, sym, ap, ◌∙◌, subst, arith}
-use Rattle.std.proofs.lemmas.Bool.{ltb-true, ltb-false, lt-ltb}
-use mathlib.Core.Option.{some-injective, some-ne-none}
-use Rattle.atomic_table.specs.Table.{Me, Allows, keeps}
-use Rattle.atomic_table.specs.Seated.{TableId}
-use Rattle.tmw_events.specs.declared.ix.Ix.{Ix}
-use Rattle.tmw_ring_defs.specs.Ring.{Core, new_core}
-use Rattle.tmw_ring_defs.specs.Room.{is_spent, is_full, last_tail}
-use Rattle.tmw_ring_defs.specs.RoomLaw.{places_freed}
-use Rattle.tmw_ring_defs.specs.Runs.{Runs}
-use Rattle.tmw_ring_defs.specs.declared.ring_size.RingSize.{RingSize}
-use Rattle.tmw_ring_defs.specs.declared.ring_step.Answered.{Answered}
-use Rattle.tmw_ring_defs.proofs.RunsRoom.{places_freed-append, run-counted, runs-front}
-use Rattle.tmw_ring.specs.Ends.{WriterIs}
-use Rattle.tmw_ring.specs.Meeting.{FindsTail}
-use Rattle.tmw_ring.specs.Parts.{Parts, key, run_of}
-use Rattle.tmw_ring.specs.Rooms.{with_run, FindsFront, HasFoundFront}
-use Rattle.tmw_ring.specs.Rule.{PartFits, Shown, WriterFits}
-use Rattle.tmw_ring.specs.Seats.{writer_in, writer_is, IsIdleWriter}
-use Rattle.tmw_ring.specs.Words.{words_of, front_word}
-use Rattle.tmw_ring.specs.declared.part.Part.TheVariants.{Writes}
-use Rattle.tmw_ring.specs.declared.part.WriterPart.{WriterPart}
+use Rattle.tmw_ring.proofs.Shared.{Allows, Answered, Bool, Core, FindsFront, FindsTail, HasFoundFront, IsIdleWriter, Ix, List, Me, PartFits, Parts, RingSize, Runs, Shown, WriterFits, WriterIs, WriterPart, Writes, [], ap, append-nil, arith, false, front_word, is_full, is_spent, keeps, key, last_tail, lt-ltb, ltb-false, ltb-true, min, new_core, places_freed, places_freed-append, refl, run-counted, run_of, runs-front, set, slice_index, some-injective, some-ne-none, subst, suc, sym, true, with_run, words_of, writer_in, zero, ℕ, ◌++◌, ◌+◌, ◌-◌, ◌∙◌, ◌∷◌, ◌≡◌, ◌≤◌}
 use Rattle.tmw_ring.proofs.Moves.{Follows, Remains, knows_all, moves_each}
 use Rattle.tmw_ring.proofs.Writing.{writer_fits}
 
@@ -76,27 +55,6 @@ module _ {S : Type 0} where
   finds_front size slots seat number me idle =
       subst (λ (m : Me S Parts). Allows {S = S} {V = Parts} (Shown size) slots seat m front_word (λ n. n) (HasFoundFront m)) (sym idle.seated)
       (front_found size slots seat (writer_in me.0))
-
-  -- A writer is idle still.
-  pub idle_yet : (number : Ix) (front : ℕ) (before after : Me S Parts) → IsIdleWriter number before → HasFoundFront before front after
-      → IsIdleWriter number after
-  idle_yet number front before after idle found =
-      subst (λ (m : Me S Parts). IsIdleWriter number m) (sym found.0)
-      (record { seated = refl; idle = idle.idle; numbered = idle.numbered })
-
-  -- What callers see of a writer that has found front.
-  pub front_met : (front : ℕ) (table table_after : TableId) (before after : Me S Parts) (writer : WriterIs) → table_after ≡ table
-      → HasFoundFront before front after → writer_is table (writer_in before.0) ≡ writer
-      → FindsFront front writer (writer_is table_after (writer_in after.0))
-  front_met front table table_after before after writer same found seen =
-      let run : List Answered = (writer_in after.0).run in
-      let left : writer_in after.0 ≡ with_run run (writer_in before.0) = ap (λ (m : Me S Parts). writer_in m.0) found.0 in
-      subst (λ (w : WriterIs). FindsFront front w (writer_is table_after (writer_in after.0))) seen
-      (record {
-        same = ap (λ (w : WriterPart). writer_is table_after w) left ∙ ap (λ (t : TableId). writer_is t (with_run run (writer_in before.0))) same;
-        since = found.1;
-        counted = found.2;
-      })
 
 -- The sum that stops at the greatest number is as good as the sum.
 last-is : (size : RingSize) (tail records last : ℕ) → last ≡ min (tail + (records - 1)) 18446744073709551615

@@ -1,33 +1,9 @@
 -- A change of a ring's table that keeps its rule is made of steps of the ring's machine.
-use Rattle.std.proofs.Common.{◌≡◌, ◌≢◌, ◌++◌, ◌+◌, ◌≤◌, ℕ, zero, suc, List, [], ◌∷◌, Some, set, refl, sym, ap, ◌∙◌, subst, append_assoc, append-nil, eq-eqb, lt_of_not-le, inl, inr}
-use Rattle.std.proofs.lemmas.List.{append_cancel_left}
-use Rattle.std.proofs.lemmas.Option.{none-some, option_and_then_some, some_pair_parts}
-use Rattle.std.specs.Prelude.{slice_get}
-use mathlib.Core.Option.{some, some-injective, some-ne-none}
-use lib.ListN.{get_elem?}
-use native.Mathlib.Decide.{dec_le, ℕ_discrete}
-use Rattle.atomic_table.proofs.Lists.{set_else}
-use Rattle.tmw_events.specs.declared.event.Kind.{Kind}
+use Rattle.tmw_ring.proofs.Shared.{Answered, Claimed, Cleared, Core, Gone, Idle, Kind, Knows, Lies, List, Looked, NoneOf, Part, Parts, ReaderPhase, Ready, RingSize, Runs, Shown, Some, Told, Waiting, WriterPhase, [], actor_of, all-own, ap, append-nil, append_assoc, append_cancel_left, cell_at, dec_le, eq-eqb, front_step, get_elem?, inl, inr, key, last-among, last-item, last-known, lt_of_not-le, new_core, new_core-sound, none-beyond, none-left, none-some, option_and_then_some, own, own-append, own-gone, peek_step, refl, run_of, runs-cut, runs-same, set, set_else, slice_get, some, some-injective, some-ne-none, some_pair_parts, subst, suc, sym, words_of, zero, ℕ, ℕ_discrete, ◌++◌, ◌+◌, ◌∙◌, ◌∷◌, ◌≡◌, ◌≢◌, ◌≤◌}
 use Rattle.tmw_ring_defs.proofs.RingLaw.{step_law}
-use Rattle.tmw_ring_defs.proofs.RingStart.{new_core-sound}
-use Rattle.tmw_ring_defs.proofs.RunsActors.{own-gone, last-item, last-known, last-among, none-beyond, none-left, all-own}
-use Rattle.tmw_ring_defs.proofs.RunsProof.{own-append, runs-cut, runs-same}
-use Rattle.tmw_ring_defs.specs.Ring.{Core, new_core}
-use Rattle.tmw_ring_defs.specs.RingSteps.{cell_at, front_step, peek_step}
-use Rattle.tmw_ring_defs.specs.Runs.{actor_of, own, NoneOf, Runs, Gone}
-use Rattle.tmw_ring_defs.specs.declared.ring_phase.ReaderPhase.{ReaderPhase}
-use Rattle.tmw_ring_defs.specs.declared.ring_phase.ReaderPhase.TheVariants.{Waiting, Ready, Told}
-use Rattle.tmw_ring_defs.specs.declared.ring_phase.WriterPhase.{WriterPhase}
-use Rattle.tmw_ring_defs.specs.declared.ring_phase.WriterPhase.TheVariants.{Idle, Looked, Cleared, Claimed}
-use Rattle.tmw_ring_defs.specs.declared.ring_size.RingSize.{RingSize}
-use Rattle.tmw_ring_defs.specs.declared.ring_step.Answered.{Answered}
-use Rattle.tmw_ring_defs.specs.declared.ring_step.Reply.TheVariants.{Saw, Ready as IsReady, NotReady}
 use Rattle.tmw_ring.proofs.Moves.{lies_among, set_over}
-use Rattle.tmw_ring.specs.Parts.{Parts, key, run_of}
-use Rattle.tmw_ring.specs.Rule.{Knows, Lies, Shown}
 use Rattle.tmw_ring.specs.RunLaws.{TableState, Telling, RanOn, HaveGrown, SeatLaw, RunLaw, EmptySeatLaw, ClaimLaw, NotReadyLaw, FrontLaw, SilentLaw}
-use Rattle.tmw_ring.specs.Words.{words_of}
-use Rattle.tmw_ring.specs.declared.part.Part.{Part}
+use Rattle.tmw_ring_defs.specs.declared.ring_step.Reply.TheVariants.{Saw, Ready as IsReady, NotReady}
 
 -- In the second state this seat has the new parts, and each other has what it had.
 record Changes (before after : TableState) (seat : ℕ) (old new : Parts) : Type 0 where

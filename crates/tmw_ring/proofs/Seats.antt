@@ -1,16 +1,5 @@
 -- A seat's parts may be cut off into a new seat.
-use Rattle.std.proofs.Common.{◌≡◌, ◌≢◌, ◌⊎◌, ℕ, zero, suc, eqb, eq-eqb, ne_eqb, List, [], ◌∷◌, ◌++◌, length, set, refl, sym, ap, ◌∙◌, subst, inl, inr, arith, if◌then◌else◌}
-use Rattle.std.proofs.lemmas.List.{length-set}
-use mathlib.Core.Option.{some, some-injective, some-ne-none}
-use lib.ListN.{get_elem?}
-use native.Mathlib.Decide.{ℕ_discrete}
-use Rattle.atomic_table.proofs.Lists.{at_last, at_longer, at_set, set_else}
-use Rattle.atomic_table.specs.Table.{State, Splits}
-use Rattle.tmw_ring_defs.specs.declared.ring_size.RingSize.{RingSize}
-use Rattle.tmw_ring.specs.Parts.{Parts}
-use Rattle.tmw_ring.specs.Rule.{Lies, Shown}
-use Rattle.tmw_ring.specs.Seats.{second_alone, without_second}
-use Rattle.tmw_ring.specs.declared.part.Part.{Part}
+use Rattle.tmw_ring.proofs.Shared.{Lies, List, Part, Parts, RingSize, Shown, Splits, State, [], ap, arith, at_last, at_longer, at_set, eq-eqb, eqb, get_elem?, if◌then◌else◌, inl, inr, length, length-set, ne_eqb, refl, second_alone, set, set_else, some, some-injective, some-ne-none, subst, suc, sym, without_second, zero, ℕ, ℕ_discrete, ◌++◌, ◌∙◌, ◌∷◌, ◌≡◌, ◌≢◌, ◌⊎◌}
 use Rattle.tmw_ring.proofs.Moves.{Rearranged, Stays, lies_among, rearrange, set_over}
 
 -- What stands in a list with one more item stood there before, or is the last.

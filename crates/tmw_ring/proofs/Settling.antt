@@ -1,22 +1,5 @@
 -- A ring that has all its ends back has the rest of the log in its words.
-use Rattle.std.proofs.Common.{◌≡◌, ◌-◌, ◌^◌, ◌≤◌, ◌<◌, ℕ, List, ◌++◌, length, get_or, drop, refl, sym, ap, ◌∙◌, subst, arith}
-use Rattle.std.proofs.lemmas.List.{take-append-drop}
-use Rattle.std.proofs.lemmas.Option.{slice_get-get_or}
-use Rattle.std.specs.Prelude.{slice_index}
-use mathlib.Core.Option.{some}
-use lib.ListN.{get_elem?}
-use Rattle.tmw_events.specs.declared.event.Event.{Event}
-use Rattle.atomic_table.specs.Seated.{TableId}
-use Rattle.tmw_ring_defs.specs.Ring.{Core, new_core}
-use Rattle.tmw_ring_defs.specs.RingSound.{Sound}
-use Rattle.tmw_ring_defs.specs.Runs.{Runs}
-use Rattle.tmw_ring_defs.specs.declared.ring_size.RingSize.{RingSize}
-use Rattle.tmw_ring.specs.Ends.{WriterIs}
-use Rattle.tmw_ring.specs.Parts.{made_from}
-use Rattle.tmw_ring.specs.Seats.{reader_is}
-use Rattle.tmw_ring.specs.Settling.{AreInOrder, IsSettled, HasEvent, events_from}
-use Rattle.tmw_ring.specs.Words.{words_of}
-use Rattle.tmw_ring.specs.declared.part.ReaderPart.{ReaderPart}
+use Rattle.tmw_ring.proofs.Shared.{AreInOrder, Core, Event, HasEvent, IsSettled, List, ReaderPart, RingSize, Runs, Sound, TableId, WriterIs, ap, arith, drop, events_from, get_elem?, get_or, length, made_from, new_core, reader_is, refl, slice_get-get_or, slice_index, some, subst, sym, take-append-drop, words_of, ℕ, ◌++◌, ◌-◌, ◌<◌, ◌^◌, ◌∙◌, ◌≡◌, ◌≤◌}
 use Rattle.tmw_ring.proofs.Words.{word_read}
 use Rattle.tmw_ring.proofs.LastStates.{Ended, all_published}
 use Rattle.tmw_ring.proofs.LeftWords.{has_event, events_logged}

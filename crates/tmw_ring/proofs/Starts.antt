@@ -1,23 +1,5 @@
 -- A new ring keeps the rule of its table.
-use Rattle.std.proofs.Common.{◌≡◌, ◌+◌, ◌%◌, ◌<◌, ◌≤◌, ℕ, zero, suc, [], Some, replicate, refl, sym, ap, ◌∙◌, subst, arith}
-use Rattle.std.proofs.lemmas.List.Elements.{All-replicate}
-use Rattle.std.specs.Prelude.{slice_get}
-use mathlib.Core.Option.{some, some-injective, some-ne-none}
-use lib.ListN.{get_elem?}
-use Rattle.atomic_table.specs.Table.{State, opening}
-use Rattle.tmw_events.specs.Packing.{IsHeader}
-use Rattle.tmw_ring_defs.specs.Ring.{new_core}
-use Rattle.tmw_ring_defs.specs.RingCells.{empty_cell}
-use Rattle.tmw_ring_defs.specs.declared.ring_cell.RingCell.{RingCell}
-use Rattle.tmw_ring_defs.specs.declared.ring_phase.WriterPhase.TheVariants.{Idle}
-use Rattle.tmw_ring_defs.specs.declared.ring_size.RingSize.{RingSize}
-use Rattle.tmw_ring_defs.proofs.RingPhases.{all_idle}
-use Rattle.tmw_ring_defs.proofs.RingStart.{new_core-sound}
-use Rattle.tmw_ring.specs.Parts.{Parts, key, run_of, new_writer, new_writers, new_reader, new_parts}
-use Rattle.tmw_ring.specs.Rule.{PartFits, FitsPhase, IsReal, Knows, Lies, Shown, WriterFits}
-use Rattle.tmw_ring.specs.Words.{word_count}
-use Rattle.tmw_ring.specs.declared.part.Part.{Part}
-use Rattle.tmw_ring.specs.declared.part.Part.TheVariants.{Writes, Reads}
+use Rattle.tmw_ring.proofs.Shared.{All-replicate, FitsPhase, Idle, IsHeader, IsReal, Knows, Lies, Part, PartFits, Parts, Reads, RingCell, RingSize, Shown, Some, State, WriterFits, Writes, [], all_idle, ap, arith, empty_cell, get_elem?, key, new_core, new_core-sound, new_parts, new_reader, new_writer, new_writers, opening, refl, replicate, run_of, slice_get, some, some-injective, some-ne-none, subst, suc, sym, word_count, zero, ℕ, ◌%◌, ◌+◌, ◌<◌, ◌∙◌, ◌≡◌, ◌≤◌}
 use Rattle.tmw_ring.proofs.Moves.{knows_all}
 use Rattle.tmw_ring.proofs.Words.{new_words}
 

@@ -1,10 +1,5 @@
 -- Where a word of a place's cell stands in a ring's table, from where it stands in the ring that callers see.
-use Rattle.std.proofs.Common.{◌≡◌, ◌<◌, ℕ, sym, ap, ◌∙◌, arith}
-use Rattle.atomic_table.specs.Seated.{TableId}
-use Rattle.tmw_ring_defs.specs.declared.ring_size.RingSize.{RingSize}
-use Rattle.tmw_ring.specs.Ends.{RingIs}
-use Rattle.tmw_ring.specs.Seats.{IsRingTable}
-use Rattle.tmw_ring.specs.Words.{word_count}
+use Rattle.tmw_ring.proofs.Shared.{IsRingTable, RingIs, RingSize, TableId, ap, arith, sym, word_count, ℕ, ◌<◌, ◌∙◌, ◌≡◌}
 
 -- The word is within the table, and is that of the size that the table was told.
 pub record InTable (stands : ℕ → ℕ → ℕ) (told : RingSize) (table : TableId) (place word : ℕ) : Type 0 where

@@ -1,39 +1,9 @@
 -- Each step of the reader keeps the rule of a ring's table, and tells the reader what it finds.
-use Rattle.std.proofs.Common.{◌≡◌, ◌≢◌, ◌==◌, ◌+◌, ◌%◌, ◌≤◌, ◌^◌, ℕ, Bool, true, false, List, [], ◌∷◌, ◌++◌, Some, length, set, refl, sym, ap, ◌∙◌, subst, arith, if◌then◌else◌}
-use Rattle.std.proofs.lemmas.List.{set-get_or}
-use Rattle.std.specs.Prelude.{slice_index}
-use mathlib.Core.Option.{some}
-use lib.ListN.{get_elem?}
-use Rattle.atomic_table.specs.Table.{State, Me, Allows, keeps, stepped}
-use Rattle.tmw_events.proofs.PackedWords.{stamped-parts}
-use Rattle.tmw_events.proofs.Unpacks.{pack-words}
-use Rattle.tmw_events.specs.Packing.{stamp_of, header_of, IsHeader}
-use Rattle.tmw_events.specs.Unpacking.{unpacked}
-use Rattle.tmw_events.specs.declared.event.Event.{Event}
-use Rattle.tmw_ring_defs.specs.Ring.{Core, new_core}
-use Rattle.tmw_ring_defs.specs.RingCells.{empty_cell}
-use Rattle.tmw_ring_defs.specs.RingSound.{HasRead, Sound}
-use Rattle.tmw_ring_defs.specs.RingSteps.{Stepped, cell_at, peek_step, read_step, free_step}
-use Rattle.tmw_ring_defs.specs.Runs.{IsRun, reader_actor}
-use Rattle.tmw_ring_defs.specs.declared.ring_cell.RingCell.{RingCell}
-use Rattle.tmw_ring_defs.specs.declared.ring_phase.ReaderPhase.{ReaderPhase}
-use Rattle.tmw_ring_defs.specs.declared.ring_phase.ReaderPhase.TheVariants.{Waiting, Ready, Told}
-use Rattle.tmw_ring_defs.specs.declared.ring_size.RingSize.{RingSize}
-use Rattle.tmw_ring_defs.specs.declared.ring_step.Answered.{Answered}
-use Rattle.tmw_ring_defs.specs.declared.ring_step.Reply.TheVariants.{Ready as IsReady, NotReady, Word, Taken}
-use Rattle.tmw_ring_defs.proofs.RunsProof.{gone-step, runs-append}
-use Rattle.tmw_ring_defs.proofs.RingStores.{has_cell}
+use Rattle.tmw_ring.proofs.Shared.{Allows, Answered, Bool, Core, Event, HasRead, IsHeader, IsReadyReader, IsReal, IsRun, IsToldEvent, IsToldReader, IsWaitingReader, List, Me, Part, PartFits, Parts, PlaceFreed, ReaderFits, ReaderMade, ReaderPart, ReaderPhase, Reads, Ready, RingCell, RingSize, Shown, Some, Sound, StampSeen, State, Stepped, Told, ValueRead, Waiting, Writes, [], after_free, after_look, after_read, ap, apart, arith, cell_at, cell_words, empty_cell, false, free_step, freeing, front_word, get_elem?, gone-step, has_cell, header_of, if◌then◌else◌, keeps, key, length, new_core, next_event, pack-words, peek_step, peeking, phase_after, phase_with, read_step, reader_actor, reader_in, reading, refl, runs-append, set, set-get_or, slice_index, some, stamp_of, stamp_word, stamped-parts, standing, stepped, subst, sym, true, unpacked, value_word, whole, words_of, ℕ, ◌%◌, ◌++◌, ◌+◌, ◌==◌, ◌^◌, ◌∙◌, ◌∷◌, ◌≡◌, ◌≢◌, ◌≤◌}
 use Rattle.tmw_ring_defs.proofs.RingTakes.{peek_keeps, read_keeps, free_keeps}
-use Rattle.tmw_ring.specs.Parts.{Parts, key}
-use Rattle.tmw_ring.specs.Rule.{PartFits, IsReal, ReaderFits, Shown}
-use Rattle.tmw_ring.specs.Seats.{reader_in, IsWaitingReader}
-use Rattle.tmw_ring.specs.Takes.{phase_after, after_look, phase_with, after_read, next_event, after_free, peeking, reading, freeing, IsToldEvent, IsReadyReader, IsToldReader, ReaderMade, StampSeen, ValueRead, PlaceFreed}
-use Rattle.tmw_ring.specs.Words.{cell_words, standing, whole, apart, words_of, front_word, stamp_word, value_word}
-use Rattle.tmw_ring.specs.declared.part.Part.{Part}
-use Rattle.tmw_ring.specs.declared.part.Part.TheVariants.{Writes, Reads}
-use Rattle.tmw_ring.specs.declared.part.ReaderPart.{ReaderPart}
 use Rattle.tmw_ring.proofs.Moves.{Makes, moves}
 use Rattle.tmw_ring.proofs.Words.{stamp_found, value_found}
+use Rattle.tmw_ring_defs.specs.declared.ring_step.Reply.TheVariants.{Ready as IsReady, NotReady, Word, Taken}
 
 -- the ring whose reader has come so far
 abbrev with_reader : Core → ℕ → ReaderPhase → List Event → Core

@@ -1,21 +1,6 @@
 -- What the reader's steps, one after another, come to: an event is taken, or the next place was not published.
-use Rattle.std.proofs.Common.{◌≡◌, ◌≢◌, ◌+◌, ℕ, List, [], ◌∷◌, ◌++◌, length, eq-eqb, ne_eqb, refl, sym, ap, ◌∙◌, subst}
-use Rattle.atomic_table.specs.Seated.{TableId}
-use Rattle.atomic_table.specs.Table.{Me}
-use Rattle.tmw_events.proofs.Unpacks.{unpacked-words}
-use Rattle.tmw_events.specs.Packing.{pack, stamp_of, header_of}
-use Rattle.tmw_events.specs.declared.event.Event.{Event}
-use Rattle.tmw_ring_defs.specs.Runs.{HasMade, reader_actor}
-use Rattle.tmw_ring_defs.proofs.RunsProof.{made-then}
-use Rattle.tmw_ring_defs.specs.declared.ring_phase.ReaderPhase.{ReaderPhase}
-use Rattle.tmw_ring_defs.specs.declared.ring_phase.ReaderPhase.TheVariants.{Ready}
-use Rattle.tmw_ring_defs.specs.declared.ring_step.Answered.{Answered}
+use Rattle.tmw_ring.proofs.Shared.{Answered, Event, HasFoundNone, HasMade, HasTaken, IsReadyReader, IsToldReader, IsWaitingReader, List, Me, Parts, Peek, PlaceFreed, ReaderMade, ReaderPart, ReaderPhase, Ready, StampSeen, TableId, ValueRead, [], after_free, after_look, after_read, ap, eq-eqb, freeing, header_of, length, made-then, ne_eqb, next_event, pack, peeking, phase_after, phase_with, reader_actor, reader_in, reader_is, reading, refl, stamp_of, subst, sym, unpacked-words, ℕ, ◌++◌, ◌+◌, ◌∙◌, ◌∷◌, ◌≡◌, ◌≢◌}
 use Rattle.tmw_ring_defs.specs.declared.ring_step.Reply.TheVariants.{Ready as IsReady, NotReady}
-use Rattle.tmw_ring_defs.specs.declared.ring_step.Step.TheVariants.{Peek}
-use Rattle.tmw_ring.specs.Parts.{Parts}
-use Rattle.tmw_ring.specs.Seats.{reader_in, reader_is, IsWaitingReader}
-use Rattle.tmw_ring.specs.Takes.{phase_after, after_look, phase_with, after_read, next_event, after_free, peeking, reading, freeing, ReaderMade, IsReadyReader, IsToldReader, StampSeen, ValueRead, PlaceFreed, HasTaken, HasFoundNone}
-use Rattle.tmw_ring.specs.declared.part.ReaderPart.{ReaderPart}
 
 -- how far the reader is where it found the next place's stamp
 phase_ready : (count word : ℕ) → stamp_of word ≡ count + 1 → phase_after count word ≡ Ready (header_of word)

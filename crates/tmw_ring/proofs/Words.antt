@@ -1,32 +1,6 @@
 -- What a ring's words tell of its state, and what a store to one of them leaves.
-use Rattle.std.proofs.Common.{◌≡◌, ◌+◌, ◌*◌, ◌%◌, ◌<◌, ◌≢◌, ℕ, zero, suc, List, [], ◌∷◌, length, get_or, set, replicate, refl, sym, ap, ap₂, ◌∙◌, subst, arith}
-use Rattle.std.proofs.lemmas.List.{get_or-set_same, get_or-set_other, length-set, length-replicate}
+use Rattle.tmw_ring.proofs.Shared.{Core, Event, Kind, List, RingCell, RingSize, [], ap, apart, ap₂, arith, cell_at, cell_words, crossed, empty_cell, filled, get_elem?, get_or, get_or-set_other, get_or-set_same, joined, kind_value, length, length-replicate, length-set, new_core, packed_header, published, refl, replicate, set, slice_index, some, some-injective, some-ne-none, stamp_word, stamped, standing, subst, suc, sym, value_word, whole, with_cell, word_count, words_of, zero, ℕ, ◌%◌, ◌*◌, ◌+◌, ◌<◌, ◌∙◌, ◌∷◌, ◌≡◌, ◌≢◌}
 use Rattle.std.proofs.Math.Nat.{mod-lt}
-use Rattle.std.specs.Prelude.{slice_index}
-use mathlib.Core.Option.{some, some-injective, some-ne-none}
-use lib.ListN.{get_elem?}
-use Rattle.tmw_events.specs.Packing.{packed_header, kind_value, joined, stamped}
-use Rattle.tmw_events.specs.declared.event.Event.{Event}
-use Rattle.tmw_events.specs.declared.event.Kind.{Kind}
-use Rattle.tmw_ring_defs.specs.Ring.{Core, new_core}
-use Rattle.tmw_ring_defs.specs.RingCells.{empty_cell, filled, published}
-use Rattle.tmw_ring_defs.specs.RingSteps.{with_cell, cell_at}
-use Rattle.tmw_ring_defs.specs.declared.ring_cell.RingCell.{RingCell}
-use Rattle.tmw_ring_defs.specs.declared.ring_size.RingSize.{RingSize}
-use Rattle.tmw_ring.specs.Words.{cell_words, crossed, whole, standing, apart, words_of, word_count, stamp_word, value_word}
-
-length-cell_words : (cells : List RingCell) → length (cell_words cells) ≡ 2 * length cells
-length-cell_words [] = refl
-length-cell_words (cell ∷ cells) = omega (arith, length-cell_words cells)
-
-length-standing : (cells : List RingCell) (from count : ℕ) → length (standing cells from count) ≡ count
-length-standing cells from zero = refl
-length-standing cells from (suc count) = omega (arith, length-standing cells (from + 1) count)
-
-pub length-words : (core : Core) → length (words_of core) ≡ word_count (length core.cells)
-length-words core =
-    let count : ℕ = whole (length core.cells) in
-    omega (arith, length-cell_words (standing core.cells 0 count), length-standing core.cells 0 count)
 
 -- Each cell stands within the table, and the cell that stands there is that cell.
 crossed-within : (cells cell : ℕ) → cell < cells → crossed cell < whole cells

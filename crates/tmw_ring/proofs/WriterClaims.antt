@@ -1,33 +1,7 @@
 -- A writer may claim a place.
-use Rattle.std.proofs.Common.{◌≡◌, ◌≢◌, ◌==◌, ◌+◌, ◌++◌, ◌%◌, ◌≤◌, ◌<◌, ℕ, zero, suc, Bool, true, false, eq-eqb, ne_eqb, if◌then◌else◌, List, [], ◌∷◌, length, Some, set, refl, sym, ap, ◌∙◌, subst, arith}
-use Rattle.std.proofs.lemmas.Option.{slice_get_within}
-use Rattle.std.specs.Prelude.{slice_get, slice_index}
-use Rattle.atomic_table.specs.Table.{Me, Allows, keeps}
-use Rattle.tmw_events.specs.Text.{FitsKind}
-use Rattle.tmw_events.specs.declared.event.Event.{Event}
-use Rattle.tmw_events.specs.declared.event.Kind.{Kind}
-use Rattle.tmw_events.specs.declared.ix.Ix.{Ix}
-use Rattle.tmw_ring_defs.specs.Ring.{Core}
-use Rattle.tmw_ring_defs.specs.RingSound.{IsIn, Sound, cleared}
-use Rattle.tmw_ring_defs.specs.RingSteps.{claim_step}
-use Rattle.tmw_ring_defs.specs.Runs.{writer_actor}
-use Rattle.tmw_ring_defs.specs.declared.ring_phase.WriterPhase.{WriterPhase}
-use Rattle.tmw_ring_defs.specs.declared.ring_phase.WriterPhase.TheVariants.{Cleared}
-use Rattle.tmw_ring_defs.specs.declared.ring_size.RingSize.{RingSize}
-use Rattle.tmw_ring_defs.specs.declared.ring_step.Answered.{Answered}
-use Rattle.tmw_ring_defs.specs.declared.ring_step.Reply.TheVariants.{Place}
+use Rattle.tmw_ring.proofs.Shared.{Allows, Answered, Bool, Cleared, Core, Event, FitsKind, HasClaimed, IsIn, IsReal, IsRecorded, IsSeatOf, Ix, Kind, List, Me, Parts, Place, RingSize, Shown, Some, Sound, WriterFits, WriterMade, WriterPart, WriterPhase, Writes, [], ap, arith, by_writer-in, claim_step, claimed, claiming, cleared, eq-eqb, event_of, false, if◌then◌else◌, keeps, length, made_at, made_from, ne_eqb, refl, set, slice_get, slice_get_within, slice_index, subst, suc, sym, true, words_of, writer_actor, writer_in, zero, ℕ, ◌%◌, ◌++◌, ◌+◌, ◌<◌, ◌==◌, ◌∙◌, ◌∷◌, ◌≡◌, ◌≢◌, ◌≤◌}
 use Rattle.tmw_ring_defs.proofs.RingClaims.{with_claim, claim_keeps}
-use Rattle.tmw_ring_defs.proofs.RingPlaces.{event_of}
-use Rattle.tmw_ring_defs.proofs.RunsProof.{by_writer-in}
-use Rattle.tmw_ring.specs.Parts.{Parts, made_from}
-use Rattle.tmw_ring.specs.Recording.{made_at}
-use Rattle.tmw_ring.specs.Rule.{Shown, WriterFits, IsReal, IsRecorded}
-use Rattle.tmw_ring.specs.Seats.{writer_in}
-use Rattle.tmw_ring.specs.Words.{words_of}
-use Rattle.tmw_ring.specs.WriterSteps.{claimed, claiming, IsSeatOf, HasClaimed, WriterMade}
 use Rattle.tmw_ring.specs.declared.part.Made.{Made}
-use Rattle.tmw_ring.specs.declared.part.Part.TheVariants.{Writes}
-use Rattle.tmw_ring.specs.declared.part.WriterPart.{WriterPart}
 use Rattle.tmw_ring.proofs.Moves.{Makes}
 use Rattle.tmw_ring.proofs.Writing.{Goes, writer_fits, writer_moves, writer_made}
 

@@ -1,28 +1,6 @@
 -- A writer may look at front and at tail.
-use Rattle.std.proofs.Common.{◌≡◌, ◌≤◌, ◌++◌, ℕ, Bool, true, false, List, [], ◌∷◌, Some, set, refl, sym, ap, ◌∙◌, subst, arith}
-use Rattle.std.specs.Prelude.{slice_index}
-use Rattle.atomic_table.specs.Table.{Me, Allows, keeps}
-use Rattle.tmw_events.specs.Text.{FitsKind}
-use Rattle.tmw_events.specs.declared.event.Kind.{Kind}
-use Rattle.tmw_ring_defs.specs.Ring.{Core}
-use Rattle.tmw_ring_defs.specs.RingSound.{IsIn, Sound}
-use Rattle.tmw_ring_defs.specs.RingSteps.{Stepped, with_phase, front_step, tail_step}
-use Rattle.tmw_ring_defs.specs.Runs.{writer_actor}
-use Rattle.tmw_ring_defs.specs.Room.{is_spent, is_full, room_phase, room_reply}
-use Rattle.tmw_ring_defs.specs.declared.ring_phase.WriterPhase.{WriterPhase}
-use Rattle.tmw_ring_defs.specs.declared.ring_phase.WriterPhase.TheVariants.{Idle, Looked}
-use Rattle.tmw_ring_defs.specs.declared.ring_size.RingSize.{RingSize}
-use Rattle.tmw_ring_defs.specs.declared.ring_step.Answered.{Answered}
-use Rattle.tmw_ring_defs.specs.declared.ring_step.Reply.TheVariants.{Saw}
-use Rattle.tmw_ring_defs.proofs.RunsProof.{by_writer-in}
+use Rattle.tmw_ring.proofs.Shared.{Allows, Answered, Bool, Core, FitsKind, FitsPhase, HasSeenFront, HasSeenTail, Idle, IsIn, IsReal, IsSeatOf, Kind, List, Looked, Me, Parts, RingSize, Saw, Shown, Some, Sound, Stepped, WriterFits, WriterMade, WriterPart, WriterPhase, Writes, [], ap, arith, by_writer-in, false, front_in, front_look, front_seen, front_step, front_word, is_full, is_spent, keeps, refl, room_phase, room_reply, set, slice_index, subst, sym, tail_look, tail_seen, tail_step, true, with_phase, words_of, writer_actor, writer_in, ℕ, ◌++◌, ◌∙◌, ◌∷◌, ◌≡◌, ◌≤◌}
 use Rattle.tmw_ring_defs.proofs.RingLooks.{front_keeps, tail_keeps}
-use Rattle.tmw_ring.specs.Parts.{Parts}
-use Rattle.tmw_ring.specs.Rule.{FitsPhase, Shown, WriterFits, IsReal}
-use Rattle.tmw_ring.specs.Seats.{writer_in}
-use Rattle.tmw_ring.specs.Words.{words_of, front_word}
-use Rattle.tmw_ring.specs.WriterSteps.{front_seen, tail_seen, front_in, front_look, tail_look, IsSeatOf, HasSeenFront, HasSeenTail, WriterMade}
-use Rattle.tmw_ring.specs.declared.part.Part.TheVariants.{Writes}
-use Rattle.tmw_ring.specs.declared.part.WriterPart.{WriterPart}
 use Rattle.tmw_ring.proofs.Moves.{Makes}
 use Rattle.tmw_ring.proofs.Writing.{Goes, cells_go, writer_fits, writer_moves, writer_made}
 

@@ -1,33 +1,7 @@
 -- A writer may fill and publish the place that it has claimed.
-use Rattle.std.proofs.Common.{◌≡◌, ◌%◌, ◌++◌, ℕ, true, false, List, [], ◌∷◌, Some, set, refl, sym, ap, ◌∙◌, subst, arith}
-use Rattle.std.proofs.lemmas.List.Elements.{All-set}
-use Rattle.atomic_table.specs.Table.{Me, Allows, keeps}
-use Rattle.tmw_events.proofs.PackedWords.{packed_header-small}
-use Rattle.tmw_events.specs.Packing.{packed_header, kind_value, joined, IsHeader}
-use Rattle.tmw_events.specs.declared.event.Kind.{Kind}
-use Rattle.tmw_ring_defs.specs.Ring.{Core}
-use Rattle.tmw_ring_defs.specs.RingCells.{empty_cell, set_cell, filled, published}
-use Rattle.tmw_ring_defs.specs.RingSound.{IsIn, Sound}
-use Rattle.tmw_ring_defs.specs.RingSteps.{Stepped, cell_at, with_cell, with_phase, fill_step, publish_step}
-use Rattle.tmw_ring_defs.specs.Runs.{writer_actor}
-use Rattle.tmw_ring_defs.specs.declared.ring_cell.RingCell.{RingCell}
-use Rattle.tmw_ring_defs.specs.declared.ring_phase.WriterPhase.{WriterPhase}
-use Rattle.tmw_ring_defs.specs.declared.ring_phase.WriterPhase.TheVariants.{Idle, Claimed}
-use Rattle.tmw_ring_defs.specs.declared.ring_size.RingSize.{RingSize}
-use Rattle.tmw_ring_defs.specs.declared.ring_step.Answered.{Answered}
-use Rattle.tmw_ring_defs.specs.declared.ring_step.Reply.TheVariants.{Filled, Published}
+use Rattle.tmw_ring.proofs.Shared.{All-set, Allows, Answered, Claimed, Core, Filled, FitsPhase, HasFilled, HasPublished, Idle, IsHeader, IsIn, IsReal, IsSeatOf, Kind, List, Me, Parts, Published, RingCell, RingSize, Shown, Some, Sound, Stepped, WriterFits, WriterPart, WriterPhase, Writes, [], ap, arith, by_writer-in, cell_at, done, empty_cell, event_of, false, fill_step, filled, filling, has_cell, joined, keeps, kind_value, packed_header, packed_header-small, place_in, publish_step, published, publishing, refl, set, set_cell, stamp_word, subst, sym, true, value_filled, value_word, with_cell, with_phase, words_of, writer_actor, writer_in, ℕ, ◌%◌, ◌++◌, ◌∙◌, ◌∷◌, ◌≡◌}
 use Rattle.tmw_ring_defs.proofs.RingFills.{fill_keeps}
-use Rattle.tmw_ring_defs.proofs.RingPlaces.{event_of}
 use Rattle.tmw_ring_defs.proofs.RingPublishes.{publish_keeps}
-use Rattle.tmw_ring_defs.proofs.RingStores.{has_cell}
-use Rattle.tmw_ring_defs.proofs.RunsProof.{by_writer-in}
-use Rattle.tmw_ring.specs.Parts.{Parts}
-use Rattle.tmw_ring.specs.Rule.{FitsPhase, Shown, WriterFits, IsReal}
-use Rattle.tmw_ring.specs.Seats.{writer_in}
-use Rattle.tmw_ring.specs.Words.{words_of, stamp_word, value_word}
-use Rattle.tmw_ring.specs.WriterSteps.{place_in, value_filled, done, filling, publishing, IsSeatOf, HasFilled, HasPublished}
-use Rattle.tmw_ring.specs.declared.part.Part.TheVariants.{Writes}
-use Rattle.tmw_ring.specs.declared.part.WriterPart.{WriterPart}
 use Rattle.tmw_ring.proofs.Words.{filled_words, published_words}
 use Rattle.tmw_ring.proofs.Moves.{Makes}
 use Rattle.tmw_ring.proofs.Writing.{Goes, cells_go, writer_fits, writer_moves, writer_made}

@@ -1,28 +1,5 @@
 -- A writer's step keeps the rule of a ring's table, if what the writer then knows is so.
-use Rattle.std.proofs.Common.{◌≡◌, ◌≢◌, ◌+◌, ◌++◌, ◌≤◌, ℕ, List, [], ◌∷◌, Some, slice_set, set, All, refl, sym, ap, ◌∙◌, subst, inl, inr, arith}
-use Rattle.std.proofs.lemmas.Option.{slice_get_within}
-use Rattle.std.specs.Prelude.{slice_get}
-use mathlib.Core.Option.{some}
-use lib.ListN.{get_elem?}
-use Rattle.atomic_table.specs.Table.{State, keeps, stepped}
-use Rattle.tmw_events.specs.Packing.{IsHeader}
-use Rattle.tmw_events.specs.declared.event.Event.{Event}
-use Rattle.tmw_ring_defs.specs.Ring.{Core}
-use Rattle.tmw_ring_defs.specs.RingSound.{Sound}
-use Rattle.tmw_ring_defs.specs.declared.ring_cell.RingCell.{RingCell}
-use Rattle.tmw_ring_defs.specs.declared.ring_size.RingSize.{RingSize}
-use Rattle.tmw_ring_defs.specs.declared.ring_step.Answered.{Answered}
-use Rattle.tmw_ring_defs.specs.Runs.{IsRun, writer_actor}
-use Rattle.tmw_ring_defs.proofs.RunsProof.{gone-step, runs-append}
-use Rattle.tmw_ring_defs.specs.Ring.{new_core}
-use Rattle.tmw_ring_defs.proofs.RingPhases.{phase_set, phase_kept, phase_cases}
-use Rattle.tmw_ring.specs.Parts.{Parts, key, made_from}
-use Rattle.tmw_ring.specs.Rule.{PartFits, FitsPhase, IsReal, IsRecorded, Shown, WriterFits}
-use Rattle.tmw_ring.specs.Words.{words_of}
-use Rattle.tmw_ring.specs.declared.part.Part.{Part}
-use Rattle.tmw_ring.specs.declared.part.Part.TheVariants.{Writes, Reads}
-use Rattle.tmw_ring.specs.declared.part.WriterPart.{WriterPart}
-use Rattle.tmw_ring.specs.WriterSteps.{WriterMade}
+use Rattle.tmw_ring.proofs.Shared.{All, Answered, Core, Event, FitsPhase, IsHeader, IsReal, IsRecorded, IsRun, List, Part, PartFits, Parts, Reads, RingCell, RingSize, Shown, Some, Sound, State, WriterFits, WriterMade, WriterPart, Writes, [], ap, arith, get_elem?, gone-step, inl, inr, keeps, key, made_from, new_core, phase_cases, phase_kept, phase_set, refl, runs-append, set, slice_get, slice_get_within, slice_set, some, stepped, subst, sym, words_of, writer_actor, ℕ, ◌++◌, ◌+◌, ◌∙◌, ◌∷◌, ◌≡◌, ◌≢◌, ◌≤◌}
 use Rattle.tmw_ring.proofs.Moves.{Makes, moves}
 
 -- By a step of the writer with this part the ring goes on to the next state, in which the writer knows the new part.

@@ -18,3 +18,4 @@ pub mod RunsCounts
 pub mod RunsMachine
 pub mod RunsProof
 pub mod RunsRoom
+mod Shared

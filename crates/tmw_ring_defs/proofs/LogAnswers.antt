@@ -1,25 +1,7 @@
 -- Each step of a sound ring is answered as the sequential log would answer it, where what its writers announced is known.
-use Rattle.std.proofs.Common.{◌≡◌, ◌==◌, ◌+◌, ℕ, Bool, true, false, [], ◌∷◌, length, Option, Some, None, refl, sym, ap, ◌∙◌, inl, inr, slice_get, option_and_then, if◌then◌else◌, length-append}
-use Rattle.std.proofs.lemmas.Bool.{eq-eqb, ne_eqb}
-use Rattle.tmw_events.proofs.Unpacks.{unpacked-pack}
-use Rattle.tmw_events.specs.Packing.{packed_header}
-use Rattle.tmw_events.specs.Unpacking.{unpacked}
-use Rattle.tmw_events.specs.declared.event.Event.{Event}
-use Rattle.tmw_events.specs.declared.event.Kind.{Kind}
-use Rattle.tmw_events.specs.declared.ix.Ix.{Ix}
+use Rattle.tmw_ring_defs.proofs.Shared.{Announced, Asks, Bool, Claim, Claimed, Cleared, Core, Event, Fill, Free, Front, HasRead, Idle, IsIn, Ix, Kind, Looked, None, Option, Peek, Publish, Read, ReaderPhase, Ready, Sequential, Some, Sound, Step, Stepped, Stop, Tail, Told, Waiting, WriterPhase, [], announced_by, announces, ap, appended, by_writer, cell_at, claim_step, core_step, eq-eqb, false, fill_step, free_step, front_step, if◌then◌else◌, inl, inr, is_full, is_spent, length, length-append, ne_eqb, option_and_then, packed_header, peek_step, publish_step, read_step, refl, room_phase, room_reply, sequential_of, slice_get, sym, tail_step, true, unpacked, unpacked-pack, with_phase, ℕ, ◌+◌, ◌==◌, ◌∙◌, ◌∷◌, ◌≡◌}
 use Rattle.tmw_ring_defs.proofs.RingPhases.{phase_cases}
-use Rattle.tmw_ring_defs.specs.OneLog.{Sequential, appended, Announced, announced_by, announces, Asks, sequential_of}
-use Rattle.tmw_ring_defs.specs.Ring.{Core}
-use Rattle.tmw_ring_defs.specs.Room.{is_spent, is_full, room_phase, room_reply}
-use Rattle.tmw_ring_defs.specs.RingSound.{Sound, IsIn, HasRead}
-use Rattle.tmw_ring_defs.specs.RingSteps.{Stepped, with_phase, cell_at, front_step, tail_step, claim_step, fill_step, publish_step, peek_step, read_step, free_step, by_writer, core_step}
-use Rattle.tmw_ring_defs.specs.declared.ring_phase.ReaderPhase.{ReaderPhase}
-use Rattle.tmw_ring_defs.specs.declared.ring_phase.ReaderPhase.TheVariants.{Waiting, Ready, Told}
-use Rattle.tmw_ring_defs.specs.declared.ring_phase.WriterPhase.{WriterPhase}
-use Rattle.tmw_ring_defs.specs.declared.ring_phase.WriterPhase.TheVariants.{Idle, Looked, Cleared, Claimed}
 use Rattle.tmw_ring_defs.specs.declared.ring_step.Reply.TheVariants.{Ready as IsReady, NotReady}
-use Rattle.tmw_ring_defs.specs.declared.ring_step.Step.{Step}
-use Rattle.tmw_ring_defs.specs.declared.ring_step.Step.TheVariants.{Front, Tail, Claim, Fill, Publish, Peek, Read, Free, Stop}
 
 -- A writer that has looked or is cleared has this kind to record.
 abbrev pub IsAnnounced : Kind → WriterPhase → Type 0

@@ -1,13 +1,5 @@
 -- A ring's machine: runs join end to end, and each step leaves the ring sound and spares the published places.
-use Rattle.std.proofs.Common.{◌≡◌, ◌++◌, ◌+◌, ◌<◌, ℕ, zero, suc, Bool, true, false, List, [], ◌∷◌, length, take, Some, None, refl, ap, subst, slice_set, if◌then◌else◌, arith}
-use Rattle.tmw_ring_defs.specs.Ring.{Core}
-use Rattle.tmw_ring_defs.specs.RingMachine.{Machine, writer_of, has_stopped, answered, moved, machine_step, after, replies}
-use Rattle.tmw_ring_defs.specs.RingSound.{Sound, Spares, StepLaw}
-use Rattle.tmw_ring_defs.specs.RingSteps.{Stepped, core_step}
-use Rattle.tmw_ring_defs.specs.declared.ring_step.Reply.{Reply}
-use Rattle.tmw_ring_defs.specs.declared.ring_step.Reply.TheVariants.{Stopped, NotNow}
-use Rattle.tmw_ring_defs.specs.declared.ring_step.Step.{Step}
-use Rattle.tmw_ring_defs.specs.declared.ring_step.Step.TheVariants.{Front, Tail, Claim, Fill, Publish, Peek, Read, Free, Stop}
+use Rattle.tmw_ring_defs.proofs.Shared.{Bool, Claim, Core, Fill, Free, Front, List, Machine, None, NotNow, Peek, Publish, Read, Reply, Some, Sound, Spares, Step, StepLaw, Stepped, Stop, Stopped, Tail, [], after, answered, ap, arith, core_step, false, has_stopped, if◌then◌else◌, length, machine_step, moved, refl, replies, slice_set, subst, suc, take, true, writer_of, zero, ℕ, ◌++◌, ◌+◌, ◌<◌, ◌∷◌, ◌≡◌}
 
 -- What holds of the machine as it is and of each that the ring's step may make of it holds of the one that answers.
 answered_each : (P : Reply × Machine → Type 0) (machine : Machine) (stepped : Stepped) → P (NotNow, machine)

@@ -1,16 +1,8 @@
 -- Whatever steps a ring's machine makes, its answers are those of one sequential log.
-use Rattle.std.proofs.Common.{◌≡◌, ◌++◌, ℕ, zero, suc, List, [], ◌∷◌, drop, Some, replicate, slice_get, refl, sym, ap, ◌∙◌, take-append-drop}
-use Rattle.tmw_events.specs.declared.event.Event.{Event}
+use Rattle.tmw_ring_defs.proofs.Shared.{Announced, AskInOrder, Asks, Event, Idle, List, Machine, OneLogLaw, RingSize, Some, Sound, Step, StepLaw, [], after, announces, ap, drop, machine_step, new_core, new_machine, refl, replicate, replies, sequential_of, slice_get, suc, sym, take-append-drop, zero, ℕ, ◌++◌, ◌∙◌, ◌∷◌, ◌≡◌}
 use Rattle.tmw_ring_defs.proofs.LogAnswers.{Knows, IsAnnounced, core_step-answered}
 use Rattle.tmw_ring_defs.proofs.RingSizes.{after-size}
 use Rattle.tmw_ring_defs.proofs.MachineProof.{machine_step-each, machine_step-sound, after-sound, after-spares}
-use Rattle.tmw_ring_defs.specs.OneLog.{Announced, announces, Asks, AskInOrder, sequential_of, OneLogLaw}
-use Rattle.tmw_ring_defs.specs.Ring.{new_core}
-use Rattle.tmw_ring_defs.specs.RingMachine.{Machine, new_machine, machine_step, after, replies}
-use Rattle.tmw_ring_defs.specs.RingSound.{Sound, StepLaw}
-use Rattle.tmw_ring_defs.specs.declared.ring_phase.WriterPhase.TheVariants.{Idle}
-use Rattle.tmw_ring_defs.specs.declared.ring_size.RingSize.{RingSize}
-use Rattle.tmw_ring_defs.specs.declared.ring_step.Step.{Step}
 
 -- A machine's step is answered as the log would answer it, and the kinds announced stay known.
 pub machine_step-answered : (kinds : Announced) (step : Step) (machine : Machine) → Sound machine.core → Knows kinds machine.core

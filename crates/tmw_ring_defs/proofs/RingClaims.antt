@@ -1,21 +1,5 @@
 -- A claim from a sound state leaves a sound state: the new place is tail's, its event is the log's last, and its cell is free.
-use Rattle.std.proofs.Common.{◌≡◌, ◌≢◌, ◌+◌, ◌++◌, ◌<◌, ◌≤◌, ℕ, zero, suc, Bool, false, List, [], ◌∷◌, length, Some, refl, sym, ap, ◌∙◌, subst, inl, inr, ◌⊎◌, arith}
-use Rattle.std.specs.Prelude.{slice_get, slice_set}
-use Rattle.std.proofs.lemmas.Bool.{cases_lt}
-use Rattle.std.proofs.lemmas.List.{length-set, length_push, take-append-le}
-use Rattle.std.proofs.lemmas.List.Elements.{All-weaker}
-use Rattle.std.proofs.lemmas.Option.{none-some, some_pair_parts, slice_get_within}
-use Rattle.tmw_events.specs.declared.event.Event.{Event}
-use Rattle.tmw_events.specs.declared.event.Kind.{Kind}
-use Rattle.tmw_events.specs.declared.ix.Ix.{Ix}
-use Rattle.tmw_ring_defs.specs.Ring.{Core}
-use Rattle.tmw_ring_defs.specs.RingSound.{Sound, Spares, IsIn, IsHeld, IsPublished, Holds, cleared}
-use Rattle.tmw_ring_defs.specs.RingSteps.{claim_step}
-use Rattle.tmw_ring_defs.specs.declared.ring_cell.RingCell.{RingCell}
-use Rattle.tmw_ring_defs.specs.declared.ring_phase.WriterPhase.{WriterPhase}
-use Rattle.tmw_ring_defs.specs.declared.ring_phase.WriterPhase.TheVariants.{Idle, Looked, Cleared, Claimed}
-use Rattle.tmw_ring_defs.specs.declared.ring_step.Reply.{Reply}
-use Rattle.tmw_ring_defs.specs.declared.ring_step.Reply.TheVariants.{Place}
+use Rattle.tmw_ring_defs.proofs.Shared.{All-weaker, Bool, Claimed, Cleared, Core, Event, Holds, Idle, IsHeld, IsIn, IsPublished, Ix, Kind, List, Looked, Place, Reply, RingCell, Some, Sound, Spares, WriterPhase, [], ap, arith, cases_lt, claim_step, cleared, false, inl, inr, length, length-set, length_push, none-some, refl, slice_get, slice_get_within, slice_set, some_pair_parts, subst, suc, sym, take-append-le, zero, ℕ, ◌++◌, ◌+◌, ◌<◌, ◌∙◌, ◌∷◌, ◌≡◌, ◌≢◌, ◌≤◌, ◌⊎◌}
 use Rattle.tmw_ring_defs.proofs.RingPhases.{phase_set, phase_kept, phase_cases, two_writers, claimed_parts, cleared-set}
 use Rattle.tmw_ring_defs.proofs.RingPlaces.{event_of, published_still, holds_still, read_still}
 use Rattle.tmw_ring_defs.proofs.RingStores.{held_stands, stamp_low}

@@ -1,18 +1,5 @@
 -- A fill from a sound state leaves a sound state: the cell of the place has the event's value, and its stamp is as before.
-use Rattle.std.proofs.Common.{◌≡◌, ◌≢◌, ◌+◌, ℕ, true, false, Some, refl, sym, subst, inl}
-use Rattle.std.proofs.lemmas.Option.{none-some, some_pair_parts, slice_get_within}
-use Rattle.tmw_events.specs.Packing.{kind_value}
-use Rattle.tmw_events.specs.declared.event.Kind.{Kind}
-use Rattle.tmw_events.specs.declared.ix.Ix.{Ix}
-use Rattle.tmw_ring_defs.specs.Ring.{Core}
-use Rattle.tmw_ring_defs.specs.RingCells.{filled}
-use Rattle.tmw_ring_defs.specs.RingSound.{Sound, Spares, IsIn, Holds}
-use Rattle.tmw_ring_defs.specs.RingSteps.{cell_at, fill_step}
-use Rattle.tmw_ring_defs.specs.declared.ring_cell.RingCell.{RingCell}
-use Rattle.tmw_ring_defs.specs.declared.ring_phase.WriterPhase.{WriterPhase}
-use Rattle.tmw_ring_defs.specs.declared.ring_phase.WriterPhase.TheVariants.{Idle, Looked, Cleared, Claimed}
-use Rattle.tmw_ring_defs.specs.declared.ring_step.Reply.{Reply}
-use Rattle.tmw_ring_defs.specs.declared.ring_step.Reply.TheVariants.{Filled}
+use Rattle.tmw_ring_defs.proofs.Shared.{Claimed, Cleared, Core, Filled, Holds, Idle, IsIn, Ix, Kind, Looked, Reply, RingCell, Some, Sound, Spares, WriterPhase, cell_at, false, fill_step, filled, inl, kind_value, none-some, refl, slice_get_within, some_pair_parts, subst, sym, true, ℕ, ◌+◌, ◌≡◌, ◌≢◌}
 use Rattle.tmw_ring_defs.proofs.RingPhases.{phase_set, claimed_parts}
 use Rattle.tmw_ring_defs.proofs.RingStores.{stamp_low, cell_stored}
 use Rattle.tmw_ring_defs.proofs.RingWrites.{stored, IsFit, store_keeps}

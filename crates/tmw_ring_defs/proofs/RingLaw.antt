@@ -1,13 +1,5 @@
 -- Each step of a ring's machine from a sound state leaves a sound state.
-use Rattle.std.proofs.Common.{◌≡◌, Some, slice_get}
-use Rattle.std.proofs.lemmas.Option.{none-some, option_and_then_some}
-use Rattle.tmw_events.specs.declared.ix.Ix.{Ix}
-use Rattle.tmw_ring_defs.specs.Ring.{Core}
-use Rattle.tmw_ring_defs.specs.RingSteps.{Stepped, by_writer, front_step, tail_step, claim_step, fill_step, publish_step}
-use Rattle.tmw_ring_defs.specs.RingSound.{IsIn, Sound, Spares, StepLaw}
-use Rattle.tmw_ring_defs.specs.declared.ring_phase.WriterPhase.{WriterPhase}
-use Rattle.tmw_ring_defs.specs.declared.ring_step.Reply.{Reply}
-use Rattle.tmw_ring_defs.specs.declared.ring_step.Step.TheVariants.{Front, Tail, Claim, Fill, Publish, Peek, Read, Free, Stop}
+use Rattle.tmw_ring_defs.proofs.Shared.{Claim, Core, Fill, Free, Front, IsIn, Ix, Peek, Publish, Read, Reply, Some, Sound, Spares, StepLaw, Stepped, Stop, Tail, WriterPhase, by_writer, claim_step, fill_step, front_step, none-some, option_and_then_some, publish_step, slice_get, tail_step, ◌≡◌}
 use Rattle.tmw_ring_defs.proofs.RingClaims.{claim_keeps}
 use Rattle.tmw_ring_defs.proofs.RingFills.{fill_keeps}
 use Rattle.tmw_ring_defs.proofs.RingLooks.{front_keeps, tail_keeps}

@@ -1,18 +1,5 @@
 -- A writer's looks at front and at tail leave a sound ring sound.
-use Rattle.std.proofs.Common.{◌≡◌, ◌≢◌, ◌⊎◌, ◌+◌, ◌-◌, ◌≤◌, ◌<◌, ℕ, Bool, true, false, Some, length, slice_set, subst, refl, sym, ◌∙◌, inl, inr, arith}
-use Rattle.std.proofs.lemmas.Bool.{ltb-false}
-use Rattle.std.proofs.lemmas.List.{length-set}
-use Rattle.std.proofs.lemmas.Option.{none-some, some_pair_parts}
-use Rattle.tmw_events.specs.declared.event.Kind.{Kind}
-use Rattle.tmw_events.specs.declared.ix.Ix.{Ix}
-use Rattle.tmw_ring_defs.specs.Ring.{Core}
-use Rattle.tmw_ring_defs.specs.RingSteps.{with_phase, front_step, tail_step}
-use Rattle.tmw_ring_defs.specs.Room.{is_spent, is_full, room_phase, room_reply}
-use Rattle.tmw_ring_defs.specs.RingSound.{cleared, IsIn, IsHeld, IsPublished, Sound, Spares}
-use Rattle.tmw_ring_defs.specs.declared.ring_phase.WriterPhase.{WriterPhase}
-use Rattle.tmw_ring_defs.specs.declared.ring_phase.WriterPhase.TheVariants.{Idle, Looked, Cleared, Claimed}
-use Rattle.tmw_ring_defs.specs.declared.ring_step.Reply.{Reply}
-use Rattle.tmw_ring_defs.specs.declared.ring_step.Reply.TheVariants.{Saw}
+use Rattle.tmw_ring_defs.proofs.Shared.{Bool, Claimed, Cleared, Core, Idle, IsHeld, IsIn, IsPublished, Ix, Kind, Looked, Reply, Saw, Some, Sound, Spares, WriterPhase, arith, cleared, false, front_step, inl, inr, is_full, is_spent, length, length-set, ltb-false, none-some, refl, room_phase, room_reply, slice_set, some_pair_parts, subst, sym, tail_step, true, with_phase, ℕ, ◌+◌, ◌-◌, ◌<◌, ◌∙◌, ◌≡◌, ◌≢◌, ◌≤◌, ◌⊎◌}
 use Rattle.tmw_ring_defs.proofs.RingPhases.{phase_kept, phase_cases, two_writers, cleared-set, cleared-lt}
 use Rattle.tmw_ring_defs.proofs.RingPlaces.{published_still, holds_still, read_still}
 

@@ -1,11 +1,5 @@
 -- What the phases of a ring's writers are after one was set, and how many of them are cleared.
-use Rattle.std.proofs.Common.{◌≡◌, ◌≢◌, ◌⊎◌, ◌+◌, ◌<◌, ◌≤◌, ℕ, zero, suc, Bool, List, [], ◌∷◌, length, replicate, Some, refl, ap, inl, inr, arith}
-use Rattle.std.specs.Prelude.{slice_get, slice_set}
-use Rattle.std.proofs.lemmas.Option.{same_Some}
-use Rattle.tmw_events.specs.declared.event.Kind.{Kind}
-use Rattle.tmw_ring_defs.specs.RingSound.{one_if_cleared, cleared}
-use Rattle.tmw_ring_defs.specs.declared.ring_phase.WriterPhase.{WriterPhase}
-use Rattle.tmw_ring_defs.specs.declared.ring_phase.WriterPhase.TheVariants.{Idle, Looked, Cleared, Claimed}
+use Rattle.tmw_ring_defs.proofs.Shared.{Bool, Claimed, Cleared, Idle, Kind, List, Looked, Some, WriterPhase, [], ap, arith, cleared, inl, inr, length, one_if_cleared, refl, replicate, same_Some, slice_get, slice_set, suc, zero, ℕ, ◌+◌, ◌<◌, ◌∷◌, ◌≡◌, ◌≢◌, ◌≤◌, ◌⊎◌}
 
 -- The set writer has the new phase.
 pub phase_set : (phases : List WriterPhase) (writer : ℕ) (phase : WriterPhase) → writer < length phases

@@ -1,17 +1,5 @@
 -- What holds at a place holds in every state in which the log has the same event there and its cell the same words.
-use Rattle.std.proofs.Common.{◌≡◌, ◌≢◌, ◌+◌, ◌*◌, ◌≤◌, ℕ, Bool, true, Some, sym, ap, ◌∙◌, subst}
-use Rattle.std.specs.Prelude.{slice_get}
-use Rattle.tmw_events.specs.Packing.{kind_code, kind_register, packed_header, kind_value}
-use Rattle.tmw_events.specs.declared.event.Event.{Event}
-use Rattle.tmw_events.specs.declared.event.Kind.{Kind}
-use Rattle.tmw_events.specs.declared.ix.Ix.{Ix}
-use Rattle.tmw_ring_defs.specs.Ring.{Core}
-use Rattle.tmw_ring_defs.specs.RingCells.{Shows}
-use Rattle.tmw_ring_defs.specs.RingSound.{IsPublished, Holds, HasRead}
-use Rattle.tmw_ring_defs.specs.RingSteps.{cell_at}
-use Rattle.tmw_ring_defs.specs.declared.ring_cell.RingCell.{RingCell}
-use Rattle.tmw_ring_defs.specs.declared.ring_phase.ReaderPhase.{ReaderPhase}
-use Rattle.tmw_ring_defs.specs.declared.ring_phase.ReaderPhase.TheVariants.{Waiting, Ready, Told}
+use Rattle.tmw_ring_defs.proofs.Shared.{Bool, Core, Event, HasRead, Holds, IsPublished, Ix, Kind, ReaderPhase, Ready, RingCell, Shows, Some, Told, Waiting, ap, cell_at, kind_code, kind_register, kind_value, packed_header, slice_get, subst, sym, true, ℕ, ◌*◌, ◌+◌, ◌∙◌, ◌≡◌, ◌≢◌, ◌≤◌}
 
 -- The log of the new state has the events that the old one has.
 abbrev pub Logs : Core → Core → Type 0

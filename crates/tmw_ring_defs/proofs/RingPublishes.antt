@@ -1,19 +1,5 @@
 -- A publish from a sound state leaves a sound state: the cell of the place shows the log's event there.
-use Rattle.std.proofs.Common.{◌≡◌, ℕ, true, false, Some, refl, sym, ap, ◌∙◌, subst, inr, arith}
-use Rattle.std.proofs.lemmas.Option.{none-some, some_pair_parts}
-use Rattle.tmw_events.specs.Packing.{kind_value}
-use Rattle.tmw_events.specs.declared.event.Event.{Event}
-use Rattle.tmw_events.specs.declared.event.Kind.{Kind}
-use Rattle.tmw_events.specs.declared.ix.Ix.{Ix}
-use Rattle.tmw_ring_defs.specs.Ring.{Core}
-use Rattle.tmw_ring_defs.specs.RingCells.{published, Shows}
-use Rattle.tmw_ring_defs.specs.RingSound.{Sound, Spares, IsIn, IsPublished}
-use Rattle.tmw_ring_defs.specs.RingSteps.{cell_at, publish_step}
-use Rattle.tmw_ring_defs.specs.declared.ring_cell.RingCell.{RingCell}
-use Rattle.tmw_ring_defs.specs.declared.ring_phase.WriterPhase.{WriterPhase}
-use Rattle.tmw_ring_defs.specs.declared.ring_phase.WriterPhase.TheVariants.{Idle, Looked, Cleared, Claimed}
-use Rattle.tmw_ring_defs.specs.declared.ring_step.Reply.{Reply}
-use Rattle.tmw_ring_defs.specs.declared.ring_step.Reply.TheVariants.{Published}
+use Rattle.tmw_ring_defs.proofs.Shared.{Claimed, Cleared, Core, Event, Idle, IsIn, IsPublished, Ix, Kind, Looked, Published, Reply, RingCell, Shows, Some, Sound, Spares, WriterPhase, ap, arith, cell_at, false, inr, kind_value, none-some, publish_step, published, refl, some_pair_parts, subst, sym, true, ℕ, ◌∙◌, ◌≡◌}
 use Rattle.tmw_ring_defs.proofs.RingPlaces.{event_of, same_header}
 use Rattle.tmw_ring_defs.proofs.RingStores.{held_stands, cell_stored}
 use Rattle.tmw_ring_defs.proofs.RingWrites.{stored, IsFit, store_keeps}

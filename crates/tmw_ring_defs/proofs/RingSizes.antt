@@ -1,18 +1,7 @@
 -- A step keeps the ring's size.
-use Rattle.std.proofs.Common.{◌≡◌, ◌==◌, ◌+◌, ℕ, Bool, true, false, List, [], ◌∷◌, Option, Some, None, refl, ◌∙◌, slice_get, option_and_then, if◌then◌else◌}
-use Rattle.tmw_events.specs.declared.event.Kind.{Kind}
-use Rattle.tmw_events.specs.declared.ix.Ix.{Ix}
+use Rattle.tmw_ring_defs.proofs.Shared.{Bool, Claim, Claimed, Cleared, Core, Fill, Free, Front, Idle, Ix, Kind, List, Looked, Machine, None, Option, Peek, Publish, Read, ReaderPhase, Ready, Some, Step, Stepped, Stop, Tail, Told, Waiting, WriterPhase, [], after, by_writer, cell_at, claim_step, core_step, false, fill_step, free_step, front_step, if◌then◌else◌, machine_step, option_and_then, peek_step, publish_step, read_step, refl, slice_get, tail_step, true, ℕ, ◌+◌, ◌==◌, ◌∙◌, ◌∷◌, ◌≡◌}
 use Rattle.tmw_ring_defs.proofs.MachineProof.{machine_step-each}
-use Rattle.tmw_ring_defs.specs.Ring.{Core}
-use Rattle.tmw_ring_defs.specs.RingMachine.{Machine, machine_step, after}
-use Rattle.tmw_ring_defs.specs.RingSteps.{Stepped, cell_at, front_step, tail_step, claim_step, fill_step, publish_step, peek_step, read_step, free_step, by_writer, core_step}
-use Rattle.tmw_ring_defs.specs.declared.ring_phase.ReaderPhase.{ReaderPhase}
-use Rattle.tmw_ring_defs.specs.declared.ring_phase.ReaderPhase.TheVariants.{Waiting, Ready, Told}
-use Rattle.tmw_ring_defs.specs.declared.ring_phase.WriterPhase.{WriterPhase}
-use Rattle.tmw_ring_defs.specs.declared.ring_phase.WriterPhase.TheVariants.{Idle, Looked, Cleared, Claimed}
 use Rattle.tmw_ring_defs.specs.declared.ring_step.Reply.TheVariants.{Ready as IsReady, NotReady}
-use Rattle.tmw_ring_defs.specs.declared.ring_step.Step.{Step}
-use Rattle.tmw_ring_defs.specs.declared.ring_step.Step.TheVariants.{Front, Tail, Claim, Fill, Publish, Peek, Read, Free, Stop}
 
 -- a step that is answered leaves the size as it was
 abbrev pub SameSize : Core → Stepped → Type 0

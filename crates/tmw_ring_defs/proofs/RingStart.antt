@@ -1,13 +1,5 @@
 -- A new ring is sound.
-use Rattle.std.proofs.Common.{◌≡◌, ◌≤◌, replicate, refl, arith}
-use Rattle.std.proofs.lemmas.List.{length-replicate}
-use Rattle.std.proofs.lemmas.List.Elements.{All-replicate}
-use Rattle.tmw_ring_defs.specs.Ring.{new_core}
-use Rattle.tmw_ring_defs.specs.RingCells.{empty_cell}
-use Rattle.tmw_ring_defs.specs.RingSound.{cleared, Sound}
-use Rattle.tmw_ring_defs.specs.declared.ring_cell.RingCell.{RingCell}
-use Rattle.tmw_ring_defs.specs.declared.ring_phase.WriterPhase.TheVariants.{Idle, Looked, Claimed}
-use Rattle.tmw_ring_defs.specs.declared.ring_size.RingSize.{RingSize}
+use Rattle.tmw_ring_defs.proofs.Shared.{All-replicate, Claimed, Idle, Looked, RingCell, RingSize, Sound, arith, cleared, empty_cell, length-replicate, new_core, refl, replicate, ◌≡◌, ◌≤◌}
 use Rattle.tmw_ring_defs.proofs.RingPhases.{all_idle, cleared-idle}
 
 pub new_core-sound : (size : RingSize) → Sound (new_core size)

@@ -1,19 +1,7 @@
 -- The cells of a ring after a store: the cell of the place has the new words, and that of any other place in the same turn is as before.
-use Rattle.std.proofs.Common.{◌≡◌, ◌≢◌, ◌+◌, ◌*◌, ◌/◌, ◌%◌, ◌<◌, ◌≤◌, ℕ, suc, Bool, List, length, Some, sym, ap, ◌∙◌, inl, inr, arith}
+use Rattle.tmw_ring_defs.proofs.Shared.{Bool, Claimed, Core, Event, IsIn, Kind, List, RingCell, Some, Sound, ap, arith, cases_lt, cell_at, cell_of, empty_cell, get_or-set_other, get_or-set_same, inl, inr, length, length-set, set_cell, slice_get, slice_get_within, suc, sym, with_cell, ℕ, ◌%◌, ◌*◌, ◌+◌, ◌/◌, ◌<◌, ◌∙◌, ◌≡◌, ◌≢◌, ◌≤◌}
 use Rattle.std.proofs.Math.Nat.{mod-lt, mul-le-mul_right}
-use Rattle.std.proofs.lemmas.Bool.{cases_lt}
-use Rattle.std.proofs.lemmas.List.{get_or-set_same, get_or-set_other, length-set}
 use Rattle.std.proofs.lemmas.Nat.{div-add-mod'}
-use Rattle.std.proofs.lemmas.Option.{slice_get_within}
-use Rattle.std.specs.Prelude.{slice_get}
-use Rattle.tmw_events.specs.declared.event.Event.{Event}
-use Rattle.tmw_events.specs.declared.event.Kind.{Kind}
-use Rattle.tmw_ring_defs.specs.Ring.{Core}
-use Rattle.tmw_ring_defs.specs.RingCells.{empty_cell, cell_of, set_cell}
-use Rattle.tmw_ring_defs.specs.RingSound.{Sound, IsIn}
-use Rattle.tmw_ring_defs.specs.RingSteps.{with_cell, cell_at}
-use Rattle.tmw_ring_defs.specs.declared.ring_cell.RingCell.{RingCell}
-use Rattle.tmw_ring_defs.specs.declared.ring_phase.WriterPhase.TheVariants.{Claimed}
 
 -- the new words
 pub cell_of-set : (count place : ℕ) (cell : RingCell) (cells : List RingCell) → place % count < length cells

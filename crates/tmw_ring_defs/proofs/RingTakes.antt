@@ -1,21 +1,8 @@
 -- The reader's steps leave a sound ring sound, and what it takes is the log's next event.
-use Rattle.std.proofs.Common.{◌≡◌, ◌≢◌, ◌==◌, ◌+◌, ◌≤◌, ◌<◌, ◌++◌, ℕ, Bool, true, false, if◌then◌else◌, List, [], ◌∷◌, Some, length, take, get_or, subst, refl, sym, ap, ◌∙◌, inl, inr, arith}
-use Rattle.std.proofs.lemmas.Bool.{cases_lt, eqb-true}
-use Rattle.std.proofs.lemmas.List.{length_push, take_more}
-use Rattle.std.proofs.lemmas.Option.{none-some, some_pair_parts, get_or_from_slice_get, slice_get_within}
-use Rattle.tmw_events.proofs.Unpacks.{unpacked-pack}
-use Rattle.tmw_events.specs.Packing.{packed_header}
-use Rattle.tmw_events.specs.Unpacking.{unpacked}
-use Rattle.tmw_events.specs.declared.event.Event.{Event}
-use Rattle.tmw_ring_defs.specs.Ring.{Core}
-use Rattle.tmw_ring_defs.specs.RingSteps.{Stepped, cell_at, peek_step, read_step, free_step}
-use Rattle.tmw_ring_defs.specs.RingSound.{IsPublished, HasRead, Sound, Spares}
-use Rattle.tmw_ring_defs.specs.declared.ring_phase.ReaderPhase.{ReaderPhase}
-use Rattle.tmw_ring_defs.specs.declared.ring_phase.ReaderPhase.TheVariants.{Waiting, Ready, Told}
-use Rattle.tmw_ring_defs.specs.declared.ring_step.Reply.{Reply}
-use Rattle.tmw_ring_defs.specs.declared.ring_step.Reply.TheVariants.{Ready as IsReady, NotReady, Word, Taken}
+use Rattle.tmw_ring_defs.proofs.Shared.{Bool, Core, Event, HasRead, IsPublished, List, ReaderPhase, Ready, Reply, Some, Sound, Spares, Stepped, Told, Waiting, [], ap, arith, cases_lt, cell_at, eqb-true, false, free_step, get_or, get_or_from_slice_get, if◌then◌else◌, inl, inr, length, length_push, none-some, packed_header, peek_step, read_step, refl, slice_get_within, some_pair_parts, subst, sym, take, take_more, true, unpacked, unpacked-pack, ℕ, ◌++◌, ◌+◌, ◌<◌, ◌==◌, ◌∙◌, ◌∷◌, ◌≡◌, ◌≢◌, ◌≤◌}
 use Rattle.tmw_ring_defs.proofs.RingPlaces.{published_still, holds_still, read_still}
 use Rattle.tmw_ring_defs.proofs.RingStores.{stamp_low}
+use Rattle.tmw_ring_defs.specs.declared.ring_step.Reply.TheVariants.{Ready as IsReady, NotReady, Word, Taken}
 
 -- The reader goes on to another phase, having read what it says.
 reader_keeps : (core : Core) (phase : ReaderPhase) → Sound core → HasRead core phase

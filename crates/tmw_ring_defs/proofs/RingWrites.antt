@@ -1,16 +1,5 @@
 -- A store to the cell of a place by the writer that holds it leaves a sound state, if it does so at that place.
-use Rattle.std.proofs.Common.{◌≡◌, ◌≢◌, ◌+◌, ◌%◌, ◌<◌, ◌≤◌, ℕ, Bool, refl, sym, ◌∙◌, subst, inl, inr, ◌⊎◌, arith}
-use Rattle.std.specs.Prelude.{slice_set}
-use Rattle.std.proofs.lemmas.Bool.{cases_eq}
-use Rattle.std.proofs.lemmas.List.{length-set}
-use Rattle.std.proofs.lemmas.List.Elements.{All-set}
-use Rattle.tmw_events.specs.declared.event.Kind.{Kind}
-use Rattle.tmw_ring_defs.specs.Ring.{Core}
-use Rattle.tmw_ring_defs.specs.RingSound.{Sound, Spares, IsIn, IsHeld, IsPublished, Holds, cleared, one_if_cleared}
-use Rattle.tmw_ring_defs.specs.RingSteps.{cell_at, with_cell, with_phase}
-use Rattle.tmw_ring_defs.specs.declared.ring_cell.RingCell.{RingCell}
-use Rattle.tmw_ring_defs.specs.declared.ring_phase.WriterPhase.{WriterPhase}
-use Rattle.tmw_ring_defs.specs.declared.ring_phase.WriterPhase.TheVariants.{Looked, Claimed}
+use Rattle.tmw_ring_defs.proofs.Shared.{All-set, Bool, Claimed, Core, Holds, IsHeld, IsIn, IsPublished, Kind, Looked, RingCell, Sound, Spares, WriterPhase, arith, cases_eq, cell_at, cleared, inl, inr, length-set, one_if_cleared, refl, slice_set, subst, sym, with_cell, with_phase, ℕ, ◌%◌, ◌+◌, ◌<◌, ◌∙◌, ◌≡◌, ◌≢◌, ◌≤◌, ◌⊎◌}
 use Rattle.tmw_ring_defs.proofs.RingPhases.{phase_kept, phase_cases, two_writers, claimed_parts, cleared-set}
 use Rattle.tmw_ring_defs.proofs.RingPlaces.{published_still, holds_still, read_still}
 use Rattle.tmw_ring_defs.proofs.RingStores.{logged_below, held_stands, length-set_cell, cell_spared}

@@ -1,20 +1,6 @@
 -- Whose steps a run has: each is the reader's or one of the ring's writers', and who makes the last step knows the whole run.
-use Rattle.std.proofs.Common.{◌≡◌, ◌≢◌, ◌==◌, ◌⊎◌, ◌++◌, ◌+◌, ◌≤◌, ◌<◌, ℕ, Bool, true, false, List, [], ◌∷◌, length, Some, refl, sym, ap, ◌∙◌, subst, append_assoc, append-nil, eq-eqb, ne_eqb, inl, inr, arith, if◌then◌else◌}
-use Rattle.std.proofs.lemmas.List.{length_push}
-use Rattle.std.proofs.lemmas.Option.{none-some, option_and_then_some, slice_get_within}
-use Rattle.std.specs.Prelude.{slice_get}
+use Rattle.tmw_ring_defs.proofs.Shared.{Answered, Bool, Claim, Core, Fill, Free, Front, Gone, Ix, List, NoneOf, Peek, Publish, Read, Reply, RingSize, Runs, Some, Sound, Step, StepLaw, Stepped, Stop, Tail, WriterPhase, [], actor_of, ap, append-nil, append_assoc, arith, by_writer, claim_step, core_step, eq-eqb, false, fill_step, front_step, if◌then◌else◌, inl, inr, length, length_push, ne_eqb, new_core, none-some, option_and_then_some, own, publish_step, refl, slice_get, slice_get_within, subst, sym, tail_step, true, ℕ, ◌++◌, ◌+◌, ◌<◌, ◌==◌, ◌∙◌, ◌∷◌, ◌≡◌, ◌≢◌, ◌≤◌, ◌⊎◌}
 use native.Mathlib.Decide.{ℕ_discrete}
-use Rattle.tmw_events.specs.declared.ix.Ix.{Ix}
-use Rattle.tmw_ring_defs.specs.Ring.{Core, new_core}
-use Rattle.tmw_ring_defs.specs.RingSound.{Sound, StepLaw}
-use Rattle.tmw_ring_defs.specs.RingSteps.{Stepped, core_step, by_writer, front_step, tail_step, claim_step, fill_step, publish_step}
-use Rattle.tmw_ring_defs.specs.Runs.{actor_of, own, NoneOf, Runs, Gone}
-use Rattle.tmw_ring_defs.specs.declared.ring_phase.WriterPhase.{WriterPhase}
-use Rattle.tmw_ring_defs.specs.declared.ring_size.RingSize.{RingSize}
-use Rattle.tmw_ring_defs.specs.declared.ring_step.Answered.{Answered}
-use Rattle.tmw_ring_defs.specs.declared.ring_step.Reply.{Reply}
-use Rattle.tmw_ring_defs.specs.declared.ring_step.Step.{Step}
-use Rattle.tmw_ring_defs.specs.declared.ring_step.Step.TheVariants.{Front, Tail, Claim, Fill, Publish, Peek, Read, Free, Stop}
 use Rattle.tmw_ring_defs.proofs.RingSizes.{SameSize, core_step-size}
 use Rattle.tmw_ring_defs.proofs.RunsProof.{own-append, runs-cut, runs-sound}
 

@@ -1,20 +1,7 @@
 -- What a step adds to tail and to front, and that a writer which looks at front sees none that was there before.
-use Rattle.std.proofs.Common.{◌≡◌, ◌⊎◌, ◌==◌, ◌+◌, ◌≤◌, ℕ, Bool, true, false, List, Option, Some, None, inl, inr, arith, slice_get, slice_set, option_and_then, if◌then◌else◌}
-use Rattle.tmw_events.specs.declared.event.Kind.{Kind}
-use Rattle.tmw_events.specs.declared.ix.Ix.{Ix}
+use Rattle.tmw_ring_defs.proofs.Shared.{Bool, Claim, Claimed, Cleared, Core, Fill, Free, Front, Idle, Ix, Kind, List, Looked, None, Option, Peek, Publish, Read, ReaderPhase, Ready, Some, Step, Stepped, Stop, Tail, Told, Waiting, WriterPhase, actor_of, arith, by_writer, cell_at, claim_step, claims, core_step, false, fill_step, free_step, frees, front_step, if◌then◌else◌, inl, inr, is_full, is_spent, option_and_then, peek_step, publish_step, read_step, room_phase, slice_get, slice_set, tail_step, true, ℕ, ◌+◌, ◌==◌, ◌≡◌, ◌≤◌, ◌⊎◌}
 use Rattle.tmw_ring_defs.proofs.RingPhases.{phase_cases}
-use Rattle.tmw_ring_defs.specs.Ring.{Core}
-use Rattle.tmw_ring_defs.specs.RingSteps.{Stepped, cell_at, front_step, tail_step, claim_step, fill_step, publish_step, peek_step, read_step, free_step, by_writer, core_step}
-use Rattle.tmw_ring_defs.specs.Room.{is_spent, is_full, room_phase}
-use Rattle.tmw_ring_defs.specs.RoomLaw.{claims, frees}
-use Rattle.tmw_ring_defs.specs.Runs.{actor_of}
-use Rattle.tmw_ring_defs.specs.declared.ring_phase.ReaderPhase.{ReaderPhase}
-use Rattle.tmw_ring_defs.specs.declared.ring_phase.ReaderPhase.TheVariants.{Waiting, Ready, Told}
-use Rattle.tmw_ring_defs.specs.declared.ring_phase.WriterPhase.{WriterPhase}
-use Rattle.tmw_ring_defs.specs.declared.ring_phase.WriterPhase.TheVariants.{Idle, Looked, Cleared, Claimed}
 use Rattle.tmw_ring_defs.specs.declared.ring_step.Reply.TheVariants.{Ready as IsReady, NotReady}
-use Rattle.tmw_ring_defs.specs.declared.ring_step.Step.{Step}
-use Rattle.tmw_ring_defs.specs.declared.ring_step.Step.TheVariants.{Front, Tail, Claim, Fill, Publish, Peek, Read, Free, Stop}
 
 -- If this phase looked at front, it saw at least so much.
 abbrev pub SawFrom : ℕ → WriterPhase → Type 0

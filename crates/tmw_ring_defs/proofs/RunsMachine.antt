@@ -1,19 +1,7 @@
 -- A run of a new ring is one of its machine, of which no writer stops.
-use Rattle.std.proofs.Common.{◌≡◌, ◌≤◌, ◌<◌, ℕ, zero, suc, false, true, List, [], ◌∷◌, Some, get_or, replicate, refl, sym, ap, ◌∙◌, subst, arith}
-use Rattle.std.proofs.lemmas.Option.{none-some}
+use Rattle.tmw_ring_defs.proofs.Shared.{Answered, Claim, Core, Fill, Free, Front, IsOneLog, List, Machine, OneRunLaw, Peek, Publish, Read, Reply, RingSize, Runs, Some, Sound, Step, StepLaw, Stop, Tail, [], actor_of, after, answered, ap, arith, core_step, false, get_or, machine_step, new_core, new_machine, none-some, refl, replicate, replies, replies_of, steps_of, subst, suc, sym, true, zero, ℕ, ◌<◌, ◌∙◌, ◌∷◌, ◌≡◌, ◌≤◌}
 use Rattle.tmw_ring_defs.proofs.OneLogProof.{one_log_law}
 use Rattle.tmw_ring_defs.proofs.RunsActors.{among, same_size}
-use Rattle.tmw_ring_defs.specs.OneLog.{IsOneLog, steps_of, replies_of, OneRunLaw}
-use Rattle.tmw_ring_defs.specs.Ring.{Core, new_core}
-use Rattle.tmw_ring_defs.specs.RingMachine.{Machine, new_machine, answered, machine_step, after, replies}
-use Rattle.tmw_ring_defs.specs.RingSound.{Sound, StepLaw}
-use Rattle.tmw_ring_defs.specs.RingSteps.{core_step}
-use Rattle.tmw_ring_defs.specs.Runs.{actor_of, Runs}
-use Rattle.tmw_ring_defs.specs.declared.ring_size.RingSize.{RingSize}
-use Rattle.tmw_ring_defs.specs.declared.ring_step.Answered.{Answered}
-use Rattle.tmw_ring_defs.specs.declared.ring_step.Reply.{Reply}
-use Rattle.tmw_ring_defs.specs.declared.ring_step.Step.{Step}
-use Rattle.tmw_ring_defs.specs.declared.ring_step.Step.TheVariants.{Front, Tail, Claim, Fill, Publish, Peek, Read, Free, Stop}
 
 -- The machine of a ring in this state, of which no writer has stopped.
 abbrev unstopped : RingSize → Core → Machine

@@ -1,15 +1,5 @@
 -- Runs join end to end, lead to one state each, and are told apart by whose steps they have.
-use Rattle.std.proofs.Common.{◌≡◌, ◌≢◌, ◌==◌, ◌++◌, ℕ, Bool, true, false, List, [], ◌∷◌, refl, sym, ap, ◌∙◌, subst, append_assoc, append-nil, eq-eqb, ne_eqb, if◌then◌else◌}
-use Rattle.std.proofs.lemmas.Option.{some_pair_parts}
-use Rattle.std.specs.Option.{option_and_then}
-use Rattle.tmw_events.specs.declared.ix.Ix.{Ix}
-use Rattle.tmw_ring_defs.specs.Ring.{Core}
-use Rattle.tmw_ring_defs.specs.RingSound.{IsIn, Sound, StepLaw}
-use Rattle.tmw_ring_defs.specs.RingSteps.{Stepped, by_writer}
-use Rattle.tmw_ring_defs.specs.Runs.{actor_of, own, NoneOf, Runs, Gone, HasMade}
-use Rattle.tmw_ring_defs.specs.declared.ring_phase.WriterPhase.{WriterPhase}
-use Rattle.tmw_ring_defs.specs.declared.ring_size.RingSize.{RingSize}
-use Rattle.tmw_ring_defs.specs.declared.ring_step.Answered.{Answered}
+use Rattle.tmw_ring_defs.proofs.Shared.{Answered, Bool, Core, Gone, HasMade, IsIn, Ix, List, NoneOf, RingSize, Runs, Sound, StepLaw, Stepped, WriterPhase, [], actor_of, ap, append-nil, append_assoc, by_writer, eq-eqb, false, if◌then◌else◌, ne_eqb, option_and_then, own, refl, some_pair_parts, subst, sym, true, ℕ, ◌++◌, ◌==◌, ◌∙◌, ◌∷◌, ◌≡◌, ◌≢◌}
 
 -- The own steps of two runs in a row are those of the first and then those of the second.
 pub own-append : (actor : ℕ) (past rest : List Answered) → own actor (past ++ rest) ≡ own actor past ++ own actor rest

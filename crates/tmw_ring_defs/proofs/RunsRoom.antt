@@ -1,27 +1,11 @@
 -- Room for several records holds good until so many places more are claimed.
-use Rattle.std.proofs.Common.{◌≡◌, ◌≢◌, ◌==◌, ◌++◌, ◌+◌, ◌-◌, ◌≤◌, ℕ, Bool, true, false, List, [], ◌∷◌, length, Some, inl, inr, refl, sym, ap, ◌∙◌, subst, arith, slice_get, if◌then◌else◌}
-use Rattle.std.proofs.lemmas.Bool.{eqb-true, false_from_ne_true, ltb-false, ltb-true}
-use Rattle.std.proofs.lemmas.Option.{none-some, option_and_then_some, some_pair_parts}
-use Rattle.tmw_events.specs.declared.event.Event.{Event}
-use Rattle.tmw_events.specs.declared.ix.Ix.{Ix}
+use Rattle.tmw_ring_defs.proofs.Shared.{Answered, Bool, Claimed, Cleared, Core, Event, HasRoomFor, Idle, IsRunTo, Ix, List, Looked, Reply, RingSize, RoomLaw, Runs, Some, Sound, Tail, WriterPhase, [], actor_of, ap, arith, core_step, eqb-true, false, false_from_ne_true, if◌then◌else◌, inl, inr, is_full, is_spent, last_tail, length, ltb-false, ltb-true, new_core, none-some, option_and_then_some, own, places_claimed, places_freed, refl, room_phase, room_reply, slice_get, some_pair_parts, subst, sym, tail_step, true, with_phase, ℕ, ◌++◌, ◌+◌, ◌-◌, ◌==◌, ◌∙◌, ◌∷◌, ◌≡◌, ◌≢◌, ◌≤◌}
 use Rattle.tmw_ring_defs.proofs.RingLaw.{step_law}
 use Rattle.tmw_ring_defs.proofs.RingStart.{new_core-sound}
 use Rattle.tmw_ring_defs.proofs.RunsActors.{runs-size}
 use Rattle.tmw_ring_defs.proofs.RunsCounts.{LooksFrom, SawFrom, Counts, CountsIn, core_step-counts}
 use Rattle.tmw_ring_defs.proofs.RunsProof.{runs-cut, runs-sound}
-use Rattle.tmw_ring_defs.specs.Ring.{Core, new_core}
-use Rattle.tmw_ring_defs.specs.RingSound.{Sound}
-use Rattle.tmw_ring_defs.specs.RingSteps.{core_step, tail_step, with_phase}
-use Rattle.tmw_ring_defs.specs.Room.{is_spent, is_full, room_phase, room_reply, last_tail, HasRoomFor}
-use Rattle.tmw_ring_defs.specs.RoomLaw.{places_claimed, places_freed, RoomLaw}
-use Rattle.tmw_ring_defs.specs.Runs.{actor_of, own, IsRunTo, Runs}
-use Rattle.tmw_ring_defs.specs.declared.ring_phase.WriterPhase.{WriterPhase}
-use Rattle.tmw_ring_defs.specs.declared.ring_phase.WriterPhase.TheVariants.{Idle, Looked, Cleared, Claimed}
-use Rattle.tmw_ring_defs.specs.declared.ring_size.RingSize.{RingSize}
-use Rattle.tmw_ring_defs.specs.declared.ring_step.Answered.{Answered}
-use Rattle.tmw_ring_defs.specs.declared.ring_step.Reply.{Reply}
 use Rattle.tmw_ring_defs.specs.declared.ring_step.Reply.TheVariants.{Cleared as IsCleared}
-use Rattle.tmw_ring_defs.specs.declared.ring_step.Step.TheVariants.{Tail}
 
 step-counts : (core next : Core) (first : Answered) → core_step first.step core ≡ Some (first.reply, next) → Counts first.step core next
 step-counts core next first is = subst (CountsIn first.step core) is (core_step-counts first.step core)

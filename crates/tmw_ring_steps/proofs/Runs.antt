@@ -1,17 +1,9 @@
 -- A run of steps so far, one step more, and that it goes on as one log.
-use Rattle.std.proofs.Common.{◌≡◌, ◌+◌, ◌++◌, ◌≤◌, ℕ, List, [], ◌∷◌, length, take, length-append, refl, sym, ap, ◌∙◌, subst, arith}
-use Rattle.std.proofs.lemmas.List.{length-take-le}
+use Rattle.tmw_ring_steps.proofs.Shared.{GoesOnAsOneLog, List, Machine, RanFirst, Reply, Simulated, Sound, Spares, Step, [], after, ap, arith, length, length-append, length-take-le, machine_step, new_core-sound, new_machine, refl, replies, subst, sym, take, ℕ, ◌++◌, ◌+◌, ◌∙◌, ◌∷◌, ◌≡◌, ◌≤◌}
 use Rattle.tmw_ring_defs.proofs.MachineProof.{machine_step-sound, after-append, replies-append}
 use Rattle.tmw_ring_defs.proofs.OneLogProof.{one_log_law}
 use Rattle.tmw_ring_defs.proofs.RingLaw.{step_law}
-use Rattle.tmw_ring_defs.proofs.RingStart.{new_core-sound}
 use Rattle.tmw_ring_defs.specs.OneLog.{IsOneLog}
-use Rattle.tmw_ring_defs.specs.RingMachine.{Machine, new_machine, machine_step, after, replies}
-use Rattle.tmw_ring_defs.specs.RingSound.{Sound, Spares}
-use Rattle.tmw_ring_defs.specs.declared.ring_step.Reply.{Reply}
-use Rattle.tmw_ring_defs.specs.declared.ring_step.Step.{Step}
-use Rattle.tmw_ring_steps.specs.Runs.{GoesOnAsOneLog, RanFirst}
-use Rattle.tmw_ring_steps.specs.Simulated.{Simulated}
 
 -- a machine that a step made, so answered
 pub made_sound : (step : Step) (old new : Machine) (reply : Reply) → (reply, new) ≡ machine_step step old → Sound old.core

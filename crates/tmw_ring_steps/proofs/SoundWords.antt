@@ -1,5 +1,5 @@
 -- What the words of a sound ring are: a claimed place is small, and what the reader has read is an event's.
-use Rattle.std.proofs.Common.{◌≡◌, ◌+◌, ◌<◌, ◌^◌, ◌++◌, ℕ, Bool, [], ◌∷◌, length, ap, subst, arith}
+use Rattle.tmw_ring_steps.proofs.Shared.{Bool, HasRead, IsIn, Machine, Reply, Sound, [], answered, ap, arith, length, subst, ℕ, ◌++◌, ◌+◌, ◌<◌, ◌^◌, ◌∷◌, ◌≡◌}
 use Rattle.std.proofs.lemmas.Option.{slice_get_within}
 use Rattle.tmw_events.proofs.Unpacks.{unpacked-words, pack-words}
 use Rattle.tmw_events.specs.Packing.{pack, kind_value}
@@ -9,13 +9,10 @@ use Rattle.tmw_events.specs.declared.event.Event.{Event}
 use Rattle.tmw_events.specs.declared.event.Kind.{Kind}
 use Rattle.tmw_events.specs.declared.event.Kind.TheVariants.{R, V, W, K, T, C, X, A, N}
 use Rattle.tmw_ring_defs.specs.Ring.{Core}
-use Rattle.tmw_ring_defs.specs.RingMachine.{Machine, answered}
-use Rattle.tmw_ring_defs.specs.RingSound.{Sound, IsIn, HasRead}
 use Rattle.tmw_ring_defs.specs.RingSteps.{core_step}
 use Rattle.tmw_ring_defs.specs.declared.ring_phase.ReaderPhase.TheVariants.{Waiting, Told}
 use Rattle.tmw_ring_defs.specs.declared.ring_phase.WriterPhase.{WriterPhase}
 use Rattle.tmw_ring_defs.specs.declared.ring_phase.WriterPhase.TheVariants.{Claimed}
-use Rattle.tmw_ring_defs.specs.declared.ring_step.Reply.{Reply}
 use Rattle.tmw_ring_defs.specs.declared.ring_step.Reply.TheVariants.{Taken}
 use Rattle.tmw_ring_defs.specs.declared.ring_step.Step.TheVariants.{Free}
 

@@ -1,11 +1,5 @@
 -- The calls of scripts: those of transactions are calls, and what is left of calls are calls.
-use Rattle.std.proofs.Common.{ℕ, List, [], ◌∷◌, IsTrue, refl}
-use Rattle.std.specs.List.{list_all}
-use Rattle.std.proofs.lemmas.Bool.{and_parts, and_from}
-use Rattle.tmw_events.specs.declared.event.Kind.{Kind}
-use Rattle.tmw_events.specs.declared.event.Kind.TheVariants.{R, W, T, X, A, N}
-use Rattle.tmw_defs.specs.History.{is_call, answers}
-use Rattle.tmw_runs.specs.Scripts.{is_operation, is_request, is_transaction, are_transactions, are_calls}
+use Rattle.tmw_runs.proofs.Shared.{A, IsTrue, Kind, List, N, R, T, W, X, [], and_from, and_parts, answers, are_calls, are_transactions, is_call, is_operation, is_request, is_transaction, list_all, refl, ℕ, ◌∷◌}
 
 -- a call may be answered by an abort event
 pub answers_abort : (registers : ℕ) (call : Kind) → IsTrue (is_call registers call) → IsTrue (answers call A)
@@ -46,12 +40,6 @@ are_calls-transactions registers (calls ∷ script) asks =
 pub are_calls_first : (registers : ℕ) (call : Kind) (calls : List Kind) (later : List (List Kind))
     → IsTrue (are_calls registers ((call ∷ calls) ∷ later)) → IsTrue (is_call registers call)
 are_calls_first registers call calls later asks = (and_parts _ _ (and_parts _ _ asks).0).0
-
-pub are_calls_rest : (registers : ℕ) (call : Kind) (calls : List Kind) (later : List (List Kind))
-    → IsTrue (are_calls registers ((call ∷ calls) ∷ later)) → IsTrue (are_calls registers (calls ∷ later))
-are_calls_rest registers call calls later asks =
-    let (first, rest) = and_parts (list_all (is_call registers) (call ∷ calls)) _ asks in
-    and_from _ _ (and_parts (is_call registers call) _ first).1 rest
 
 pub are_calls_later : (registers : ℕ) (calls : List Kind) (later : List (List Kind))
     → IsTrue (are_calls registers (calls ∷ later)) → IsTrue (are_calls registers later)

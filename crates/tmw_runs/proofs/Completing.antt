@@ -1,20 +1,9 @@
 -- What is recorded by turns begins a run: there is a text that completes it.
-use Rattle.std.proofs.Common.{◌≡◌, ◌<◌, ◌+◌, ◌++◌, ℕ, zero, suc, true, List, [], ◌∷◌, IsTrue, length, get_or, drop, refl, sym, ap, subst, ◌∙◌, arith, append_assoc}
-use Rattle.std.specs.List.{list_all}
-use Rattle.std.proofs.lemmas.Bool.{and_parts}
-use Rattle.std.proofs.lemmas.List.{append-nil, drop_more}
+use Rattle.tmw_runs.proofs.Shared.{A, BeginsScript, Follows, FormedLaw, IsByTurns, IsTrue, IsWholeRun, IsWholeText, Kind, List, OverLaw, StepLaw, [], and_parts, answers, ap, append-nil, append_assoc, are_calls, arith, drop, drop_more, get_or, is_call, kinds_of, length, list_all, refl, subst, suc, sym, true, zero, ℕ, ◌++◌, ◌+◌, ◌<◌, ◌∙◌, ◌∷◌, ◌≡◌}
 use Rattle.std.proofs.lemmas.List.Folds.{list_all-append}
-use Rattle.tmw_defs.specs.History.{answers, is_call}
-use Rattle.tmw_defs.specs.Texts.{kinds_of}
-use Rattle.tmw_events.specs.declared.event.Kind.{Kind}
-use Rattle.tmw_events.specs.declared.event.Kind.TheVariants.{A}
 use Rattle.tmw_runs.proofs.Calls.{answers_abort, are_calls-transactions}
 use Rattle.tmw_runs.proofs.LongerRuns.{whole_run-more}
 use Rattle.tmw_runs.proofs.NeverMalformed.{formed_law}
-use Rattle.tmw_runs.specs.Law.{FormedLaw, OverLaw, StepLaw}
-use Rattle.tmw_runs.specs.Runs.{BeginsScript, IsWholeRun, IsWholeText}
-use Rattle.tmw_runs.specs.Scripts.{are_calls}
-use Rattle.tmw_runs.specs.Turning.{Follows, IsByTurns}
 
 -- calls have a whole text: the first is answered by an abort event
 pub some_text : (registers : ℕ) (calls : List Kind) → IsTrue (list_all (is_call registers) calls) → (text : List Kind) × IsWholeText calls text

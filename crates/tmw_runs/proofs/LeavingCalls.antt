@@ -1,12 +1,5 @@
 -- What a transaction leaves after one more call and its answer.
-use Rattle.std.proofs.Common.{◌≡◌, ◌+◌, ◌<◌, ◌++◌, ℕ, true, false, List, [], ◌∷◌, length, drop, get_or, refl, sym, subst}
-use Rattle.std.specs.Prelude.{MatchBool}
-use Rattle.std.proofs.lemmas.List.{append_assoc, append-nil, drop_more}
-use Rattle.tmw_defs.specs.History.{answers}
-use Rattle.tmw_events.specs.declared.event.Kind.{Kind}
-use Rattle.tmw_events.specs.declared.event.Kind.TheVariants.{A}
-use Rattle.tmw_runs.specs.Runs.{IsWholeText, is_abort}
-use Rattle.tmw_runs.specs.Turning.{LeavesCalls}
+use Rattle.tmw_runs.proofs.Shared.{A, IsWholeText, Kind, LeavesCalls, List, MatchBool, [], answers, append-nil, append_assoc, drop, drop_more, false, get_or, is_abort, length, refl, subst, sym, true, ℕ, ◌++◌, ◌+◌, ◌<◌, ◌∷◌, ◌≡◌}
 
 -- the answer is no abort event
 pub leaves-answered : (calls : List Kind) (place : ℕ) (answer : Kind) (kinds : List Kind) → place < length calls

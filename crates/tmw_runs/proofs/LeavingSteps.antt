@@ -1,13 +1,6 @@
 -- What a script leaves, step by step, and what a thread's events are to the script by what it leaves.
-use Rattle.std.proofs.Common.{◌≡◌, ◌++◌, ℕ, true, false, List, [], ◌∷◌, IsTrue, refl, sym, ap, subst, append_assoc}
-use Rattle.std.specs.Prelude.{MatchBool}
-use Rattle.std.proofs.lemmas.List.{append-nil}
-use Rattle.tmw_events.specs.declared.event.Kind.{Kind}
-use Rattle.tmw_events.specs.declared.event.Kind.TheVariants.{A}
-use Rattle.tmw_defs.specs.History.{answers}
+use Rattle.tmw_runs.proofs.Shared.{A, IsBeginning, IsTrue, IsWholeRun, IsWholeText, Kind, List, MatchBool, [], answers, ap, append-nil, append_assoc, are_calls, false, is_abort, refl, subst, sym, true, ℕ, ◌++◌, ◌∷◌, ◌≡◌}
 use Rattle.tmw_runs.specs.Leaving.{Leaves}
-use Rattle.tmw_runs.specs.Runs.{is_abort, IsWholeText, IsWholeRun, IsBeginning}
-use Rattle.tmw_runs.specs.Scripts.{are_calls}
 use Rattle.tmw_runs.proofs.Calls.{answers_abort, are_calls_first, are_calls_later}
 use Rattle.tmw_runs.proofs.WholeRuns.{runs_law}
 
@@ -100,13 +93,4 @@ not_whole registers script kinds call calls later asks leaves whole =
     let (more, run) = after_call registers script kinds call calls later asks leaves in
     let longer : IsWholeRun script (kinds ++ call ∷ A ∷ more) = subst (IsWholeRun script) (append_assoc kinds (call ∷ []) (A ∷ more)) run in
     let over : call ∷ A ∷ more ≡ [] = runs_law script kinds (call ∷ A ∷ more) whole longer in
-    absurd (cc)
-
--- nor are they with the call after them, until it is answered
-pub pending_not_whole : (registers : ℕ) (script : List (List Kind)) (kinds : List Kind) (call : Kind) (calls : List Kind) (later : List (List Kind))
-    → IsTrue (are_calls registers ((call ∷ calls) ∷ later)) → Leaves script kinds ((call ∷ calls) ∷ later)
-    → IsWholeRun script (kinds ++ call ∷ []) → ⊥
-pending_not_whole registers script kinds call calls later asks leaves whole =
-    let (more, run) = after_call registers script kinds call calls later asks leaves in
-    let over : A ∷ more ≡ [] = runs_law script (kinds ++ call ∷ []) (A ∷ more) whole run in
     absurd (cc)

@@ -5,6 +5,7 @@ pub mod LeavingSteps
 pub mod LongerRuns
 pub mod NeverMalformed
 mod Placed
+mod Shared
 pub mod StandingSteps
 pub mod TurnsOfRuns
 pub mod WellFormed

@@ -1,8 +1,5 @@
 -- Whole runs, one after another.
-use Rattle.std.proofs.Common.{◌++◌, List, [], ◌∷◌, refl, sym, ap, ◌∙◌, subst, append_assoc}
-use Rattle.std.proofs.lemmas.List.{append-nil}
-use Rattle.tmw_events.specs.declared.event.Kind.{Kind}
-use Rattle.tmw_runs.specs.Runs.{IsWholeRun, IsWholeText}
+use Rattle.tmw_runs.proofs.Shared.{IsWholeRun, IsWholeText, Kind, List, [], ap, append-nil, append_assoc, refl, subst, sym, ◌++◌, ◌∙◌, ◌∷◌}
 
 -- one whole run after another
 pub whole_run-append : (script more : List (List Kind)) (kinds later : List Kind) → IsWholeRun script kinds → IsWholeRun more later

@@ -1,14 +1,8 @@
 -- The history of threads that carry out scripts is never malformed.
-use Rattle.std.proofs.Common.{◌≡◌, ℕ, List, take, IsTrue, subst}
-use Rattle.std.proofs.lemmas.Bool.{both_ways}
-use Rattle.tmw_events.specs.declared.event.Event.{Event}
+use Rattle.tmw_runs.proofs.Shared.{BeginsScript, Event, FormedLaw, IsTrue, List, both_ways, is_well_formed, kinds_of, subst, take, ℕ, ◌≡◌}
 use Rattle.tmw_defs.specs.declared.verdict.Verdict.{Verdict}
 use Rattle.tmw_defs.specs.declared.verdict.Verdict.TheVariants.{Malformed}
-use Rattle.tmw_defs.specs.History.{is_well_formed}
-use Rattle.tmw_defs.specs.Texts.{kinds_of}
 use Rattle.tmw_defs.specs.Verdict.{Rules, IsVerdict}
-use Rattle.tmw_runs.specs.Law.{FormedLaw}
-use Rattle.tmw_runs.specs.Runs.{BeginsScript}
 use Rattle.tmw_runs.proofs.Calls.{are_calls-transactions}
 use Rattle.tmw_runs.proofs.TurnsOfRuns.{beginning_turns}
 use Rattle.tmw_runs.proofs.WellFormed.{is_well_formed-turns_take}

@@ -1,12 +1,5 @@
 -- Calls that are each at their place.
-use Rattle.std.proofs.Common.{◌≡◌, ◌<◌, ◌+◌, ℕ, suc, true, List, [], ◌∷◌, IsTrue, length, get_or, refl, subst, arith}
-use Rattle.std.proofs.lemmas.Bool.{and_from}
-use Rattle.tmw_defs.specs.History.{is_call}
-use Rattle.tmw_events.specs.declared.event.Kind.{Kind}
-use Rattle.tmw_events.specs.declared.event.Kind.TheVariants.{R, W, T, X, A, N}
-use Rattle.tmw_runs.specs.Scripts.{is_operation, is_request, is_transaction}
-use Rattle.tmw_runs.specs.Law.{PlacedLaw}
-use Rattle.tmw_runs.specs.Turning.{IsPlaced}
+use Rattle.tmw_runs.proofs.Shared.{A, IsPlaced, IsTrue, Kind, List, N, PlacedLaw, R, T, W, X, [], and_from, arith, get_or, is_call, is_operation, is_request, is_transaction, length, refl, subst, suc, true, ℕ, ◌+◌, ◌<◌, ◌∷◌, ◌≡◌}
 
 -- a call that asks neither to commit nor to abort
 operates : (registers : ℕ) (call : Kind) → is_call registers call ≡ true → (is_request call ≡ true → ⊥) → is_operation registers call ≡ true

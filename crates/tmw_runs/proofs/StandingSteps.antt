@@ -1,13 +1,5 @@
 -- Answers that stand so far, step by step.
-use Rattle.std.proofs.Common.{◌++◌, Bool, true, List, [], ◌∷◌, inl, inr, sym, subst, append_assoc}
-use Rattle.std.proofs.lemmas.List.{append-nil}
-use Rattle.tmw_events.specs.declared.event.Kind.{Kind}
-use Rattle.tmw_events.specs.declared.event.Kind.TheVariants.{R, V, W, K, T, C, X, A, N}
-use Rattle.tmw_defs.specs.History.{ends}
-use Rattle.tmw_tm.specs.Answers.{Call, Answer}
-use Rattle.tmw_tm.specs.Answers.Call.{Begin, Read, Write, Add, Commit}
-use Rattle.tmw_tm.specs.Answers.Answer.{Value, Done, Abort}
-use Rattle.tmw_runs.specs.Standing.{Gives, Stands, AllStand, StandsSoFar}
+use Rattle.tmw_runs.proofs.Shared.{A, Abort, Add, AllStand, Answer, Begin, Bool, C, Call, Commit, Done, Gives, K, Kind, List, N, R, Read, Stands, StandsSoFar, T, V, Value, W, Write, X, [], append-nil, append_assoc, ends, inl, inr, subst, sym, true, ◌++◌, ◌∷◌}
 
 -- at the start the next call is the first of its transaction
 pub so_far_none : (gives : Call → Answer → Type 0) → StandsSoFar gives [] true

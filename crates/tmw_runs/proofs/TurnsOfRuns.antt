@@ -1,12 +1,5 @@
 -- The events of a thread that carries a script out are calls and answers in turn.
-use Rattle.std.proofs.Common.{◌&&◌, ◌++◌, ℕ, List, [], ◌∷◌, IsTrue, refl, sym, ap, subst, ◌∙◌, inl, inr}
-use Rattle.std.specs.List.{list_all}
-use Rattle.std.proofs.lemmas.Bool.{cases_Bool, and_parts, and_from, MatchBool-at_true, MatchBool-at_false}
-use Rattle.tmw_events.specs.declared.event.Kind.{Kind}
-use Rattle.tmw_defs.specs.History.{is_call, answers}
-use Rattle.tmw_runs.specs.Runs.{is_abort, IsWholeText, IsWholeRun, IsBeginning}
-use Rattle.tmw_runs.specs.Scripts.{are_calls}
-use Rattle.tmw_runs.specs.Turns.{is_turns}
+use Rattle.tmw_runs.proofs.Shared.{IsBeginning, IsTrue, IsWholeRun, IsWholeText, Kind, List, MatchBool-at_false, MatchBool-at_true, [], and_from, and_parts, answers, ap, are_calls, cases_Bool, inl, inr, is_abort, is_call, is_turns, list_all, refl, subst, sym, ℕ, ◌&&◌, ◌++◌, ◌∙◌, ◌∷◌}
 
 -- the front of turns is turns
 pub is_turns_front : (registers : ℕ) (front back : List Kind) → IsTrue (is_turns registers (front ++ back))

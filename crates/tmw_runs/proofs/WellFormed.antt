@@ -1,17 +1,7 @@
 -- A history is well-formed where the events of each thread are calls and answers in turn.
-use Rattle.std.proofs.Common.{◌≡◌, ◌==◌, ◌&&◌, ◌++◌, ℕ, Bool, true, not, List, [], ◌∷◌, map, take, drop, IsTrue, refl, sym, ap, ◌∙◌, inl, inr}
-use Rattle.std.specs.Prelude.{filter}
-use Rattle.std.specs.List.{list_all}
-use Rattle.std.proofs.lemmas.Bool.{cases_Bool, and_parts, and_from, eq-eqb}
-use Rattle.std.proofs.lemmas.List.{map-append, take-append-drop}
-use Rattle.std.proofs.lemmas.List.Elements.{filter-append}
-use Rattle.tmw_events.specs.declared.event.Event.{Event}
-use Rattle.tmw_events.specs.declared.event.Kind.{Kind}
-use Rattle.tmw_events.specs.declared.event.Kind.TheVariants.{C, A}
-use Rattle.tmw_defs.specs.History.{Txn, is_call, answers, ends, is_text, is_ended, transactions, is_well_formed}
-use Rattle.tmw_defs.specs.Texts.{kinds_of, of_thread, joined_texts, ended_but_last, open_but_last, AreTransactions}
+use Rattle.tmw_runs.proofs.Shared.{A, All, AreTransactions, Bool, C, Event, IsTrue, Kind, List, Txn, [], and_from, and_parts, answers, ap, arith, cases_Bool, drop, ended_but_last, ends, eq-eqb, filter, inl, inr, is_call, is_ended, is_text, is_turns, is_well_formed, joined_texts, kinds_of, list_all, map, map-append, ne_eqb, not, of_thread, open_but_last, refl, sym, take, take-append-drop, transactions, true, ℕ, ◌&&◌, ◌++◌, ◌<◌, ◌==◌, ◌∙◌, ◌∷◌, ◌≡◌, ◌≤◌}
+use Rattle.std.proofs.lemmas.List.Elements.{All-head, All-tail, filter-append}
 use Rattle.tmw_defs.proofs.TextsProof.{texts_law, is_over-ends, is_ended-cons}
-use Rattle.tmw_runs.specs.Turns.{is_turns}
 use Rattle.tmw_runs.proofs.TurnsOfRuns.{is_turns_front}
 
 -- turns of which at most the last event ends a transaction are a text
@@ -82,6 +72,15 @@ is_well_formed-turns registers history turns =
         let law : AreTransactions thread history (of_thread thread (transactions history)) = texts_law history thread in
         texts_of_thread registers (of_thread thread (transactions history)) (ap (is_turns registers) law.joined ∙ turns thread) law.ended
         (λ earlier later t split. (law.placed earlier later t split).unbroken)
+
+-- no thread beyond the players has events
+pub no_kinds : (count thread : ℕ) (history : List Event) → All (λ event. event.thread.number < count) history → count ≤ thread
+    → kinds_of thread history ≡ []
+no_kinds count thread [] own past = refl
+no_kinds count thread (event ∷ history) own past =
+    let low : event.thread.number < count = All-head (λ e. e.thread.number < count) event history own in
+    rw (ne_eqb event.thread.number thread (λ same. absurd (omega arith)))
+    (no_kinds count thread history (All-tail (λ e. e.thread.number < count) event history own) past)
 
 -- a thread's events in a history that goes on
 pub kinds_of-append : (thread : ℕ) (front back : List Event) → kinds_of thread (front ++ back) ≡ kinds_of thread front ++ kinds_of thread back

@@ -1,10 +1,5 @@
 -- A list of events begins with at most one whole run of a script; so no whole run is a proper beginning of another.
-use Rattle.std.proofs.Common.{◌≡◌, ◌++◌, List, [], ◌∷◌, refl, sym, ap, ◌∙◌, inl, inr, append_assoc}
-use Rattle.std.proofs.lemmas.Bool.{cases_Bool, MatchBool-at_true, MatchBool-at_false}
-use Rattle.std.proofs.lemmas.List.{append-nil}
-use Rattle.tmw_events.specs.declared.event.Kind.{Kind}
-use Rattle.tmw_runs.specs.Law.{RunsLaw}
-use Rattle.tmw_runs.specs.Runs.{is_abort, IsWholeText, IsWholeRun, IsBeginning}
+use Rattle.tmw_runs.proofs.Shared.{IsBeginning, IsWholeRun, IsWholeText, Kind, List, MatchBool-at_false, MatchBool-at_true, RunsLaw, [], ap, append-nil, append_assoc, cases_Bool, inl, inr, is_abort, refl, sym, ◌++◌, ◌∙◌, ◌∷◌, ◌≡◌}
 
 -- equal lists stay equal when their fronts are called by other names
 same_fronts : (t u s r a b : List Kind) → t ≡ s → u ≡ r → t ++ a ≡ u ++ b → s ++ a ≡ r ++ b

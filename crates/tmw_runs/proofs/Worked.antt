@@ -1,15 +1,6 @@
 -- Worked scripts: which events are runs of them, which begin one and which do not, and which answers stand.
-use Rattle.std.proofs.Common.{◌≡◌, ◌++◌, true, false, List, [], ◌∷◌, IsTrue, refl, ap, ◌∙◌, inl, inr, arith}
-use Rattle.std.proofs.lemmas.Bool.{ltb-true}
-use Rattle.tmw_events.specs.declared.event.Kind.{Kind}
-use Rattle.tmw_events.specs.declared.event.Kind.TheVariants.{R, V, W, K, T, C, X, A}
+use Rattle.tmw_runs.proofs.Shared.{A, Abort, AllStand, Answer, Begin, C, Call, Commit, Done, IsBeginning, IsTrue, IsWholeRun, K, Kind, List, R, Read, T, V, Value, W, X, [], ap, are_transactions, arith, false, inl, inr, ltb-true, refl, true, ◌++◌, ◌∙◌, ◌∷◌, ◌≡◌}
 use Rattle.tmw_events.specs.declared.ix.Ix.{Ix}
-use Rattle.tmw_tm.specs.Answers.{Call, Answer}
-use Rattle.tmw_tm.specs.Answers.Call.{Begin, Read, Commit}
-use Rattle.tmw_tm.specs.Answers.Answer.{Value, Done, Abort}
-use Rattle.tmw_runs.specs.Runs.{IsWholeRun, IsBeginning}
-use Rattle.tmw_runs.specs.Scripts.{are_transactions}
-use Rattle.tmw_runs.specs.Standing.{AllStand}
 use Rattle.tmw_runs.proofs.TurnsOfRuns.{beginning_turns}
 use Rattle.tmw_runs.proofs.WholeRuns.{whole_ends}
 

@@ -1,13 +1,9 @@
 -- What a machine makes of a text's steps answers the text.
-use Rattle.std.proofs.Common.{ℕ, List, [], Result, Ok, Err, inl, inr, sym, ◌∙◌, append-nil, arith}
+use Rattle.tmw_steps.proofs.Shared.{AnswersSteps, Err, IsMade, IsStepsText, List, Ok, Result, SizeLine, Step, [], append-nil, arith, inl, inr, steps_grammar, sym, ℕ, ◌∙◌}
 use Rattle.tmw_lines.specs.TextFault.{EndsSoon}
-use Rattle.tmw_lines.specs.declared.text_fault.TextFault.TheVariants.{Memory as WantsMemory}
-use Rattle.tmw_steps.specs.declared.size_line.SizeLine.{SizeLine}
-use Rattle.tmw_ring_defs.specs.declared.ring_step.Step.{Step}
 use Rattle.tmw_report.specs.declared.fault.Fault.{Fault}
-use Rattle.tmw_steps.specs.Running.{AnswersSteps, IsMade, IsStepsText}
-use Rattle.tmw_steps.specs.StepText.{steps_grammar}
 use Rattle.tmw_steps.specs.declared.run.Run.{Run}
+use Rattle.tmw_lines.specs.declared.text_fault.TextFault.TheVariants.{Memory as WantsMemory}
 
 -- a whole text is also the beginning of one
 soon : (bytes : List ℕ) (size : SizeLine) (steps : List Step) → IsStepsText bytes size steps → EndsSoon steps_grammar bytes

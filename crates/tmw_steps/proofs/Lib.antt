@@ -1,4 +1,5 @@
 mod Answering
 mod ListTexts
+mod Shared
 mod SizeNumbers
 mod StepNames

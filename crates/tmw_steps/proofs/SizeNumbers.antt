@@ -1,13 +1,9 @@
 -- The three numbers of a size, one after the other, and when a text is the text of no size.
-use Rattle.std.proofs.Common.{◌≡◌, ◌≢◌, ℕ, List, [], ◌∷◌, ◌++◌, length, drop, ap, ◌∙◌, length-drop, arith}
-use Rattle.std.specs.Fmt.{decimal}
-use Rattle.std.proofs.lemmas.List.{drop_all}
+use Rattle.tmw_steps.proofs.Shared.{FitsSize, List, SizeLine, [], ap, arith, decimal, drop, drop_all, length, length-drop, size_numbers, ℕ, ◌++◌, ◌∙◌, ◌∷◌, ◌≡◌, ◌≢◌}
 use Rattle.tmw_trace.specs.Text.{values_text}
 use Rattle.tmw_trace.specs.Values.{IsFirstValue, IsNoFirstValue}
 use Rattle.tmw_trace.specs.ValueTexts.{next-values}
 use Rattle.tmw_trace.proofs.ValueParts.{value-split, value-rest}
-use Rattle.tmw_steps.specs.declared.size_line.SizeLine.{SizeLine}
-use Rattle.tmw_steps.specs.StepText.{size_numbers, FitsSize}
 
 pub numbers-some : (bytes : List ℕ) (a b c n m k : ℕ) → IsFirstValue a n bytes → IsFirstValue b m (drop n bytes)
     → IsFirstValue c k (drop m (drop n bytes)) → k ≡ length (drop m (drop n bytes))
@@ -18,11 +14,6 @@ numbers-some bytes a b c n m k first second third all =
     ∙ ap (λ xs. (32 ∷ decimal a) ++ xs) (value-split b m (drop n bytes) second
     ∙ ap (λ xs. (32 ∷ decimal b) ++ xs) (value-split c k (drop m (drop n bytes)) third
     ∙ ap (λ xs. (32 ∷ decimal c) ++ xs) last))
-
-pub no_cells : (bytes : List ℕ) → IsNoFirstValue bytes → (size : SizeLine) → FitsSize size
-    → bytes ≡ values_text (size_numbers size) → ⊥
-no_cells bytes none size fits is =
-    none size.cells (values_text (size.writers ∷ size.limit ∷ [])) fits.cells (next-values (size.writers ∷ size.limit ∷ [])) is
 
 after_cells : (bytes : List ℕ) (a n : ℕ) → IsFirstValue a n bytes → (size : SizeLine) → FitsSize size
     → bytes ≡ values_text (size_numbers size) → drop n bytes ≡ values_text (size.writers ∷ size.limit ∷ [])

@@ -1,11 +1,8 @@
 -- A text whose writer is no digit from 0 to 7, or that begins as a step `front` and goes on otherwise, is no step's.
-use Rattle.std.proofs.Common.{◌≡◌, ℕ, Option, Some, None, IfNone, List, [], ◌∷◌, drop, get_or, ap, arith}
-use Rattle.tmw_events.specs.Text.{digit, kind_text, FitsKind}
+use Rattle.tmw_steps.proofs.Shared.{FitsKind, FitsStep, IfNone, List, None, Option, Some, Step, [], ap, arith, digit, drop, get_or, kind_text, step_text, ℕ, ◌∷◌, ◌≡◌}
 use Rattle.tmw_events.specs.declared.event.Kind.{Kind}
 use Rattle.tmw_events.specs.declared.ix.Ix.{Ix}
-use Rattle.tmw_ring_defs.specs.declared.ring_step.Step.{Step}
 use Rattle.tmw_ring_defs.specs.declared.ring_step.Step.TheVariants.{Front}
-use Rattle.tmw_steps.specs.StepText.{step_text, FitsStep}
 
 pub no_digit : (bytes : List ℕ) (found : Option Ix) → IfNone found ((ix : Ix) → get_or bytes 0 0 ≡ digit ix → ⊥)
     → IfNone found ((writer : Ix) → bytes ≡ digit writer ∷ [] → ⊥)

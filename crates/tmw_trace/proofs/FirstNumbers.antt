@@ -1,13 +1,10 @@
 -- The digits at the front of bytes, and the number that they write up to a line feed.
-use Rattle.std.proofs.Common.{◌≡◌, ℕ, ◌+◌, ◌*◌, ◌-◌, ◌<◌, ◌≤◌, ◌^◌, zero, suc, List, [], ◌∷◌, ◌++◌, length, take, drop, get_or, refl, sym, ap, ◌∙◌, subst, drop-cons, arith}
+use Rattle.tmw_trace.proofs.Shared.{List, [], ap, arith, decimal, drop, drop-cons, get_or, get_or-take, length, length-take-le, line, refl, subst, suc, sym, take, take_more, zero, ℕ, ◌*◌, ◌++◌, ◌+◌, ◌<◌, ◌^◌, ◌∙◌, ◌∷◌, ◌≡◌, ◌≤◌}
 use Rattle.std.specs.Char.{digit_value}
-use Rattle.std.specs.Fmt.{decimal}
 use Rattle.std.specs.Str.Parse.{AllDigits, digits_value}
 use Rattle.std.proofs.lemmas.Fmt.{decimal-digits_value, decimal_digit}
 use Rattle.std.proofs.lemmas.Int.Digits.{digits_push, digits_value_more}
-use Rattle.std.proofs.lemmas.List.{take_more, length-take-le, get_or-take}
 use Rattle.std.proofs.lemmas.Str.Parse.{IsNumeralModel, numerals_by_value, tells_digits, digits_value_short}
-use Rattle.tmw_lines.specs.Text.{line}
 use Rattle.tmw_lines.proofs.HeldLines.{line-split}
 
 numerals : IsNumeralModel (AllDigits 10) (digits_value 10)

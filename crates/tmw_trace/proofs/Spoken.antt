@@ -1,12 +1,5 @@
 -- Events that fit a version are such as it has.
-use Rattle.std.proofs.Common.{◌≡◌, true, List, [], ◌∷◌, refl}
-use Rattle.std.specs.List.{All, AllByRecursion}
-use Rattle.std.proofs.lemmas.Bool.{and_from}
-use Rattle.std.proofs.lemmas.List.Elements.{recursion_from_All}
-use Rattle.tmw_events.specs.declared.event.Event.{Event}
-use Rattle.tmw_trace.specs.Start.{is_spoken, are_spoken}
-use Rattle.tmw_trace.specs.Text.{FitsEvent}
-use Rattle.tmw_trace.specs.declared.version.Version.{Version}
+use Rattle.tmw_trace.proofs.Shared.{All, AllByRecursion, Event, FitsEvent, List, Version, [], and_from, are_spoken, is_spoken, recursion_from_All, refl, true, ◌∷◌, ◌≡◌}
 
 each_spoken : (version : Version) (events : List Event) → AllByRecursion (FitsEvent version) events
     → are_spoken version events ≡ true

@@ -1,19 +1,10 @@
 -- The first of the values in a header, and the values that a loop has read.
-use Rattle.std.proofs.Common.{◌≡◌, ℕ, ◌+◌, ◌<◌, ◌≤◌, ◌^◌, true, not, List, [], ◌∷◌, ◌++◌, suc, length, take, drop, get_or, set, sym, ap, ◌∙◌, refl, inl, inr, ◌==◌, length-set, append_assoc, add-one, drop-cons, take-append-drop, arith}
-use Rattle.std.specs.List.{position_or_len}
-use Rattle.std.specs.Fmt.{decimal}
-use Rattle.std.proofs.lemmas.Bool.{and_parts, cases_Bool}
-use Rattle.std.proofs.Math.Seq.{take-append_seam}
-use Rattle.std.proofs.lemmas.List.Elements.{All-set}
-use Rattle.std.proofs.lemmas.List.Sums.{prefix_len-le-length}
-use Rattle.std.proofs.lemmas.Grind.{flat_map-append}
-use Rattle.std.proofs.lemmas.List.{drop_all, take_more_set, drop-set-lt, append-nil}
-use Rattle.std.specs.List.{All}
-use Rattle.tmw_lines.specs.Parts.{is_next}
-use Rattle.tmw_trace.specs.Start.{are_zeros}
-use Rattle.tmw_trace.specs.Text.{values_text}
-use Rattle.tmw_trace.specs.ValueTexts.{next-values}
+use Rattle.tmw_trace.proofs.Shared.{All, All-set, List, [], add-one, and_parts, ap, append-nil, append_assoc, are_zeros, arith, cases_Bool, decimal, drop, drop-cons, drop-set-lt, flat_map-append, get_or, inl, inr, length, length-set, not, position_or_len, refl, set, suc, sym, take, take-append-drop, take_more_set, true, values_text, ℕ, ◌++◌, ◌+◌, ◌<◌, ◌==◌, ◌^◌, ◌∙◌, ◌∷◌, ◌≡◌, ◌≤◌}
 use Rattle.tmw_trace.specs.Values.{IsFirstValue, IsNoFirstValue}
+use Rattle.std.proofs.Math.Seq.{take-append_seam}
+use Rattle.std.proofs.lemmas.List.Sums.{prefix_len-le-length}
+use Rattle.tmw_lines.specs.Parts.{is_next}
+use Rattle.tmw_trace.specs.ValueTexts.{next-values}
 use Rattle.tmw_lines.proofs.Splits.{free-decimal, position_or_len-free, split_free}
 
 next-before : (stop : ℕ) (bytes : List ℕ) → is_next stop (drop (position_or_len (λ byte. byte == stop) bytes) bytes) ≡ true
@@ -102,10 +93,3 @@ AreRead-none count index values rest bytes r more none = λ all counted fit is.
     let here : index < length all = omega (arith, counted) in
     let e = rw (drop_step all index here) at (r.left all counted fit is) in
     none (get_or all index 0) (values_text (drop (index + 1) all)) (fit index 0 here) (next-values (drop (index + 1) all)) e
-
-pub AreRead-over : (count : ℕ) (values rest bytes : List ℕ) → AreRead count count values rest bytes
-    → 0 < length rest → (all : List ℕ) → length all ≡ count → All (λ value. value < 2 ^ 64) all
-    → bytes ≡ values_text all → ⊥
-AreRead-over count values rest bytes r some = λ all counted fit is.
-    let e = rw (drop_all count all (omega (arith, counted))) at (r.left all counted fit is) in
-    absurd (omega (arith, ap length e))

@@ -1,27 +1,13 @@
 -- From what a settled ring has left to the verdict on all of its log.
-use Rattle.std.proofs.Common.{◌≡◌, ◌<◌, ◌^◌, ◌++◌, ℕ, List, [], length, get_or, sym, ap, ◌∙◌, subst}
+use Rattle.tmw_watch.proofs.Shared.{All, All-permutation, AreAll, AreOf, Fits, Front, HasEnded, Headline, IsClosed, IsJudged, IsLeft, IsLogOf, IsPermutation, IsPermutation-map, IsPermutation-refl, IsPermutation-sym, IsPermutation-trans, IsRested, IsSettled, IsUnjudged, List, Recorder, RestIs, RingIs, WriterIs, WriterOf, [], all_of, ap, get_or, gives_rest, length, length_permutation, rest_of, subst, sym, watch_pump, writers_of, ℕ, ◌++◌, ◌<◌, ◌^◌, ◌∙◌, ◌≡◌}
 use Rattle.std.proofs.lemmas.List.Elements.{All-map}
-use Rattle.std.proofs.lemmas.List.Sorted.{length_permutation, All-permutation, IsPermutation-map, IsPermutation-refl, IsPermutation-sym, IsPermutation-trans}
 use Rattle.std.specs.Prelude.{Result, Ok, Err, IfOk}
-use Rattle.std.specs.List.{All}
-use Rattle.std.specs.List.Sorted.{IsPermutation}
 use Rattle.tmw_events.specs.declared.event.Event.{Event}
-use Rattle.tmw_pump.proofs.HeadlineProof.{gives_rest}
 use Rattle.tmw_pump.proofs.Turns.{IsFew, all_judged}
 use Rattle.tmw_pump.specs.Fronts.{came}
-use Rattle.tmw_pump.specs.Headline.{Headline, IsLogOf}
-use Rattle.tmw_pump.specs.Resting.{RestIs, all_of, IsRested}
-use Rattle.tmw_pump.specs.declared.front.Front.{Front}
 use Rattle.tmw_pump.specs.declared.pumped.Pumped.{Pumped}
-use Rattle.tmw_ring.specs.Ends.{RingIs, WriterIs, WriterOf}
 use Rattle.tmw_ring.specs.Parts.{made_from}
-use Rattle.tmw_ring.specs.Settling.{IsSettled}
-use Rattle.tmw_monitor.specs.Fitting.{Fits}
-use Rattle.tmw_watch.specs.Closing.{AreAll, HasEnded, IsClosed, IsJudged, IsLeft, IsUnjudged, writers_of}
-use Rattle.tmw_watch.specs.Shown.{rest_of, watch_pump}
-use Rattle.tmw_watch.specs.Opening.{AreOf}
 use Rattle.tmw_watch.specs.declared.closing.Closing.{Closing}
-use Rattle.tmw_watch.specs.declared.recorder.Recorder.{Recorder}
 use Rattle.tmw_watch.specs.declared.report.Report.{Report}
 use Rattle.tmw_watch.specs.declared.watch.Watch.{Watch}
 

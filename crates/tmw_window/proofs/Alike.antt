@@ -1,21 +1,5 @@
 -- What is shown of a history, as a history of its own from each of its states, is judged like it.
-use Rattle.std.proofs.Common.{◌≡◌, ◌+◌, ◌-◌, ◌<◌, ◌≤◌, ℕ, List, [], length, true, false, IsTrue, refl, sym, ap, subst, ◌∙◌, inl, inr, arith}
-use Rattle.std.specs.Prelude.{take}
-use Rattle.std.specs.List.{Contains}
-use Rattle.std.proofs.Math.Seq.{take-length}
-use Rattle.std.proofs.lemmas.Bool.{cases_lt}
-use Rattle.tmw_events.specs.declared.event.Event.{Event}
-use Rattle.tmw_defs.specs.declared.verdict.Verdict.{Verdict}
-use Rattle.tmw_defs.specs.declared.verdict.Verdict.TheVariants.{OpaqueSoFar, StrictSoFar, Violated, Undecided, Malformed}
-use Rattle.tmw_defs.specs.declared.verdict.Why.TheVariants.{Transactions, States}
-use Rattle.tmw_defs.specs.Criteria.{IsFinalBy}
-use Rattle.tmw_defs.specs.History.{is_well_formed, transactions}
-use Rattle.tmw_defs.specs.Opaque.{State}
-use Rattle.tmw_defs.specs.Verdict.{Rules, HasMany, IsFine, IsFirst, IsViolated, IsVerdict}
-use Rattle.tmw_defs.specs.Windows.{HasWide}
-use Rattle.tmw_defs.proofs.Criteria.{formed-final, outcome-final}
-use Rattle.tmw_window.specs.Shown.{shown_length}
-use Rattle.tmw_window.specs.WindowLaw.{from_state, WindowLaw}
+use Rattle.tmw_window.proofs.Shared.{Contains, Event, HasMany, HasWide, IsFinalBy, IsFine, IsFirst, IsTrue, IsVerdict, IsViolated, List, Malformed, OpaqueSoFar, Rules, State, States, StrictSoFar, Transactions, Undecided, Verdict, Violated, WindowLaw, [], ap, arith, cases_lt, false, formed-final, from_state, inl, inr, is_well_formed, length, outcome-final, refl, shown_length, subst, sym, take, take-length, transactions, true, ℕ, ◌+◌, ◌-◌, ◌<◌, ◌∙◌, ◌≡◌, ◌≤◌}
 use Rattle.tmw_window.proofs.Single.{single}
 use Rattle.tmw_window.proofs.Part.{IsPart, shown-part, shown-within, long, formed-part, narrow-part, uncut-part, none-fine, violated-each, all-violated, some-state, all-formed, wide-events, wide-end}
 

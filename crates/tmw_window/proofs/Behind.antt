@@ -1,24 +1,8 @@
 -- What follows a cut, as a history of its own, and the whole.
-use Rattle.std.proofs.Common.{◌≡◌, ◌+◌, ◌-◌, ◌++◌, ◌<◌, ◌↔◌, ◌&&◌, ℕ, List, [], ◌∷◌, length, IsTrue, refl, sym, ap, subst, ◌∙◌, inl, inr, arith}
-use Rattle.std.specs.Prelude.{take, drop}
-use Rattle.std.specs.List.{list_all}
-use Rattle.std.proofs.Math.Seq.{drop-append-add, take-append-add}
-use Rattle.std.proofs.lemmas.Bool.{and_parts}
-use Rattle.std.proofs.lemmas.List.{length-append}
-use Rattle.std.proofs.lemmas.List.Folds.{list_all-append}
-use Rattle.tmw_events.specs.declared.event.Event.{Event}
-use Rattle.tmw_defs.specs.declared.criterion.Criterion.{Criterion}
-use Rattle.tmw_defs.specs.Criteria.{IsFinalBy, outcomes_by}
-use Rattle.tmw_defs.specs.Cuts.{is_cut}
-use Rattle.tmw_defs.specs.History.{Txn, is_text, is_well_formed, transactions}
-use Rattle.tmw_defs.specs.Opaque.{State}
-use Rattle.tmw_defs.specs.Windows.{IsCutAt, HasWide}
+use Rattle.tmw_window.proofs.Shared.{Criterion, Event, HasWide, IsCutAt, IsFinalBy, IsTrue, List, State, Txn, [], and_parts, ap, arith, cut_law, drop, drop-append-add, final-outcome, inl, inr, is_cut, is_cut-append, is_text, is_well_formed, length, length-append, list_all, list_all-append, outcome-final, outcomes_by, refl, subst, sym, take, take-append-add, transactions, ℕ, ◌&&◌, ◌++◌, ◌+◌, ◌-◌, ◌<◌, ◌↔◌, ◌∙◌, ◌∷◌, ◌≡◌}
 use Rattle.tmw_defs.proofs.Along.{Pairs}
-use Rattle.tmw_defs.proofs.Criteria.{final-outcome, outcome-final}
-use Rattle.tmw_defs.proofs.CutLaws.{cut_law}
 use Rattle.tmw_defs.proofs.CutsProof.{behind, behind-later, transactions-cut}
 use Rattle.tmw_defs.proofs.Places.{IsLater}
-use Rattle.tmw_defs.proofs.WindowsProof.{is_cut-append}
 
 -- it is well-formed where the whole is
 formed-later : (registers n : ℕ) (ts us : List Txn) → Pairs (IsLater n) ts us

@@ -2,6 +2,7 @@ mod Alike
 mod Behind
 mod Outcomes
 mod Part
+mod Shared
 mod ShownStates
 mod Single
 mod Taking

@@ -1,21 +1,9 @@
 -- The outcomes of a well-formed history that begins with a state of the run are states of the run.
-use Rattle.std.proofs.Common.{◌≡◌, ◌==◌, ◌&&◌, ◌+◌, ℕ, Bool, true, false, not, List, [], ◌∷◌, IsTrue, refl, sym, subst, ◌∙◌, All, inl, inr}
-use Rattle.std.specs.List.{list_all}
-use Rattle.std.proofs.lemmas.Bool.{and_parts, and_from, cases_Bool}
-use Rattle.std.proofs.lemmas.List.Folds.{list_all-append}
+use Rattle.tmw_window.proofs.Shared.{All, Bool, Criterion, Event, FitsKind, FitsRegisters, IsTrue, List, Opacity, Placed, State, Strict, Txn, [], add_event, after, and_from, and_parts, cases_Bool, false, inl, inr, is_ended, is_text, is_well_formed, list_all, list_all-append, not, operations, outcomes_by, refl, slice_index_or, subst, sym, transactions, transactions_from, true, ℕ, ◌&&◌, ◌+◌, ◌==◌, ◌∙◌, ◌∷◌, ◌≡◌}
 use Rattle.std.proofs.lemmas.List.Sums.{list_all-from_AllPass}
-use Rattle.std.specs.Prelude.{slice_index_or}
-use Rattle.tmw_events.specs.Text.{FitsKind}
-use Rattle.tmw_events.specs.declared.event.Event.{Event}
-use Rattle.tmw_defs.specs.declared.criterion.Criterion.{Criterion}
-use Rattle.tmw_defs.specs.declared.criterion.Criterion.TheVariants.{Opacity, Strict}
-use Rattle.tmw_defs.specs.Criteria.{outcomes_by}
-use Rattle.tmw_defs.specs.History.{Txn, is_ended, is_text, is_well_formed, add_event, operations, transactions, transactions_from}
-use Rattle.tmw_defs.specs.Opaque.{State, Placed, after}
 use Rattle.tmw_defs.specs.Outcomes.{end_state}
 use Rattle.tmw_defs.proofs.Held.{list_all-held}
 use Rattle.tmw_defs.proofs.Removals.{list_all-places}
-use Rattle.tmw_window.specs.StatesLaw.{FitsRegisters}
 use Rattle.tmw_window.proofs.Writes.{writes_word, word-kind, is_kept, operations_kept, after_kept}
 
 -- the transactions' events are those of the history

@@ -1,26 +1,5 @@
 -- The events from a history's last cut on, and the whole.
-use Rattle.std.proofs.Common.{◌≡◌, ◌+◌, ◌-◌, ◌++◌, ◌<◌, ◌≤◌, ◌↔◌, ◌&&◌, ℕ, List, [], ◌∷◌, length, IsTrue, refl, sym, ap, ap₂, subst, ◌∙◌, inl, inr, get_or, take-append-drop, arith}
-use Rattle.std.specs.Prelude.{take, drop}
-use Rattle.std.specs.List.{Contains}
-use Rattle.std.proofs.Math.Seq.{take-add, take-length}
-use Rattle.std.proofs.lemmas.Bool.{cases_lt}
-use Rattle.std.proofs.lemmas.List.{take-take, take_more, length-take-le, length-drop, drop-append-le}
-use Rattle.tmw_events.specs.declared.event.Event.{Event}
-use Rattle.tmw_defs.specs.declared.verdict.Verdict.{Verdict}
-use Rattle.tmw_defs.specs.declared.verdict.Verdict.TheVariants.{OpaqueSoFar, StrictSoFar, Violated, Undecided, Malformed}
-use Rattle.tmw_defs.specs.declared.verdict.Why.TheVariants.{Transactions, States}
-use Rattle.tmw_defs.specs.Criteria.{IsFinalBy, outcomes_by}
-use Rattle.tmw_defs.specs.Cuts.{is_cut}
-use Rattle.tmw_defs.specs.History.{is_well_formed, transactions}
-use Rattle.tmw_defs.specs.Opaque.{State}
-use Rattle.tmw_defs.specs.Summary.{IsLastCut}
-use Rattle.tmw_defs.specs.Verdict.{Rules, HasMany, IsFine, IsViolated, IsVerdict}
-use Rattle.tmw_defs.specs.Windows.{HasWide}
-use Rattle.tmw_defs.proofs.Criteria.{formed-final, final-outcome}
-use Rattle.tmw_defs.proofs.VerdictProof.{sums_up-new}
-use Rattle.tmw_defs.proofs.WindowsProof.{is_cut-append, HasWide_push}
-use Rattle.tmw_window.specs.Shown.{shown_length, IsShown}
-use Rattle.tmw_window.specs.WindowLaw.{from_state}
+use Rattle.tmw_window.proofs.Shared.{Contains, Event, HasMany, HasWide, HasWide_push, IsFinalBy, IsFine, IsLastCut, IsShown, IsTrue, IsVerdict, IsViolated, List, Malformed, OpaqueSoFar, Rules, State, States, StrictSoFar, Transactions, Undecided, Verdict, Violated, [], ap, ap₂, arith, cases_lt, drop, drop-append-le, final-outcome, formed-final, from_state, get_or, inl, inr, is_cut, is_cut-append, is_well_formed, length, length-drop, length-take-le, outcomes_by, refl, shown_length, subst, sums_up-new, sym, take, take-add, take-append-drop, take-length, take-take, take_more, transactions, ℕ, ◌&&◌, ◌++◌, ◌+◌, ◌-◌, ◌<◌, ◌↔◌, ◌∙◌, ◌∷◌, ◌≡◌, ◌≤◌}
 use Rattle.tmw_window.proofs.Behind.{formed-append, formed-behind, HasWide-behind, final-behind}
 
 -- the events from a history's last cut before its length m on, up to that length, with its outcomes at the cut
@@ -62,9 +41,6 @@ last-event (d ∷ h) m some within = (
 
 module _ (rules : Rules) (h : List Event) (m from : ℕ) (states : List State) (events : List Event)
     (part : IsPart rules h m from states events) where
-  pub past : List Event
-  past = take from h
-
   -- the prefixes of the history are the past and prefixes of the part
   pub prefix : (k : ℕ) → from + k ≤ m → take (from + k) h ≡ take from h ++ take k events
   prefix k below =

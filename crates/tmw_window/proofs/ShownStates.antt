@@ -1,18 +1,5 @@
 -- The states from which a window that is shown begins are states of the run.
-use Rattle.std.proofs.Common.{◌≡◌, ◌-◌, ◌<◌, ◌≤◌, ℕ, List, length, IsTrue, refl, sym, subst, inl, inr, arith}
-use Rattle.std.specs.Prelude.{take}
-use Rattle.std.proofs.lemmas.Bool.{cases_lt}
-use Rattle.std.proofs.lemmas.List.Elements.{All-take}
-use Rattle.tmw_events.specs.Text.{FitsKind}
-use Rattle.tmw_events.specs.declared.event.Event.{Event}
-use Rattle.tmw_defs.specs.declared.verdict.Verdict.{Verdict}
-use Rattle.tmw_defs.specs.declared.verdict.Verdict.TheVariants.{OpaqueSoFar, StrictSoFar, Violated, Undecided, Malformed}
-use Rattle.tmw_defs.specs.declared.verdict.Why.TheVariants.{Transactions, States}
-use Rattle.tmw_defs.specs.History.{is_well_formed}
-use Rattle.tmw_defs.specs.Verdict.{Rules, IsFine, IsVerdict}
-use Rattle.tmw_defs.proofs.Criteria.{formed-final}
-use Rattle.tmw_window.specs.Shown.{shown_length}
-use Rattle.tmw_window.specs.StatesLaw.{StatesLaw}
+use Rattle.tmw_window.proofs.Shared.{All-take, Event, FitsKind, IsFine, IsTrue, IsVerdict, List, Malformed, OpaqueSoFar, Rules, States, StatesLaw, StrictSoFar, Transactions, Undecided, Verdict, Violated, arith, cases_lt, formed-final, inl, inr, is_well_formed, length, refl, shown_length, subst, sym, take, ℕ, ◌-◌, ◌<◌, ◌≡◌, ◌≤◌}
 use Rattle.tmw_window.proofs.Outcomes.{outcome_kept}
 use Rattle.tmw_window.proofs.Part.{shown-part, shown-within}
 

@@ -1,24 +1,5 @@
 -- What is shown of a history that begins from a single state has the history's verdict, at its end.
-use Rattle.std.proofs.Common.{◌≡◌, ◌+◌, ◌-◌, ◌<◌, ◌≤◌, ◌&&◌, ℕ, List, [], ◌∷◌, length, true, false, IsTrue, refl, sym, ap, subst, ◌∙◌, inl, inr, get_or, arith}
-use Rattle.std.specs.Prelude.{take}
-use Rattle.std.specs.List.{Contains}
-use Rattle.std.proofs.Math.Seq.{take-length}
-use Rattle.std.proofs.lemmas.Bool.{cases_lt}
-use Rattle.tmw_events.specs.declared.event.Event.{Event}
-use Rattle.tmw_defs.specs.declared.verdict.Verdict.{Verdict}
-use Rattle.tmw_defs.specs.declared.verdict.Verdict.TheVariants.{OpaqueSoFar, StrictSoFar, Violated, Undecided, Malformed}
-use Rattle.tmw_defs.specs.declared.verdict.Why.TheVariants.{Transactions, States}
-use Rattle.tmw_defs.specs.Criteria.{IsFinalBy, outcomes_by}
-use Rattle.tmw_defs.specs.Cuts.{is_cut}
-use Rattle.tmw_defs.specs.History.{is_well_formed}
-use Rattle.tmw_defs.specs.Opaque.{State}
-use Rattle.tmw_defs.specs.Verdict.{Rules, IsFine, IsFirst, IsMalformed, IsTooMany, IsTooWide, IsViolated, IsVerdict}
-use Rattle.tmw_defs.specs.Windows.{HasWide}
-use Rattle.tmw_defs.proofs.Criteria.{formed-final}
-use Rattle.tmw_defs.proofs.CutLaws.{cut_law}
-use Rattle.tmw_defs.proofs.WindowsProof.{is_cut-append}
-use Rattle.tmw_window.specs.Shown.{shown_length}
-use Rattle.tmw_window.specs.WindowLaw.{at_end, from_state}
+use Rattle.tmw_window.proofs.Shared.{Contains, Event, HasWide, IsFinalBy, IsFine, IsFirst, IsMalformed, IsTooMany, IsTooWide, IsTrue, IsVerdict, IsViolated, List, Malformed, OpaqueSoFar, Rules, State, States, StrictSoFar, Transactions, Undecided, Verdict, Violated, [], ap, arith, at_end, cases_lt, cut_law, false, formed-final, from_state, get_or, inl, inr, is_cut, is_cut-append, is_well_formed, length, outcomes_by, refl, shown_length, subst, sym, take, take-length, true, ℕ, ◌&&◌, ◌+◌, ◌-◌, ◌<◌, ◌∙◌, ◌∷◌, ◌≡◌, ◌≤◌}
 use Rattle.tmw_window.proofs.Behind.{formed-append, formed-behind, HasWide-behind}
 use Rattle.tmw_window.proofs.Part.{IsPart, whole, long, formed-whole, final-part, final-events, none-fine, violated-each, wide-end, fine-before}
 

@@ -1,8 +1,6 @@
 -- A watcher of the last window takes events by being fed them.
-use Rattle.std.proofs.Common.{ℕ, ◌+◌, ◌<◌, ◌^◌, Result, Ok, Err, OnOk, [], ◌∷◌, ◌++◌, length-append, arith}
-use Rattle.tmw_events.specs.declared.event.Event.{Event}
+use Rattle.tmw_window.proofs.Shared.{Err, Event, LastWindow, Ok, OnOk, Result, [], arith, length-append, ℕ, ◌++◌, ◌+◌, ◌<◌, ◌^◌, ◌∷◌}
 use Rattle.tmw_window.specs.Feeding.{TakeEvents, WatchesSoMany}
-use Rattle.tmw_window.specs.declared.last_window.LastWindow.{LastWindow}
 
 -- it has room for an event
 pub has_room : (window : LastWindow) (count : ℕ) → count < 2 ^ 40 → WatchesSoMany window count → window.monitor.count < 2 ^ 40

@@ -1,14 +1,7 @@
 -- A watcher of the last window that was refused memory for an event stands for the same history.
-use Rattle.std.proofs.Common.{List, refl}
-use Rattle.tmw_cuts.specs.Members.{members}
-use Rattle.tmw_events.specs.declared.event.Event.{Event}
-use Rattle.tmw_defs.specs.Verdict.{Rules}
-use Rattle.tmw_monitor.specs.Fitting.{Fits}
+use Rattle.tmw_window.proofs.Shared.{Event, Fits, KeepsSame, KeptWindow, LastWindow, List, Rules, members, refl}
 use Rattle.tmw_monitor.specs.declared.monitor.Monitor.{Monitor}
-use Rattle.tmw_window.specs.Keeping.{KeepsSame}
 use Rattle.tmw_window.specs.Watching.{Watches}
-use Rattle.tmw_window.specs.declared.kept_window.KeptWindow.{KeptWindow}
-use Rattle.tmw_window.specs.declared.last_window.LastWindow.{LastWindow}
 use Rattle.tmw_window.proofs.Windows.{kept-same, shown-same}
 
 pub watches-kept : (rules : Rules) (h : List Event) (old : LastWindow) (new : Monitor) (kept : KeptWindow) → Watches rules h old

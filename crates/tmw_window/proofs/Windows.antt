@@ -1,31 +1,6 @@
 -- What is shown of a history with an event more.
-use Rattle.std.proofs.Common.{◌≡◌, ◌+◌, ◌-◌, ◌<◌, ◌≤◌, ◌↔◌, ℕ, List, [], ◌∷◌, ◌++◌, length, true, false, IsTrue, IsFalse, refl, sym, ap, subst, ◌∙◌, inl, inr, arith}
-use Rattle.std.specs.Prelude.{take, drop}
-use Rattle.std.specs.List.{Contains}
-use Rattle.std.proofs.Math.Seq.{take-length}
-use Rattle.std.proofs.lemmas.Bool.{cases_lt}
-use Rattle.std.proofs.lemmas.List.{take_all, take-take, drop_all, length-take-le}
-use Rattle.tmw_events.specs.declared.event.Event.{Event}
-use Rattle.tmw_cuts.specs.Members.{members}
-use Rattle.tmw_defs.specs.declared.criterion.Criterion.{Criterion}
-use Rattle.tmw_defs.specs.declared.criterion.Criterion.TheVariants.{Opacity, Strict}
-use Rattle.tmw_defs.specs.declared.verdict.Verdict.{Verdict}
-use Rattle.tmw_defs.specs.declared.verdict.Verdict.TheVariants.{OpaqueSoFar, StrictSoFar, Violated, Undecided, Malformed}
-use Rattle.tmw_defs.specs.declared.verdict.Why.TheVariants.{Transactions, States}
-use Rattle.tmw_defs.specs.Criteria.{outcomes_by, so_far}
-use Rattle.tmw_defs.specs.Cuts.{is_cut}
-use Rattle.tmw_defs.specs.Opaque.{State}
-use Rattle.tmw_defs.specs.Summary.{IsLastCut}
-use Rattle.tmw_defs.specs.Verdict.{Rules, IsFine, AreFine, IsFirst, IsMalformed, IsTooWide, IsTooMany, IsViolated, IsVerdict}
-use Rattle.tmw_defs.specs.Windows.{between}
-use Rattle.tmw_defs.proofs.Criteria.{formed-final}
-use Rattle.tmw_defs.proofs.VerdictProof.{verdict-one, so_far-fine, sums_up-new}
-use Rattle.tmw_defs.proofs.WindowsProof.{length-push, take-push, between-open}
+use Rattle.tmw_window.proofs.Shared.{AreFine, AreLastOutcomes, Contains, Criterion, Event, IsFalse, IsFine, IsFirst, IsLastCut, IsMalformed, IsShown, IsTooMany, IsTooWide, IsTrue, IsVerdict, IsViolated, KeepsSame, KeepsShown, KeptWindow, List, Malformed, Opacity, OpaqueSoFar, Rules, State, States, Strict, StrictSoFar, Transactions, Undecided, Verdict, Violated, [], ap, arith, before_shown, between, between-open, cases_lt, drop, drop_all, false, formed-final, inl, inr, is_cut, length, length-push, length-take-le, members, outcomes_by, refl, shown_length, so_far, so_far-fine, subst, sums_up-new, sym, take, take-length, take-push, take-take, take_all, true, verdict-one, ℕ, ◌++◌, ◌+◌, ◌-◌, ◌<◌, ◌↔◌, ◌∙◌, ◌∷◌, ◌≡◌, ◌≤◌}
 use Rattle.tmw_monitor.proofs.Final.{verdict-stays}
-use Rattle.tmw_monitor.specs.Holding.{AreLastOutcomes}
-use Rattle.tmw_window.specs.Shown.{shown_length, before_shown, IsShown}
-use Rattle.tmw_window.specs.Keeping.{KeepsSame, KeepsShown}
-use Rattle.tmw_window.specs.declared.kept_window.KeptWindow.{KeptWindow}
 
 -- what is wrong first with a history, and was not before its last event, is so at its whole length
 first-last : (Wrong : Rules → List Event → Type 0) → ((rules : Rules) (history : List Event) → Wrong rules history → IsFine rules history → ⊥)

@@ -1,19 +1,9 @@
 -- A state of the run stays one under the writes and adds of a transaction.
-use Rattle.std.proofs.Common.{◌≡◌, ◌==◌, ◌<◌, ◌^◌, ◌%◌, ◌+◌, ◌&&◌, ℕ, Bool, true, List, [], ◌∷◌, nat_lt, not, refl, ap, ◌∙◌, arith}
-use Rattle.std.specs.List.{list_all}
-use Rattle.std.specs.Prelude.{slice_set}
-use Rattle.std.proofs.lemmas.Bool.{and_parts, and_from, ltb-true, lt-ltb}
-use Rattle.std.proofs.lemmas.List.{length-set, drop-set-lt}
-use Rattle.std.proofs.lemmas.List.Elements.{All-set}
-use Rattle.std.proofs.lemmas.List.Folds.{list_all-append}
-use Rattle.tmw_events.specs.Text.{FitsKind}
+use Rattle.tmw_window.proofs.Shared.{All-set, Bool, FitsKind, FitsRegisters, List, State, [], after_writes, and_from, and_parts, answers, ap, arith, drop-set-lt, ends, is_call, is_text, length-set, list_all, list_all-append, lt-ltb, ltb-true, nat_lt, not, operation, operations, refl, slice_set, true, ℕ, ◌%◌, ◌&&◌, ◌+◌, ◌<◌, ◌==◌, ◌^◌, ◌∙◌, ◌∷◌, ◌≡◌}
 use Rattle.tmw_events.specs.declared.event.Kind.{Kind}
 use Rattle.tmw_events.specs.declared.event.Kind.TheVariants.{R, V, W, K, T, C, X, A, N}
 use Rattle.tmw_defs.specs.declared.op.Op.{Op}
 use Rattle.tmw_defs.specs.declared.op.Op.TheVariants.{Read, Write, Add}
-use Rattle.tmw_defs.specs.History.{is_call, answers, ends, is_text, operation, operations}
-use Rattle.tmw_defs.specs.Opaque.{State, after_writes}
-use Rattle.tmw_window.specs.StatesLaw.{FitsRegisters}
 
 -- a value that is written is a number of 64 bits
 abbrev pub writes_word : Kind → Bool

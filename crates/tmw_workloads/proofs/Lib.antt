@@ -1,4 +1,5 @@
 mod Lists
 mod Rules
+mod Shared
 mod Transactions
 mod Values

@@ -1,12 +1,6 @@
 -- A list of parts that is read from an array, value by value.
-use Rattle.std.proofs.Common.{◌≡◌, ◌<◌, ◌≤◌, ◌+◌, ℕ, zero, suc, List, [], ◌∷◌, ◌++◌, length, get_or, take, map, All, sym, ap, ◌∙◌, subst, arith}
-use Rattle.std.proofs.lemmas.List.{length-map, map_push, take_all, take_more}
-use Rattle.std.proofs.lemmas.List.Elements.{All-head, All-tail, All-push}
-use Rattle.serde_json.specs.Data.{Data, array}
-use Rattle.serde_json.specs.View.{view, items_of}
+use Rattle.tmw_workloads.proofs.Shared.{All, All-head, All-push, All-tail, Data, IsNoPart, List, [], ap, arith, array, get_or, items_of, length, length-map, list_data, map, map_push, subst, suc, sym, take, take_all, take_more, view, zero, ℕ, ◌++◌, ◌+◌, ◌<◌, ◌∙◌, ◌∷◌, ◌≡◌, ◌≤◌}
 use Rattle.serde_json.specs.declared.value.Value.{Value}
-use Rattle.tmw_workloads.specs.Json.{list_data}
-use Rattle.tmw_workloads.specs.Parts.{IsNoPart}
 use Rattle.tmw_workloads.proofs.Values.{array_same}
 
 -- These values are what right parts are written as.

@@ -1,13 +1,6 @@
 -- The rules of a part, by those of its parts.
-use Rattle.std.proofs.Common.{◌≡◌, ◌<◌, ◌≤◌, ℕ, true, List, length, Bool, All, IsTrue, nat_lt}
-use Rattle.std.specs.List.{list_all}
-use Rattle.std.proofs.lemmas.Bool.{and_from, and_parts, le-leb, lt-ltb, ltb-true}
-use Rattle.std.proofs.lemmas.List.Elements.{All-weaker}
+use Rattle.tmw_workloads.proofs.Shared.{All, All-weaker, AreScripts, Bool, FitsKind, IsOrder, IsScript, IsTransaction, IsTrue, Kind, List, and_from, and_parts, is_transaction, le-leb, length, list_all, lt-ltb, ltb-true, nat_lt, true, ℕ, ◌<◌, ◌≡◌, ◌≤◌}
 use Rattle.std.proofs.lemmas.List.Sums.{AllPass-from_list_all, list_all-from_AllPass}
-use Rattle.tmw_events.specs.Text.{FitsKind}
-use Rattle.tmw_events.specs.declared.event.Kind.{Kind}
-use Rattle.tmw_runs.specs.Scripts.{is_transaction}
-use Rattle.tmw_workloads.specs.Parts.{IsTransaction, IsScript, AreScripts, IsOrder}
 use Rattle.tmw_workloads.specs.Workload.{is_short_script, is_short_transaction, is_workload}
 
 -- what a test and a fact say of each element

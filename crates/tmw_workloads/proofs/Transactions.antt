@@ -1,16 +1,7 @@
 -- The calls of a transaction, by their texts and one by one.
-use Rattle.std.proofs.Common.{◌≡◌, ℕ, true, false, ◌&&◌, List, [], ◌∷◌, ◌++◌, map, All, refl, sym, ap, ◌∙◌, subst}
-use Rattle.std.specs.List.{list_all}
+use Rattle.tmw_workloads.proofs.Shared.{All, All-head, All-tail, Data, FitsKind, IsNoPart, IsTransaction, Kind, List, [], ap, both_ways, call_data, false, is_operation, is_request, is_transaction, kind_text, list_all, map, refl, subst, sym, transaction_data, true, ℕ, ◌&&◌, ◌++◌, ◌∙◌, ◌∷◌, ◌≡◌}
 use Rattle.std.proofs.Math.Bool.{and-true, and_assoc}
-use Rattle.std.proofs.lemmas.Bool.{both_ways}
-use Rattle.std.proofs.lemmas.List.Elements.{All-head, All-tail}
-use Rattle.serde_json.specs.Data.{Data}
-use Rattle.tmw_events.specs.Text.{kind_text, FitsKind}
-use Rattle.tmw_events.specs.declared.event.Kind.{Kind}
 use Rattle.tmw_trace.specs.KindTexts.{kind_text-injective}
-use Rattle.tmw_runs.specs.Scripts.{is_operation, is_request, is_transaction}
-use Rattle.tmw_workloads.specs.Json.{call_data, transaction_data}
-use Rattle.tmw_workloads.specs.Parts.{IsNoPart, IsTransaction}
 use Rattle.tmw_workloads.proofs.Rules.{transaction_is}
 use Rattle.tmw_workloads.proofs.Values.{array_same}
 

@@ -1,8 +1,6 @@
 -- What a value is, by what was read of it.
-use Rattle.std.proofs.Common.{◌≡◌, List, [], ◌∷◌, Some, refl}
-use Rattle.serde_json.specs.Data.{Data, Items, null, boolean, number, string, array, object}
+use Rattle.tmw_workloads.proofs.Shared.{Data, Items, List, Some, [], array, boolean, items_of, null, number, object, refl, string, ◌∷◌, ◌≡◌}
 use Rattle.serde_json.specs.Find.{as_array}
-use Rattle.serde_json.specs.View.{items_of}
 
 pub array_from_as_array : (content : Data) (items : Items) → Some items ≡ as_array content → content ≡ array items
 array_from_as_array null items is = cc

@@ -1,29 +1,11 @@
-use Rattle.std.proofs.Common.{◌≡◌, ◌++◌, ◌^◌, ◌-◌, ℕ, List, [], Option, length, map, refl, sym, ap, ◌∙◌, subst, append_assoc, arith}
-use Rattle.std.proofs.lemmas.List.{length-map}
+use Rattle.tmw_bench.proofs.Shared.{AllOpaque, AreEndings, AreTransactions, Event, Fits, Front, HasNumbers, HaveBegun, Headline, IsLogOf, IsVerdict, Kind, List, Option, ReaderOf, Refused, Vec, [], all_judged, ap, append_assoc, arith, came, ending_of, length, length-map, map, refl, rules_of, script_of, scripts_of, subst, sym, zeros, ℕ, ◌++◌, ◌-◌, ◌^◌, ◌∙◌, ◌≡◌}
 use Rattle.tmw_bench.proofs.OpaqueRounds.{all_opaque-append}
 use Rattle.tmw_bench.proofs.RoundsOver.{are_endings-map, over-log}
 use Rattle.tmw_bench.proofs.Whole.{is_benched, HasCome}
-use Rattle.std.specs.Global.{Vec}
-use Rattle.tmw_bench.specs.Begun.{HaveBegun}
-use Rattle.tmw_bench.specs.Playing.{AreTransactions}
-use Rattle.tmw_events.specs.declared.event.Kind.{Kind}
-use Rattle.tmw_bench.specs.Rounds.{ending_of, AllOpaque, AreEndings}
-use Rattle.tmw_defs.specs.Opaque.{zeros}
 use Rattle.tmw_drive.proofs.Workloads.{are_transactions-workload}
-use Rattle.tmw_events.specs.declared.event.Event.{Event}
-use Rattle.tmw_monitor.specs.Fitting.{Fits, rules_of}
-use Rattle.tmw_pump.specs.Fronts.{came}
 use Rattle.tmw_pump.specs.Held.{listed}
-use Rattle.tmw_defs.specs.Verdict.{IsVerdict}
-use Rattle.tmw_pump.proofs.Turns.{all_judged}
-use Rattle.tmw_pump.specs.Headline.{Headline, IsLogOf}
 use Rattle.tmw_pump.specs.Keeping.{IsKept}
 use Rattle.tmw_pump.specs.Resting.{all_of, rest_in}
-use Rattle.tmw_pump.specs.declared.front.Front.{Front}
-use Rattle.tmw_ring.specs.Ends.{ReaderOf}
-use Rattle.tmw_ring.specs.declared.refused.Refused.{Refused}
-use Rattle.tmw_ring_defs.specs.Sizes.{HasNumbers}
-use Rattle.tmw_runs.specs.Scripts.{script_of, scripts_of}
 use Rattle.tmw_bench.proofs.bench.carry_out.Goals as goal
 
 pub play_rounds-requires-clause-can : goal.play_rounds-requires-clause-can

@@ -1,16 +1,6 @@
 -- The last window of the log is kept.
-use Rattle.std.proofs.Common.{◌≡◌, ap, ◌∙◌, subst, sym}
-use Rattle.tmw_bench.specs.Benched.{HasBenched}
-use Rattle.tmw_counts.specs.Parts.{part_by}
-use Rattle.tmw_counts.specs.Summaries.{IsSummary}
-use Rattle.tmw_defs.proofs.VerdictProof.{verdict-one}
-use Rattle.tmw_defs.specs.Opaque.{zeros}
-use Rattle.tmw_defs.specs.declared.verdict.Verdict.{Verdict}
-use Rattle.tmw_monitor.specs.Fitting.{Fits, rules_of}
+use Rattle.tmw_bench.proofs.Shared.{Fits, Front, HasBenched, IsSummary, Verdict, ap, front_part, part_by, rules_of, scripts_of, subst, sym, verdict-one, zeros, ◌∙◌, ◌≡◌}
 use Rattle.tmw_monitor.specs.declared.monitor.Monitor.{Monitor}
-use Rattle.tmw_pump.specs.Fronts.{front_part}
-use Rattle.tmw_pump.specs.declared.front.Front.{Front}
-use Rattle.tmw_runs.specs.Scripts.{scripts_of}
 use Rattle.tmw_window.specs.Keeping.{KeepsShown}
 use Rattle.tmw_bench.proofs.bench.hunt.Goals as goal
 

@@ -1,13 +1,5 @@
 -- All of the log is kept.
-use Rattle.std.proofs.Common.{List, subst, sym}
-use Rattle.tmw_bench.specs.Benched.{HasBenched}
-use Rattle.tmw_counts.specs.Parts.{part_by}
-use Rattle.tmw_counts.specs.Summaries.{IsSummary}
-use Rattle.tmw_defs.specs.declared.verdict.Verdict.{Verdict}
-use Rattle.tmw_events.specs.declared.event.Event.{Event}
-use Rattle.tmw_pump.specs.Fronts.{front_part}
-use Rattle.tmw_pump.specs.declared.front.Front.{Front}
-use Rattle.tmw_runs.specs.Scripts.{scripts_of}
+use Rattle.tmw_bench.proofs.Shared.{Event, Front, HasBenched, IsSummary, List, Verdict, front_part, part_by, scripts_of, subst, sym}
 use Rattle.tmw_bench.proofs.bench.run_bench.Goals as goal
 
 pub returns-clause-ok : goal.returns-clause-ok

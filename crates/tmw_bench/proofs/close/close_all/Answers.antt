@@ -1,13 +1,5 @@
-use Rattle.std.proofs.Common.{◌≡◌, ◌<◌, ◌≤◌, ◌+◌, ◌++◌, ℕ, List, [], ◌∷◌, Option, length, get_or, map, sym, ap, ◌∙◌, subst, append_assoc, arith}
-use Rattle.std.proofs.lemmas.List.{append-nil, length-set, length-map, length_push, map_push, nil_from_length, get_or_default}
-use Rattle.std.specs.Vec.Iter.{into_iter_items}
+use Rattle.tmw_bench.proofs.Shared.{IsClosed, Line, List, Option, Refused, Worker, WriterIs, [], ap, append-nil, append_assoc, arith, get_or, get_or_default, into_iter_items, length, length-map, length-set, length_push, map, map_push, nil_from_length, shorter, subst, sym, ℕ, ◌++◌, ◌+◌, ◌<◌, ◌∙◌, ◌∷◌, ◌≡◌, ◌≤◌}
 use Rattle.tmw_bench.proofs.Starts.{Back, closed-next, rest-next, behind, worker_at}
-use Rattle.tmw_bench.specs.Lines.{IsClosed}
-use Rattle.tmw_bench.specs.declared.line.Line.{Line}
-use Rattle.tmw_bench.specs.declared.worker.Worker.{Worker}
-use Rattle.tmw_ring.proofs.InOrder.{shorter}
-use Rattle.tmw_ring.specs.Ends.{WriterIs}
-use Rattle.tmw_ring.specs.declared.refused.Refused.{Refused}
 use Rattle.tmw_bench.proofs.close.close_all.Goals as goal
 
 pub close_one-writer-requires-clause-up : goal.close_one-writer-requires-clause-up

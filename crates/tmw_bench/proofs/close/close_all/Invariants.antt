@@ -1,9 +1,5 @@
 -- The workers so far have come back, and their lines are closed.
-use Rattle.std.proofs.Common.{◌≡◌, ◌≤◌, ◌<◌, ◌++◌, ℕ, length, get_or, map}
-use Rattle.std.specs.Vec.Iter.{into_iter_items, into_iter_len}
-use Rattle.tmw_bench.specs.Lines.{IsClosed}
-use Rattle.tmw_bench.specs.declared.line.Line.{Line}
-use Rattle.tmw_bench.specs.declared.worker.Worker.{Worker}
+use Rattle.tmw_bench.proofs.Shared.{IsClosed, Line, Worker, get_or, into_iter_items, into_iter_len, length, map, ℕ, ◌++◌, ◌<◌, ◌≡◌, ◌≤◌}
 use Rattle.tmw_bench.proofs.close.close_all.Given as goal
 
 abbrev pub invariant-loop-worker : goal.invariant-loop-worker

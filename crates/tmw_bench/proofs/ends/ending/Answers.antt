@@ -1,5 +1,4 @@
-use Rattle.std.proofs.Common.{sym, ap}
-use Rattle.tmw_bench.specs.Rounds.{ending_of}
+use Rattle.tmw_bench.proofs.Shared.{ap, ending_of, sym}
 use Rattle.tmw_bench.proofs.ends.ending.Goals as goal
 
 pub returns-in-Some : goal.returns-in-Some

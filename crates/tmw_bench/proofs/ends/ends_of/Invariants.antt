@@ -1,6 +1,5 @@
 -- The endings so far.
-use Rattle.std.proofs.Common.{◌≡◌, map, take}
-use Rattle.tmw_bench.specs.Rounds.{ending_of}
+use Rattle.tmw_bench.proofs.Shared.{ending_of, map, take, ◌≡◌}
 use Rattle.tmw_bench.proofs.ends.ends_of.Given as goal
 
 abbrev pub invariant-loop-stop : goal.invariant-loop-stop

@@ -1,6 +1,5 @@
 -- More was judged.
-use Rattle.tmw_bench.specs.Keeping.{HasGoneOn}
-use Rattle.tmw_ring.specs.Ends.{ReaderOf}
+use Rattle.tmw_bench.proofs.Shared.{HasGoneOn, ReaderOf}
 use Rattle.tmw_bench.proofs.judging.judge_up_to.Given as goal
 
 abbrev pub invariant-loop : goal.invariant-loop

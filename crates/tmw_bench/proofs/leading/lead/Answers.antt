@@ -1,6 +1,4 @@
-use Rattle.std.proofs.Common.{◌≡◌, ◌+◌, ℕ, [], ◌∷◌, length, sym, ◌∙◌, subst, arith, refl}
-use Rattle.tmw_defs.specs.Verdict.{IsVerdict}
-use Rattle.tmw_bench.specs.Leading.{HasLedTo}
+use Rattle.tmw_bench.proofs.Shared.{HasLedTo, IsVerdict, [], arith, length, refl, subst, sym, ℕ, ◌+◌, ◌∙◌, ◌∷◌, ◌≡◌}
 use Rattle.tmw_bench.proofs.Leads.{gone_on-none, gone_on-then, led-heard, led-on, led-told, led-new}
 use Rattle.tmw_bench.proofs.leading.lead.Goals as goal
 

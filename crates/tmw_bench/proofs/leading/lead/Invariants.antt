@@ -1,10 +1,5 @@
 -- So many rounds have ended, and the workers were told where.
-use Rattle.std.proofs.Common.{◌≡◌, ◌+◌, ℕ, List, [], length}
-use Rattle.tmw_defs.specs.Verdict.{Rules}
-use Rattle.tmw_bench.specs.Keeping.{HasGoneOn}
-use Rattle.tmw_bench.specs.Leading.{HasLedTo}
-use Rattle.tmw_monitor.specs.Fitting.{Fits}
-use Rattle.tmw_ring.specs.Ends.{ReaderOf}
+use Rattle.tmw_bench.proofs.Shared.{Fits, HasGoneOn, HasLedTo, List, ReaderOf, Rules, [], length, ℕ, ◌+◌, ◌≡◌}
 use Rattle.tmw_bench.proofs.leading.lead.Given as goal
 
 abbrev pub invariant-loop-round : goal.invariant-loop-round

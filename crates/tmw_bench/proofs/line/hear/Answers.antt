@@ -1,4 +1,4 @@
-use Rattle.std.proofs.Common.{rules}
+use Rattle.tmw_bench.proofs.Shared.{rules}
 use Rattle.tmw_bench.proofs.Leads.{gone_on-none, gone_on-then}
 use Rattle.tmw_bench.proofs.line.hear.Goals as goal
 

@@ -1,8 +1,5 @@
 -- Nothing was heard yet.
-use Rattle.std.proofs.Common.{◌≡◌}
-use Rattle.rtrb.specs.Ring.{received, SameConsumer}
-use Rattle.tmw_bench.specs.Keeping.{HasGoneOn}
-use Rattle.tmw_ring.specs.Ends.{ReaderOf}
+use Rattle.tmw_bench.proofs.Shared.{HasGoneOn, ReaderOf, SameConsumer, received, ◌≡◌}
 use Rattle.tmw_bench.proofs.line.hear.Given as goal
 
 abbrev pub invariant-loop : goal.invariant-loop

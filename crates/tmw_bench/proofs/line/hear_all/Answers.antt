@@ -1,9 +1,7 @@
-use Rattle.std.proofs.Common.{◌≡◌, ◌<◌, arith, IsTrue, get_or, length, refl, subst}
-use Rattle.std.proofs.lemmas.List.{get_or_default}
+use Rattle.tmw_bench.proofs.Shared.{IsTrue, Line, arith, get_or, get_or_default, length, refl, subst, ◌<◌, ◌≡◌}
 use Rattle.tmw_bench.proofs.Leads.{gone_on-none, gone_on-then, heard-next, some_stop-here, some_stop-later}
-use Rattle.tmw_bench.specs.declared.line.Line.{Line}
-use Rattle.tmw_bench.proofs.line.hear_all.Goals as goal
 use Rattle.tmw_bench.proofs.line.hear_all.Goals.{then-is_stopped, else-is_stopped}
+use Rattle.tmw_bench.proofs.line.hear_all.Goals as goal
 
 pub loop-line-preserved : goal.loop-line-preserved
 loop-line-preserved g c =

@@ -1,8 +1,5 @@
 -- The first workers have told one thing more.
-use Rattle.std.proofs.Common.{IsTrue}
-use Rattle.tmw_bench.specs.Leading.{HaveHeardUpTo, SomeToldStop}
-use Rattle.tmw_bench.specs.Keeping.{HasGoneOn}
-use Rattle.tmw_ring.specs.Ends.{ReaderOf}
+use Rattle.tmw_bench.proofs.Shared.{HasGoneOn, HaveHeardUpTo, IsTrue, ReaderOf, SomeToldStop}
 use Rattle.tmw_bench.proofs.line.hear_all.Given as goal
 
 abbrev pub invariant-loop-line : goal.invariant-loop-line

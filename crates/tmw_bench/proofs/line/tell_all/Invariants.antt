@@ -1,5 +1,5 @@
 -- The first workers were told.
-use Rattle.tmw_bench.specs.Leading.{HaveToldUpTo}
+use Rattle.tmw_bench.proofs.Shared.{HaveToldUpTo}
 use Rattle.tmw_bench.proofs.line.tell_all.Given as goal
 
 abbrev pub invariant-loop-line : goal.invariant-loop-line

@@ -1,12 +1,6 @@
-use Rattle.std.proofs.Common.{◌≡◌, ◌+◌, ◌++◌, List, [], ◌∷◌, length, get_or, sym, ap, ◌∙◌, subst, append_assoc, arith}
-use Rattle.std.proofs.lemmas.List.{append-nil, length_push, nil_from_length}
-use Rattle.std.specs.Vec.Iter.{into_iter_items}
+use Rattle.tmw_bench.proofs.Shared.{IsOpened, Line, List, Worker, WriterIs, [], ap, append-nil, append_assoc, arith, get_or, into_iter_items, length, length_push, nil_from_length, subst, sym, ◌++◌, ◌+◌, ◌∙◌, ◌∷◌, ◌≡◌}
 use Rattle.tmw_bench.proofs.Returns.{at_seam}
 use Rattle.tmw_bench.proofs.Starts.{opened-next}
-use Rattle.tmw_bench.specs.Lines.{IsOpened}
-use Rattle.tmw_bench.specs.declared.line.Line.{Line}
-use Rattle.tmw_bench.specs.declared.worker.Worker.{Worker}
-use Rattle.tmw_ring.specs.Ends.{WriterIs}
 use Rattle.tmw_bench.proofs.open.open_all.Goals as goal
 
 pub loop-writer-preserved : goal.loop-writer-preserved

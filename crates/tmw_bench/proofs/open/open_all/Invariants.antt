@@ -1,10 +1,5 @@
 -- The writers so far have their workers.
-use Rattle.std.proofs.Common.{◌≡◌, ◌<◌, ◌++◌, ℕ, length, get_or}
-use Rattle.std.specs.Vec.Iter.{into_iter_items, into_iter_len}
-use Rattle.tmw_bench.specs.Lines.{IsOpened}
-use Rattle.tmw_bench.specs.declared.line.Line.{Line}
-use Rattle.tmw_bench.specs.declared.worker.Worker.{Worker}
-use Rattle.tmw_ring.specs.Ends.{WriterIs}
+use Rattle.tmw_bench.proofs.Shared.{IsOpened, Line, Worker, WriterIs, get_or, into_iter_items, into_iter_len, length, ℕ, ◌++◌, ◌<◌, ◌≡◌}
 use Rattle.tmw_bench.proofs.open.open_all.Given as goal
 
 abbrev pub invariant-loop-writer : goal.invariant-loop-writer

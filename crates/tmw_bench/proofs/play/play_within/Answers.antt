@@ -1,16 +1,7 @@
-use Rattle.std.proofs.Common.{◌≡◌, List, Option, length, map, inl, inr, sym, ◌∙◌, subst}
-use Rattle.std.proofs.lemmas.List.{length-map}
-use Rattle.tmw_bench.specs.Begun.{IsAfter}
-use Rattle.tmw_bench.specs.Playing.{SomeStop}
+use Rattle.tmw_bench.proofs.Shared.{AreClosed, AreNewLines, ArePairs, IsAfter, Line, List, Option, Refused, SomeStop, SomeToldStop, WriterIs, inl, inr, length, length-map, map, script_of, scripts_of, subst, sym, ◌∙◌, ◌≡◌}
 use Rattle.tmw_bench.proofs.Gathered.{is_after-gathered, new_lines, new_workers, pairs, some_stop-gathered}
 use Rattle.tmw_bench.proofs.Joined.{back_count, come_back, given_back, led_to}
 use Rattle.tmw_bench.proofs.Starts.{Back}
-use Rattle.tmw_bench.specs.Lines.{AreClosed, ArePairs}
-use Rattle.tmw_bench.specs.Leading.{AreNewLines, SomeToldStop}
-use Rattle.tmw_bench.specs.declared.line.Line.{Line}
-use Rattle.tmw_ring.specs.Ends.{WriterIs}
-use Rattle.tmw_ring.specs.declared.refused.Refused.{Refused}
-use Rattle.tmw_runs.specs.Scripts.{script_of, scripts_of}
 use Rattle.tmw_bench.proofs.play.play_within.Goals as goal
 
 pub start_all-requires-clause-new : goal.start_all-requires-clause-new

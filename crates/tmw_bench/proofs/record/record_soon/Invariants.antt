@@ -1,6 +1,5 @@
 -- So far the writer has recorded nothing.
-use Rattle.tmw_bench.specs.Recording.{HasWaited}
-use Rattle.tmw_ring.specs.Ends.{WriterOf}
+use Rattle.tmw_bench.proofs.Shared.{HasWaited, WriterOf}
 use Rattle.tmw_bench.proofs.record.record_soon.Given as goal
 
 abbrev pub invariant-loop : goal.invariant-loop

@@ -1,15 +1,6 @@
-use Rattle.std.proofs.Common.{◌≡◌, ◌<◌, ◌+◌, ◌++◌, ℕ, List, [], ◌∷◌, length, get_or, IsTrue, sym, ap, ◌∙◌, subst, append_assoc, arith}
-use Rattle.std.proofs.lemmas.List.{length_push, get_or-map}
-use Rattle.std.specs.Vec.Iter.{into_iter_items}
+use Rattle.tmw_bench.proofs.Shared.{IsNewWorker, IsPromised, IsTrue, Kind, List, Worker, [], ap, append_assoc, are_transactions, arith, calls_of, get_or, get_or-map, into_iter_items, length, length_push, script_at, script_of, scripts_of, shorter, subst, sym, ℕ, ◌++◌, ◌+◌, ◌<◌, ◌∙◌, ◌∷◌, ◌≡◌}
 use Rattle.tmw_bench.proofs.Returns.{pushed, at_seam}
-use Rattle.tmw_bench.specs.Lines.{IsPromised, IsNewWorker}
-use Rattle.tmw_drive.specs.Driving.{script_at}
-use Rattle.tmw_drive.specs.Playing.{calls_of}
-use Rattle.tmw_events.specs.declared.event.Kind.{Kind}
-use Rattle.tmw_ring.proofs.InOrder.{shorter}
-use Rattle.tmw_bench.specs.declared.worker.Worker.{Worker}
 use Rattle.tmw_bench.proofs.Starts.{Handle}
-use Rattle.tmw_runs.specs.Scripts.{are_transactions, script_of, scripts_of}
 use Rattle.tmw_bench.proofs.threads.start_all.Goals as goal
 
 pub loop-worker-preserved : goal.loop-worker-preserved

@@ -1,9 +1,5 @@
 -- The workers so far have gone to their threads.
-use Rattle.std.proofs.Common.{◌≡◌, ◌<◌, ◌++◌, ℕ, length, get_or}
-use Rattle.std.specs.Vec.Iter.{into_iter_items, into_iter_len}
-use Rattle.tmw_drive.specs.Playing.{calls_of}
-use Rattle.tmw_bench.specs.Lines.{IsPromised}
-use Rattle.tmw_runs.specs.Scripts.{scripts_of}
+use Rattle.tmw_bench.proofs.Shared.{IsPromised, calls_of, get_or, into_iter_items, into_iter_len, length, scripts_of, ℕ, ◌++◌, ◌<◌, ◌≡◌}
 use Rattle.tmw_bench.proofs.threads.start_all.Given as goal
 
 abbrev pub invariant-loop-worker : goal.invariant-loop-worker

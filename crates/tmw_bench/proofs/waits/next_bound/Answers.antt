@@ -1,4 +1,4 @@
-use Rattle.std.proofs.Common.{rules}
+use Rattle.tmw_bench.proofs.Shared.{rules}
 use Rattle.tmw_bench.proofs.waits.next_bound.Goals as goal
 
 pub returns-then-tail-bound-clause-next : goal.returns-then-tail-bound-clause-next

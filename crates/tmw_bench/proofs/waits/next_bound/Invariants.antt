@@ -1,6 +1,5 @@
 -- Nothing was taken yet.
-use Rattle.std.proofs.Common.{◌≡◌}
-use Rattle.rtrb.specs.Ring.{received, SameConsumer}
+use Rattle.tmw_bench.proofs.Shared.{SameConsumer, received, ◌≡◌}
 use Rattle.tmw_bench.proofs.waits.next_bound.Given as goal
 
 abbrev pub invariant-loop : goal.invariant-loop

@@ -1,6 +1,5 @@
 -- The writer has only seen more.
-use Rattle.tmw_ring.specs.Ends.{WriterOf}
-use Rattle.tmw_bench.specs.Meeting.{HasOnlySeen}
+use Rattle.tmw_bench.proofs.Shared.{HasOnlySeen, WriterOf}
 use Rattle.tmw_bench.proofs.waits.see.Given as goal
 
 abbrev pub invariant-loop : goal.invariant-loop

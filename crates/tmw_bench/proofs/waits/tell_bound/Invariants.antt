@@ -1,6 +1,5 @@
 -- Nothing was told yet.
-use Rattle.std.proofs.Common.{◌≡◌}
-use Rattle.rtrb.specs.Ring.{sent, SameProducer}
+use Rattle.tmw_bench.proofs.Shared.{SameProducer, sent, ◌≡◌}
 use Rattle.tmw_bench.proofs.waits.tell_bound.Given as goal
 
 abbrev pub invariant-loop : goal.invariant-loop

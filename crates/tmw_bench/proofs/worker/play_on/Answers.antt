@@ -1,5 +1,4 @@
-use Rattle.std.proofs.Common.{refl}
-use Rattle.tmw_drive.specs.Playing.{calls_of}
+use Rattle.tmw_bench.proofs.Shared.{calls_of, refl}
 use Rattle.tmw_bench.proofs.Returns.{worked-more}
 use Rattle.tmw_bench.proofs.Between.{between-new, between-next, played_on-stopped, played_on-over}
 use Rattle.tmw_bench.proofs.worker.play_on.Goals as goal

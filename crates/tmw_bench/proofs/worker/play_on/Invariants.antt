@@ -1,6 +1,5 @@
 -- The worker is between two rounds.
-use Rattle.tmw_drive.specs.Playing.{calls_of}
-use Rattle.tmw_bench.specs.Workers.{IsBetween}
+use Rattle.tmw_bench.proofs.Shared.{IsBetween, calls_of}
 use Rattle.tmw_bench.proofs.worker.play_on.Given as goal
 
 abbrev pub invariant-loop : goal.invariant-loop

@@ -1,4 +1,4 @@
-use Rattle.tmw_drive.proofs.Players.{goes_on-same}
+use Rattle.tmw_bench.proofs.Shared.{goes_on-same}
 use Rattle.tmw_bench.proofs.Claims.{claimed-pair, stops_at-answer, stops_at-call}
 use Rattle.tmw_bench.proofs.working.step.Goals as goal
 

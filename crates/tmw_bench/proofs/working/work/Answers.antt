@@ -1,6 +1,4 @@
-use Rattle.std.proofs.Common.{sym, ◌∙◌, refl}
-use Rattle.tmw_drive.specs.Playing.{calls_of}
-use Rattle.tmw_tm.specs.Answers.{Call, Answer}
+use Rattle.tmw_bench.proofs.Shared.{Answer, Call, calls_of, refl, sym, ◌∙◌}
 use Rattle.tmw_bench.proofs.Left.{calls_left-goes_on}
 use Rattle.tmw_bench.proofs.Works.{played-called, played-new, worked-none_left, worked-refused}
 use Rattle.tmw_bench.proofs.working.work.Goals as goal

@@ -1,9 +1,6 @@
 -- The player's run of the script so far is recorded.
-use Rattle.std.proofs.Common.{◌≡◌}
-use Rattle.tmw_drive.specs.Playing.{calls_of, left_of}
-use Rattle.tmw_ring.specs.Ends.{WriterOf}
+use Rattle.tmw_bench.proofs.Shared.{HasRunSoFar, WriterOf, calls_of, left_of, ◌≡◌}
 use Rattle.tmw_bench.proofs.Left.{calls_left}
-use Rattle.tmw_bench.specs.Calling.{HasRunSoFar}
 use Rattle.tmw_bench.proofs.working.work.Given as goal
 
 abbrev pub invariant-loop-call : goal.invariant-loop-call

@@ -1,6 +1,5 @@
-use Rattle.std.proofs.Common.{rules}
+use Rattle.tmw_c.proofs.Shared.{IsUnended, rules}
 use Rattle.tmw_c.proofs.Refusals.{closing-unended}
-use Rattle.tmw_c.specs.Closing.{IsUnended}
 use Rattle.tmw_c.proofs.closing.close.Goals as goal
 
 pub returns-in-Ok : goal.returns-in-Ok

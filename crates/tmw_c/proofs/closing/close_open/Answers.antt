@@ -1,12 +1,8 @@
-use Rattle.std.proofs.Common.{◌≡◌, ℕ, refl, sym, ap, ◌∙◌, subst, inl, inr}
+use Rattle.tmw_c.proofs.Shared.{AreEmpty, AreHeld, AreInPlace, Watch, ap, inl, inr, refl, rest_of, subst, sym, ℕ, ◌∙◌, ◌≡◌}
 use Rattle.tmw_c.proofs.Taken.{all_held, of_ring_held, take_whole}
-use Rattle.tmw_c.proofs.closing.close_open.Goals as goal
-use Rattle.tmw_c.specs.Closing.{AreHeld, AreInPlace}
-use Rattle.tmw_c.specs.Opening.{AreEmpty}
 use Rattle.tmw_handles.specs.declared.held_watch.HeldWatch.TheVariants.{Shared}
 use Rattle.tmw_watch.proofs.Closings.{is_closed, is_left}
-use Rattle.tmw_watch.specs.Shown.{rest_of}
-use Rattle.tmw_watch.specs.declared.watch.Watch.{Watch}
+use Rattle.tmw_c.proofs.closing.close_open.Goals as goal
 
 pub returns-then-not-are_in_place-clause-err : goal.returns-then-not-are_in_place-clause-err
 returns-then-not-are_in_place-clause-err c = record {

@@ -1,6 +1,5 @@
 -- So many handles are there, and none holds anything.
-use Rattle.std.proofs.Common.{◌≡◌, length}
-use Rattle.tmw_c.specs.Opening.{AreEmpty}
+use Rattle.tmw_c.proofs.Shared.{AreEmpty, length, ◌≡◌}
 use Rattle.tmw_c.proofs.closing.empty_handles.Given as goal
 
 abbrev pub invariant-loop : goal.invariant-loop

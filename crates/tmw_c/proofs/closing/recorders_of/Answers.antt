@@ -1,12 +1,6 @@
-use Rattle.std.proofs.Common.{◌+◌, ◌++◌, ℕ, List, [], ◌∷◌, length, sym, ap, ◌∙◌, subst, append_assoc, arith}
-use Rattle.std.proofs.lemmas.List.{length_push}
-use Rattle.std.specs.Vec.Iter.{into_iter_items}
+use Rattle.tmw_c.proofs.Shared.{AreHeld, HeldRecorder, IsHeld, List, Recorder, RecorderHandle, [], ap, append_assoc, arith, into_iter_items, length, length_push, subst, sym, ℕ, ◌++◌, ◌+◌, ◌∙◌, ◌∷◌}
 use Rattle.tmw_c.proofs.Places.{both_more}
 use Rattle.tmw_c.proofs.closing.recorders_of.Goals as goal
-use Rattle.tmw_c.specs.Closing.{AreHeld, IsHeld}
-use Rattle.tmw_handles.specs.declared.held_recorder.HeldRecorder.{HeldRecorder}
-use Rattle.tmw_handles.specs.declared.recorder_handle.RecorderHandle.{RecorderHandle}
-use Rattle.tmw_watch.specs.declared.recorder.Recorder.{Recorder}
 
 pub loop-handle-preserved : goal.loop-handle-preserved
 loop-handle-preserved c =

@@ -1,7 +1,5 @@
 -- So many handles have given what they held, and the others are still to come.
-use Rattle.std.proofs.Common.{◌≡◌, ◌≤◌, ◌+◌, ◌++◌, length, vec_len, vec_capacity}
-use Rattle.std.specs.Vec.Iter.{into_iter_items, into_iter_len}
-use Rattle.tmw_c.specs.Closing.{AreHeld}
+use Rattle.tmw_c.proofs.Shared.{AreHeld, into_iter_items, into_iter_len, length, vec_capacity, vec_len, ◌++◌, ◌+◌, ◌≡◌, ◌≤◌}
 use Rattle.tmw_c.proofs.closing.recorders_of.Given as goal
 
 abbrev pub invariant-loop-handle : goal.invariant-loop-handle

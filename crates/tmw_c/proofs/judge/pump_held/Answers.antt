@@ -1,4 +1,4 @@
-use Rattle.std.proofs.Common.{refl}
+use Rattle.tmw_c.proofs.Shared.{refl}
 use Rattle.tmw_c.proofs.judge.pump_held.Goals as goal
 
 pub returns-in-Ok-clause-ok : goal.returns-in-Ok-clause-ok

@@ -1,4 +1,4 @@
-use Rattle.std.proofs.Common.{rules}
+use Rattle.tmw_c.proofs.Shared.{rules}
 use Rattle.tmw_c.proofs.judge.summary_held.Goals as goal
 
 pub returns-clause-some : goal.returns-clause-some

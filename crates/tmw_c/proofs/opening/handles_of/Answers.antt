@@ -1,11 +1,7 @@
-use Rattle.std.proofs.Common.{◌+◌, ◌++◌, ℕ, List, [], ◌∷◌, Some, length, refl, sym, ap, ◌∙◌, subst, append_assoc, arith}
-use Rattle.std.proofs.lemmas.List.{length_push}
-use Rattle.std.specs.Vec.Iter.{into_iter_items}
+use Rattle.tmw_c.proofs.Shared.{AreHandlesOf, List, Recorder, RecorderHandle, Some, [], ap, append_assoc, arith, into_iter_items, length, length_push, refl, subst, sym, ℕ, ◌++◌, ◌+◌, ◌∙◌, ◌∷◌}
 use Rattle.tmw_c.proofs.Places.{both_more}
+use Rattle.tmw_c.specs.Opening.{Holds}
 use Rattle.tmw_c.proofs.opening.handles_of.Goals as goal
-use Rattle.tmw_c.specs.Opening.{AreHandlesOf, Holds}
-use Rattle.tmw_handles.specs.declared.recorder_handle.RecorderHandle.{RecorderHandle}
-use Rattle.tmw_watch.specs.declared.recorder.Recorder.{Recorder}
 
 pub loop-recorder-preserved : goal.loop-recorder-preserved
 loop-recorder-preserved c =

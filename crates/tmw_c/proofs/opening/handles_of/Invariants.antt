@@ -1,7 +1,5 @@
 -- So many recorders are held by as many handles, and the others are still to come.
-use Rattle.std.proofs.Common.{◌≡◌, ◌≤◌, ◌+◌, ◌++◌, length, vec_len, vec_capacity}
-use Rattle.std.specs.Vec.Iter.{into_iter_items, into_iter_len}
-use Rattle.tmw_c.specs.Opening.{AreHandlesOf}
+use Rattle.tmw_c.proofs.Shared.{AreHandlesOf, into_iter_items, into_iter_len, length, vec_capacity, vec_len, ◌++◌, ◌+◌, ◌≡◌, ◌≤◌}
 use Rattle.tmw_c.proofs.opening.handles_of.Given as goal
 
 abbrev pub invariant-loop-recorder : goal.invariant-loop-recorder

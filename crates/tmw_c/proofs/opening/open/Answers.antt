@@ -1,6 +1,5 @@
-use Rattle.std.proofs.Common.{rules, refl, ◌∙◌, ℕ, Some, ap, sym, subst}
+use Rattle.tmw_c.proofs.Shared.{AreHandlesOf, AreSettings, Some, ap, refl, rules, subst, sym, ℕ, ◌∙◌}
 use Rattle.tmw_c.proofs.opening.open.Goals as goal
-use Rattle.tmw_c.specs.Opening.{AreHandlesOf, AreSettings}
 
 pub returns : goal.returns
 returns c =

@@ -1,5 +1,4 @@
-use Rattle.std.proofs.Common.{rules, ◌≡◌}
-use Rattle.std.specs.Prelude.{Some}
+use Rattle.tmw_c.proofs.Shared.{Some, rules, ◌≡◌}
 use Rattle.tmw_c.proofs.Refusals.{recording-refused}
 use Rattle.tmw_c.proofs.record.record.Goals as goal
 

@@ -1,4 +1,4 @@
-use Rattle.std.proofs.Common.{inr, rules}
+use Rattle.tmw_c.proofs.Shared.{inr, rules}
 use Rattle.tmw_c.proofs.room.ask.Goals as goal
 
 pub returns : goal.returns

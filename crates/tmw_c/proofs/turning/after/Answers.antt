@@ -1,7 +1,5 @@
-use Rattle.std.proofs.Common.{rules, ◌≡◌, ◌+◌, inl, inr, true, false, refl}
+use Rattle.tmw_c.proofs.Shared.{Turn, false, inl, inr, is_abort, refl, rules, true, ◌+◌, ◌≡◌}
 use Rattle.tmw_c.proofs.Turns.{after-abort, after-answer, after-last, not-ended}
-use Rattle.tmw_c.specs.declared.turn.Turn.{Turn}
-use Rattle.tmw_runs.specs.Runs.{is_abort}
 use Rattle.tmw_c.proofs.turning.after.Goals as goal
 
 pub returns-then-is_abort : goal.returns-then-is_abort

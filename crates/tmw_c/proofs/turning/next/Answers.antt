@@ -1,9 +1,5 @@
-use Rattle.std.proofs.Common.{rules, length, get_or, refl}
-use Rattle.std.proofs.lemmas.List.{get_or_default}
+use Rattle.tmw_c.proofs.Shared.{Call, IsTurn, Turn, get_or, get_or_default, length, refl, rules}
 use Rattle.tmw_c.proofs.Turns.{after-call, not-called}
-use Rattle.tmw_c.specs.Turning.{IsTurn}
-use Rattle.tmw_c.specs.declared.turn.Call.{Call}
-use Rattle.tmw_c.specs.declared.turn.Turn.{Turn}
 use Rattle.tmw_c.proofs.turning.next.Goals as goal
 
 pub returns-in-Ok : goal.returns-in-Ok

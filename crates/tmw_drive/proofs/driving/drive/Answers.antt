@@ -1,11 +1,7 @@
-use Rattle.std.proofs.Common.{◌≤◌, ◌^◌, List, length, sym, subst}
+use Rattle.tmw_drive.proofs.Shared.{Answer, Call, Event, IsVerdict, List, length, scripts_of, subst, sym, ◌^◌, ◌≤◌}
 use Rattle.tmw_defs.specs.Opaque.{zeros}
-use Rattle.tmw_defs.specs.Verdict.{IsVerdict}
 use Rattle.tmw_drive.proofs.Drives.{formed-driven, length-driven}
-use Rattle.tmw_events.specs.declared.event.Event.{Event}
 use Rattle.tmw_monitor.specs.Fitting.{rules_of}
-use Rattle.tmw_runs.specs.Scripts.{scripts_of}
-use Rattle.tmw_tm.specs.Answers.{Call, Answer}
 use Rattle.tmw_drive.proofs.driving.drive.Goals as goal
 
 pub judge-requires : goal.judge-requires

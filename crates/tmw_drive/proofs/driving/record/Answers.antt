@@ -1,14 +1,7 @@
-use Rattle.std.proofs.Common.{◌≡◌, ℕ, List, [], length, drop, sym, ap, subst, ◌∙◌}
-use Rattle.std.proofs.lemmas.List.{length-map, take_at}
+use Rattle.tmw_drive.proofs.Shared.{AllEnd, AllNew, AllPlay, Answer, Call, Drives, Event, List, Player, [], ap, drop, length, length-map, script_of, scripts_of, subst, sym, take_at, ℕ, ◌∙◌, ◌≡◌}
 use Rattle.tmw_drive.proofs.AllPlaying.{all_play-new}
 use Rattle.tmw_drive.proofs.Drives.{is_driven}
 use Rattle.tmw_drive.proofs.Workloads.{are_transactions-workload}
-use Rattle.tmw_drive.specs.Driving.{Drives}
-use Rattle.tmw_drive.specs.Playing.{AllEnd, AllNew, AllPlay}
-use Rattle.tmw_drive.specs.declared.player.Player.{Player}
-use Rattle.tmw_events.specs.declared.event.Event.{Event}
-use Rattle.tmw_runs.specs.Scripts.{script_of, scripts_of}
-use Rattle.tmw_tm.specs.Answers.{Call, Answer}
 use Rattle.tmw_drive.proofs.driving.record.Goals as goal
 
 pub play-requires-clause-all : goal.play-requires-clause-all

@@ -1,10 +1,5 @@
 -- The endings of the players so far.
-use Rattle.std.proofs.Common.{◌≡◌, ◌<◌, ℕ, length, get_or}
-use Rattle.tmw_drive.specs.Driving.{script_at}
-use Rattle.tmw_drive.specs.Playing.{left_of, next_of, IsEnding}
-use Rattle.tmw_drive.specs.declared.ending.Ending.{Ending}
-use Rattle.tmw_drive.specs.declared.player.Player.{Player}
-use Rattle.tmw_runs.specs.Scripts.{scripts_of}
+use Rattle.tmw_drive.proofs.Shared.{Ending, IsEnding, Player, get_or, left_of, length, next_of, script_at, scripts_of, ℕ, ◌<◌, ◌≡◌}
 use Rattle.tmw_drive.proofs.playing.ends_of.Given as goal
 
 abbrev pub invariant-loop-place : goal.invariant-loop-place

@@ -1,14 +1,6 @@
-use Rattle.std.proofs.Common.{◌≡◌, ◌<◌, length, get_or, sym, ap, subst, ◌∙◌}
-use Rattle.std.specs.Prelude.{slice_set}
-use Rattle.std.proofs.lemmas.List.{get_or_default, length-map}
-use Rattle.tmw_defs.specs.Texts.{kinds_of}
+use Rattle.tmw_drive.proofs.Shared.{AllPlay, Answer, Call, DoesEntry, Player, Plays, ap, calls_of, get_or, get_or_default, kinds_of, length, length-map, script_at, script_of, scripts_of, slice_set, subst, sym, ◌<◌, ◌∙◌, ◌≡◌}
 use Rattle.tmw_drive.proofs.AllPlaying.{all_play-entry, numbered-read, on_ok, plays-read}
 use Rattle.tmw_drive.proofs.Positions.{script_at-read}
-use Rattle.tmw_drive.specs.Driving.{script_at, DoesEntry}
-use Rattle.tmw_drive.specs.Playing.{calls_of, AllPlay, Plays}
-use Rattle.tmw_drive.specs.declared.player.Player.{Player}
-use Rattle.tmw_runs.specs.Scripts.{script_of, scripts_of}
-use Rattle.tmw_tm.specs.Answers.{Call, Answer}
 use Rattle.tmw_drive.proofs.playing.enter.Goals as goal
 
 pub step-requires : goal.step-requires

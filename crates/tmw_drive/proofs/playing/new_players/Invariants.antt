@@ -1,5 +1,5 @@
 -- The players so far.
-use Rattle.tmw_drive.specs.Playing.{AllNew}
+use Rattle.tmw_drive.proofs.Shared.{AllNew}
 use Rattle.tmw_drive.proofs.playing.new_players.Given as goal
 
 abbrev pub invariant-loop-number : goal.invariant-loop-number

@@ -1,8 +1,6 @@
 -- The entries so far are done, and each player stands where they have brought it.
-use Rattle.std.proofs.Common.{drop}
-use Rattle.tmw_runs.specs.Scripts.{scripts_of}
+use Rattle.tmw_drive.proofs.Shared.{AllPlay, drop, scripts_of}
 use Rattle.tmw_drive.proofs.Entries.{DrivesOn}
-use Rattle.tmw_drive.specs.Playing.{AllPlay}
 use Rattle.tmw_drive.proofs.playing.play.Given as goal
 
 abbrev pub invariant-loop-entry : goal.invariant-loop-entry

@@ -1,10 +1,6 @@
-use Rattle.std.proofs.Common.{◌++◌, [], ◌∷◌, refl, sym, ap, subst, ◌∙◌, inl, inr}
-use Rattle.tmw_defs.specs.Texts.{kinds_of}
+use Rattle.tmw_drive.proofs.Shared.{Answer, Call, Event, Plays, [], ap, calls_of, inl, inr, kinds_of, refl, subst, sym, ◌++◌, ◌∙◌, ◌∷◌}
 use Rattle.tmw_drive.proofs.Entries.{kinds_of-pair_own, pushed-pair}
 use Rattle.tmw_drive.proofs.Players.{beginning-plays, call-plays, goes_on-same, plays-goes_on, whole-plays}
-use Rattle.tmw_drive.specs.Playing.{calls_of, Plays}
-use Rattle.tmw_events.specs.declared.event.Event.{Event}
-use Rattle.tmw_tm.specs.Answers.{Call, Answer}
 use Rattle.tmw_drive.proofs.playing.step.Goals as goal
 
 pub returns-in_default-clause-entry : goal.returns-in_default-clause-entry

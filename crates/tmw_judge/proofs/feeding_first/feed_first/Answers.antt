@@ -1,18 +1,15 @@
 -- While not all verdicts are final, each event that was read is fed.
-use Rattle.std.proofs.Common.{ap, refl, sym, ◌∙◌}
-use Rattle.tmw_lines.specs.TextFault.{failures_after}
+use Rattle.tmw_judge.proofs.Shared.{ap, failures_after, refl, sym, ◌∙◌}
 use Rattle.tmw_judge.proofs.FirstFed.{HasFed-none, HasFed-push, feeds-end, feeds-fault, feeds-final, feeds-lack, reads_on, room-next}
 use Rattle.tmw_judge.proofs.feeding_first.feed_first.Goals as goal
 
 pub loop-lines-init : goal.loop-lines-init
-loop-lines-init g c =
-    (HasFed-none g.S.Source.from g.C.Counting.counts c.args.source.now c.args.lines.now c.args.judges.now, refl)
+loop-lines-init g c = (HasFed-none, refl)
 
 pub take-requires : goal.take-requires
 take-requires g c =
     let given = rw c.in-Ok-Some.field-0-is at c.in-Ok-Some.ensures.item in
-    room-next g.S.Source.from g.C.Counting.counts c.args.source.now c.args.lines.now c.args.judges.now c.loop-lines.source
-    c.loop-lines.lines c.loop-lines.judges c.loop-lines.invariant.0 c.next.new.self given.0 c.in-Ok-Some.event given.2 c.requires
+    room-next c.loop-lines.invariant.0 c.next.new.self given.0 c.in-Ok-Some.event given.2 c.requires
 
 pub loop-lines-smaller : goal.loop-lines-smaller
 loop-lines-smaller g c = rw c.in-Ok-Some.field-0-is at c.in-Ok-Some.ensures.falls
@@ -20,18 +17,16 @@ loop-lines-smaller g c = rw c.in-Ok-Some.field-0-is at c.in-Ok-Some.ensures.fall
 pub loop-lines-preserved : goal.loop-lines-preserved
 loop-lines-preserved g c =
     let given = rw c.in-Ok-Some.field-0-is at c.in-Ok-Some.ensures.item in (
-      HasFed-push g.S.Source.from g.C.Counting.counts c.args.source.now c.args.lines.now c.args.judges.now c.loop-lines.source
-          c.loop-lines.lines c.loop-lines.judges c.loop-lines.invariant.0 (sym c.loop-lines-test.ensures) c.next.new.source
-          c.next.new.self c.take.new.self given.0 c.in-Ok-Some.event given.1 given.2 c.in-Ok.ensures.taken,
+      HasFed-push c.loop-lines.invariant.0 (sym c.loop-lines-test.ensures) c.next.new.source c.next.new.self
+          c.take.new.self given.0 c.in-Ok-Some.event given.1 given.2 c.in-Ok.ensures.taken,
       c.in-Ok-Some.ensures.well ∙ c.loop-lines.invariant.1,
     )
 
 pub returns-in_default-clause-feeds : goal.returns-in_default-clause-feeds
 returns-in_default-clause-feeds g c =
     let given = rw c.in-Ok-Some.field-0-is at c.in-Ok-Some.ensures.item in
-    feeds-lack g.S.Source.from g.C.Counting.counts c.args.source.now c.args.lines.now c.args.judges.now c.loop-lines.source
-    c.loop-lines.lines c.loop-lines.judges c.loop-lines.invariant.0 (sym c.loop-lines-test.ensures) _
-    (g.S.Source.from.ended c.next.new.source) c.next.new.source c.next.new.self c.take.new.self given.0 c.in-Ok-Some.event given.1 given.2
+    feeds-lack c.loop-lines.invariant.0 (sym c.loop-lines-test.ensures) _ (g.S.Source.from.ended c.next.new.source)
+    c.next.new.source c.next.new.self c.take.new.self given.0 c.in-Ok-Some.event given.1 given.2
 
 pub returns-in_default-clause-failed : goal.returns-in_default-clause-failed
 returns-in_default-clause-failed g c = c.in-Ok-Some.ensures.well ∙ c.loop-lines.invariant.1
@@ -39,9 +34,8 @@ returns-in_default-clause-failed g c = c.in-Ok-Some.ensures.well ∙ c.loop-line
 pub returns-in-Ok-None-clause-feeds : goal.returns-in-Ok-None-clause-feeds
 returns-in-Ok-None-clause-feeds g c =
     let given = rw c.in-Ok-None.field-0-is at c.in-Ok-None.ensures.end in
-    feeds-end g.S.Source.from g.C.Counting.counts c.args.source.now c.args.lines.now c.args.judges.now c.loop-lines.source
-    c.loop-lines.lines c.loop-lines.judges c.loop-lines.invariant.0 (sym c.loop-lines-test.ensures) tt
-    (g.S.Source.from.ended c.next.new.source) c.next.new.source c.next.new.self given.0 given.1 given.2
+    feeds-end c.loop-lines.invariant.0 (sym c.loop-lines-test.ensures) tt (g.S.Source.from.ended c.next.new.source)
+    c.next.new.source c.next.new.self given.0 given.1 given.2
 
 pub returns-in-Ok-None-clause-well : goal.returns-in-Ok-None-clause-well
 returns-in-Ok-None-clause-well g c = c.in-Ok-None.ensures.well ∙ c.loop-lines.invariant.1
@@ -49,21 +43,17 @@ returns-in-Ok-None-clause-well g c = c.in-Ok-None.ensures.well ∙ c.loop-lines.
 pub returns-in-Err-clause-feeds : goal.returns-in-Err-clause-feeds
 returns-in-Err-clause-feeds g c =
     let given = c.in-Err.ensures.at_line in
-    feeds-fault g.S.Source.from g.C.Counting.counts c.args.source.now c.args.lines.now c.args.judges.now c.loop-lines.source
-    c.loop-lines.lines c.loop-lines.judges c.loop-lines.invariant.0 (sym c.loop-lines-test.ensures) _
-    (g.S.Source.from.ended c.next.new.source) c.next.new.source c.next.new.self given.0 c.in-Err.fault given.1 given.2
+    feeds-fault c.loop-lines.invariant.0 (sym c.loop-lines-test.ensures) _ (g.S.Source.from.ended c.next.new.source)
+    c.next.new.source c.next.new.self given.0 c.in-Err.fault given.1 given.2
 
 pub returns-in-Err-clause-failed : goal.returns-in-Err-clause-failed
 returns-in-Err-clause-failed g c =
-    let reading = reads_on g.S.Source.from g.C.Counting.counts c.args.source.now c.args.lines.now c.args.judges.now c.loop-lines.source
-    c.loop-lines.lines c.loop-lines.judges c.loop-lines.invariant.0 c.requires in
+    let reading = reads_on c.loop-lines.invariant.0 c.requires in
     c.in-Err.ensures.failed reading ∙ ap (failures_after c.in-Err.fault) c.loop-lines.invariant.1
 
 pub returns-clause-feeds : goal.returns-clause-feeds
 returns-clause-feeds g c =
-    feeds-final g.S.Source.from g.C.Counting.counts c.args.source.now c.args.lines.now c.args.judges.now c.loop-lines.source
-    c.loop-lines.lines c.loop-lines.judges c.loop-lines.invariant.0 tt (g.S.Source.from.ended c.loop-lines.source)
-    (sym c.loop-lines-test.ensures)
+    feeds-final c.loop-lines.invariant.0 tt (g.S.Source.from.ended c.loop-lines.source) (sym c.loop-lines-test.ensures)
 
 pub returns-clause-well : goal.returns-clause-well
 returns-clause-well g c = c.loop-lines.invariant.1

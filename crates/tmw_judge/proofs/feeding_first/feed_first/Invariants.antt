@@ -1,6 +1,5 @@
 -- What was told so far is what the reader of lines has read, and the judges have been fed its events.
-use Rattle.std.proofs.Common.{◌≡◌, ◌+◌}
-use Rattle.tmw_lines.specs.Lines.{unread}
+use Rattle.tmw_judge.proofs.Shared.{unread, ◌+◌, ◌≡◌}
 use Rattle.tmw_judge.proofs.FirstFed.{HasFed}
 use Rattle.tmw_judge.proofs.feeding_first.feed_first.Given as goal
 

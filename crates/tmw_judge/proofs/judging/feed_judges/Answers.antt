@@ -1,5 +1,5 @@
 -- A trace is begun, and its events are fed.
-use Rattle.std.proofs.Common.{refl}
+use Rattle.tmw_judge.proofs.Shared.{refl}
 use Rattle.tmw_judge.proofs.FedFor.{fed-unbegun, fed-done, fed-fault}
 use Rattle.tmw_judge.proofs.judging.feed_judges.Goals as goal
 

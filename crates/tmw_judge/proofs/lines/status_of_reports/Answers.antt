@@ -1,4 +1,4 @@
-use Rattle.std.proofs.Common.{rules}
+use Rattle.tmw_judge.proofs.Shared.{rules}
 use Rattle.tmw_judge.proofs.lines.status_of_reports.Goals as goal
 
 pub returns-in-Both : goal.returns-in-Both

@@ -1,8 +1,8 @@
 -- The answer is written, or, where its lines found no memory, that fault.
-use Rattle.std.proofs.Common.{Ok, Err, inl, inr, refl}
-use Rattle.tmw_lines.specs.declared.text_fault.TextFault.TheVariants.{Memory as WantsMemory}
+use Rattle.tmw_judge.proofs.Shared.{Err, Ok, inl, inr, refl}
 use Rattle.tmw_report.specs.declared.fault.Fault.TheVariants.{Memory}
 use Rattle.tmw_judge.proofs.Answered.{memory-fault}
+use Rattle.tmw_lines.specs.declared.text_fault.TextFault.TheVariants.{Memory as WantsMemory}
 use Rattle.tmw_judge.proofs.run.run_judge_with.Goals as goal
 
 pub returns-in-Ok : goal.returns-in-Ok

@@ -1,6 +1,4 @@
-use Rattle.std.proofs.Common.{length, sym, ap, ◌∙◌, arith}
-use Rattle.std.proofs.lemmas.Bool.{eqb-true, eqb-false}
-use Rattle.tmw_lines.specs.Held.{bytes_of}
+use Rattle.tmw_lines.proofs.Shared.{ap, arith, bytes_of, eqb-false, eqb-true, length, sym, ◌∙◌}
 use Rattle.tmw_lines.proofs.FirstLines.{first-header, first-bad, first-end, first-cut, first-failed, long_first-feed, long_first-end, long_first-failed}
 use Rattle.tmw_lines.proofs.first_line.first_line.Goals as goal
 

@@ -1,12 +1,6 @@
-use Rattle.tmw_lines.specs.Held.{bytes_of}
-use Rattle.tmw_lines.proofs.FirstLines.{take_header-some, take_header-none}
+use Rattle.tmw_lines.proofs.Shared.{bytes_of}
+use Rattle.tmw_lines.proofs.FirstLines.{take_header-none}
 use Rattle.tmw_lines.proofs.first_line.take_header.Goals as goal
-
-pub returns-clause-some : goal.returns-clause-some
-returns-clause-some g c =
-    let found = rw c.bytes.ensures.value at c.in-Some.ensures.some in
-    take_header-some g.F.LineFormat.grammar (bytes_of c.args.held.now) (bytes_of c.consume.new.self) c.args.count
-    c.in-Some.header c.requires.feed c.consume.ensures found
 
 pub returns-in_default-clause-none : goal.returns-in_default-clause-none
 returns-in_default-clause-none g c =

@@ -1,6 +1,5 @@
 -- The lines before the rest were taken.
-use Rattle.std.proofs.Common.{◌≡◌, ◌≤◌, ◌^◌, ◌-◌, length, drop}
-use Rattle.tmw_lines.specs.GivenLines.{AreTaken}
+use Rattle.tmw_lines.proofs.Shared.{AreTaken, drop, length, ◌-◌, ◌^◌, ◌≡◌, ◌≤◌}
 use Rattle.tmw_lines.proofs.given_lines.give_lines.Given as goal
 
 abbrev pub invariant-loop-left : goal.invariant-loop-left

@@ -1,4 +1,4 @@
-use Rattle.std.proofs.Common.{arith}
+use Rattle.tmw_lines.proofs.Shared.{arith}
 use Rattle.tmw_lines.proofs.HeldBytes.{AreMoved-more}
 use Rattle.tmw_lines.proofs.held.move_to_front.Goals as goal
 

@@ -1,6 +1,4 @@
-use Rattle.std.proofs.Common.{◌≡◌, ◌<◌, ◌≤◌, ◌==◌, ◌++◌, ◌∙◌, length, ap, arith}
-use Rattle.std.specs.List.{position_or_len}
-use Rattle.tmw_lines.specs.Held.{bytes_of}
+use Rattle.tmw_lines.proofs.Shared.{ap, arith, bytes_of, length, position_or_len, ◌++◌, ◌<◌, ◌==◌, ◌∙◌, ◌≡◌, ◌≤◌}
 use Rattle.tmw_lines.proofs.LongLines.{HasSkipped-more, Skips-feed}
 use Rattle.tmw_lines.proofs.long_line.skip_line.Goals as goal
 

@@ -1,4 +1,4 @@
-use Rattle.std.proofs.Common.{◌≡◌}
+use Rattle.tmw_lines.proofs.Shared.{◌≡◌}
 use Rattle.tmw_lines.proofs.LongLines.{HasSkipped}
 use Rattle.tmw_lines.proofs.long_line.skip_line.Given as goal
 

@@ -1,6 +1,4 @@
-use Rattle.std.proofs.Common.{◌<◌, ◌^◌, length, sym, ap, ◌∙◌, arith}
-use Rattle.std.proofs.lemmas.Bool.{eqb-true, eqb-false}
-use Rattle.tmw_lines.specs.Held.{bytes_of}
+use Rattle.tmw_lines.proofs.Shared.{ap, arith, bytes_of, eqb-false, eqb-true, length, sym, ◌<◌, ◌^◌, ◌∙◌}
 use Rattle.tmw_lines.proofs.NextLines.{next-item, next-bad, next-end, next-cut, next-failed, long-feed, long-end, long-failed}
 use Rattle.tmw_lines.proofs.next_line.next_line.Goals as goal
 

@@ -1,7 +1,5 @@
 -- Whatever is held or read behind the greatest number of items' lines is too much.
-use Rattle.std.proofs.Common.{length, sym, ap, ◌∙◌, arith}
-use Rattle.std.proofs.lemmas.Bool.{eqb-true, eqb-false}
-use Rattle.tmw_lines.specs.Held.{bytes_of}
+use Rattle.tmw_lines.proofs.Shared.{ap, arith, bytes_of, eqb-false, eqb-true, length, sym, ◌∙◌}
 use Rattle.tmw_lines.proofs.NextLines.{past-held, past-read, past-end, past-failed}
 use Rattle.tmw_lines.proofs.next_line.past_last.Goals as goal
 

@@ -1,4 +1,4 @@
-use Rattle.tmw_lines.specs.Held.{bytes_of}
+use Rattle.tmw_lines.proofs.Shared.{bytes_of}
 use Rattle.tmw_lines.proofs.HeldLines.{length-left}
 use Rattle.tmw_lines.proofs.NextLines.{take_item-some, take_item-none}
 use Rattle.tmw_lines.proofs.next_line.take_item.Goals as goal

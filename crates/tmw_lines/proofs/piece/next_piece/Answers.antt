@@ -1,8 +1,6 @@
 -- What was seen has no line feed, and where it is all that is held, none is held.
-use Rattle.std.proofs.Common.{◌≤◌, ◌++◌, [], length, sym, ap, ◌∙◌, append-nil, length-append, arith}
-use Rattle.tmw_lines.specs.Held.{bytes_of}
+use Rattle.tmw_lines.proofs.Shared.{ap, append-nil, arith, bytes_of, length, length-append, nil_from_length, sym, ◌++◌, ◌∙◌, ◌≤◌}
 use Rattle.tmw_lines.proofs.Pieces.{Reads-more, IsSeen-append, free-seen}
-use Rattle.std.proofs.lemmas.List.{nil_from_length}
 use Rattle.tmw_lines.proofs.piece.next_piece.Goals as goal
 
 pub returns-then-length-bytes-clause-piece : goal.returns-then-length-bytes-clause-piece
@@ -22,9 +20,7 @@ returns-then-length-eq-MOST_HELD-clause-piece g c =
 
 pub returns-in-Err-clause-reads : goal.returns-in-Err-clause-reads
 returns-in-Err-clause-reads g c =
-    Reads-more g.S.Source.from c.args.source.now (bytes_of c.args.held.now) c.loop-seen.source
-    c.read.new.source (bytes_of c.loop-seen.held) [] (bytes_of c.read.new.self) c.loop-seen.invariant.0
-    c.in-Err.ensures.kept.1 (c.in-Err.ensures.kept.0 ∙ sym (append-nil (bytes_of c.loop-seen.held)))
+    Reads-more c.loop-seen.invariant.0 c.in-Err.ensures.kept.1 (c.in-Err.ensures.kept.0 ∙ sym (append-nil (bytes_of c.loop-seen.held)))
 
 pub returns-in-Err-clause-piece : goal.returns-in-Err-clause-piece
 returns-in-Err-clause-piece g c =
@@ -38,8 +34,7 @@ returns-in-Err-clause-piece g c =
 pub returns-in-Ok-eq0-clause-reads : goal.returns-in-Ok-eq0-clause-reads
 returns-in-Ok-eq0-clause-reads g c =
     let more = c.in-Ok-eq0.ensures.more in
-    Reads-more g.S.Source.from c.args.source.now (bytes_of c.args.held.now) c.loop-seen.source
-    c.read.new.source (bytes_of c.loop-seen.held) more.0 (bytes_of c.read.new.self) c.loop-seen.invariant.0 more.1 more.2
+    Reads-more c.loop-seen.invariant.0 more.1 more.2
 
 pub returns-in-Ok-eq0-clause-piece : goal.returns-in-Ok-eq0-clause-piece
 returns-in-Ok-eq0-clause-piece g c =
@@ -60,8 +55,7 @@ pub loop-seen-preserved : goal.loop-seen-preserved
 loop-seen-preserved g c =
     let seen = rw c.bytes-bytes.ensures.value at c.seen_on-length.ensures.seen in
     let more = c.in-Ok.ensures.more in (
-      Reads-more g.S.Source.from c.args.source.now (bytes_of c.args.held.now) c.loop-seen.source
-          c.read.new.source (bytes_of c.loop-seen.held) more.0 (bytes_of c.read.new.self) c.loop-seen.invariant.0 more.1 more.2,
+      Reads-more c.loop-seen.invariant.0 more.1 more.2,
       rw more.2 (IsSeen-append (bytes_of c.loop-seen.held) more.0 c.seen_on-length.result seen),
       omega (arith, ap length more.2, length-append (bytes_of c.loop-seen.held) more.0, more.3, c.in-Ok.ensures.falls, c.loop-seen.invariant.2),
       c.in-Ok.ensures.well ∙ c.loop-seen.invariant.3,

@@ -1,7 +1,4 @@
-use Rattle.std.proofs.Common.{◌≡◌, ◌+◌, ◌≤◌, length}
-use Rattle.tmw_streams.specs.Told.{Reads}
-use Rattle.tmw_lines.specs.Held.{bytes_of}
-use Rattle.tmw_lines.specs.Piece.{IsSeen}
+use Rattle.tmw_lines.proofs.Shared.{IsSeen, Reads, bytes_of, length, ◌+◌, ◌≡◌, ◌≤◌}
 use Rattle.tmw_lines.proofs.piece.next_piece.Given as goal
 
 abbrev pub invariant-loop-seen : goal.invariant-loop-seen

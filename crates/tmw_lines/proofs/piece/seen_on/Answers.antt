@@ -1,5 +1,4 @@
-use Rattle.std.proofs.Common.{arith}
-use Rattle.std.proofs.lemmas.List.{take_rest}
+use Rattle.tmw_lines.proofs.Shared.{arith, take_rest}
 use Rattle.tmw_lines.proofs.Pieces.{IsSeen-more, drop-seen}
 use Rattle.tmw_lines.proofs.piece.seen_on.Goals as goal
 

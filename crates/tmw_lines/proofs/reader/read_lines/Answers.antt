@@ -4,27 +4,19 @@ use Rattle.tmw_lines.proofs.reader.read_lines.Goals as goal
 pub returns-in-Ok-read_items-clause-text : goal.returns-in-Ok-read_items-clause-text
 returns-in-Ok-read_items-clause-text g c =
     let first = c.in-Ok.ensures.header in
-    (all-ends g.F.LineFormat.grammar g.S.Source.from (g.S.Source.from.ended c.read_items.new.source) c.args.source.now
-    c.header.new.source c.read_items.new.source c.header.new.self c.read_items.new.lines c.in-Ok.header first.0 c.new-items.result.items
-    c.read_items.new.items.items first.1 first.2 tt c.new-items.ensures.items c.in-Ok-read_items.ensures.reads).0
+    (all-ends first.1 first.2 tt c.new-items.ensures.items c.in-Ok-read_items.ensures.reads).0
 
 pub returns-in-Ok-read_items-clause-ended : goal.returns-in-Ok-read_items-clause-ended
 returns-in-Ok-read_items-clause-ended g c =
     let first = c.in-Ok.ensures.header in
-    (all-ends g.F.LineFormat.grammar g.S.Source.from (g.S.Source.from.ended c.read_items.new.source) c.args.source.now
-    c.header.new.source c.read_items.new.source c.header.new.self c.read_items.new.lines c.in-Ok.header first.0 c.new-items.result.items
-    c.read_items.new.items.items first.1 first.2 tt c.new-items.ensures.items c.in-Ok-read_items.ensures.reads).1
+    (all-ends first.1 first.2 tt c.new-items.ensures.items c.in-Ok-read_items.ensures.reads).1
 
 pub returns-in-Ok-read_items-clause-lines : goal.returns-in-Ok-read_items-clause-lines
 returns-in-Ok-read_items-clause-lines g c =
     let first = c.in-Ok.ensures.header in
-    (all-ends g.F.LineFormat.grammar g.S.Source.from (g.S.Source.from.ended c.read_items.new.source) c.args.source.now
-    c.header.new.source c.read_items.new.source c.header.new.self c.read_items.new.lines c.in-Ok.header first.0 c.new-items.result.items
-    c.read_items.new.items.items first.1 first.2 tt c.new-items.ensures.items c.in-Ok-read_items.ensures.reads).2
+    (all-ends first.1 first.2 tt c.new-items.ensures.items c.in-Ok-read_items.ensures.reads).2
 
 pub returns-in-Err-read_items-clause-fault : goal.returns-in-Err-read_items-clause-fault
 returns-in-Err-read_items-clause-fault g c =
     let first = c.in-Ok.ensures.header in
-    all-fails g.F.LineFormat.grammar g.S.Source.from (g.S.Source.from.ended c.read_items.new.source) c.args.source.now
-    c.header.new.source c.read_items.new.source c.header.new.self c.read_items.new.lines c.in-Ok.header first.0 c.new-items.result.items
-    c.read_items.new.items.items first.1 first.2 _ c.in-Err-read_items.fault c.in-Err-read_items.ensures.reads
+    all-fails first.1 first.2 _ c.in-Err-read_items.fault c.in-Err-read_items.ensures.reads

@@ -1,5 +1,4 @@
-use Rattle.std.proofs.Common.{arith}
-use Rattle.std.proofs.lemmas.List.{drop_all}
+use Rattle.tmw_lines.proofs.Shared.{arith, drop_all}
 use Rattle.tmw_lines.proofs.splitting.length_before.Goals as goal
 
 pub returns : goal.returns

@@ -1,5 +1,4 @@
-use Rattle.std.proofs.Common.{◌≡◌, ◌==◌, ◌+◌, drop}
-use Rattle.std.specs.List.{position_or_len}
+use Rattle.tmw_lines.proofs.Shared.{drop, position_or_len, ◌+◌, ◌==◌, ◌≡◌}
 use Rattle.tmw_lines.proofs.splitting.length_before.Given as goal
 
 abbrev pub invariant-loop-index : goal.invariant-loop-index

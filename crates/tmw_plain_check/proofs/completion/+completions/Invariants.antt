@@ -1,5 +1,5 @@
 -- Each call has fewer transactions left to choose from, or as many and one of them chosen.
-use Rattle.std.proofs.Common.{◌+◌, ◌*◌, length}
+use Rattle.tmw_plain_check.proofs.Shared.{length, ◌*◌, ◌+◌}
 use Rattle.tmw_plain_check.proofs.completion.+completions.Given as goal
 
 abbrev pub decreases-goes_with : goal.decreases-goes_with

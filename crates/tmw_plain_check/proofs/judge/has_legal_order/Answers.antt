@@ -1,7 +1,5 @@
 -- The search decides.
-use Rattle.std.proofs.Common.{◌≤◌, Ok, length, ap, sym, subst, arith}
-use Rattle.tmw_defs.specs.declared.criterion.Criterion.{Criterion}
-use Rattle.tmw_plain_check.specs.Verdict.{Weighs}
+use Rattle.tmw_plain_check.proofs.Shared.{Criterion, Ok, Weighs, ap, arith, length, subst, sym, ◌≤◌}
 use Rattle.tmw_plain_check.proofs.Weighing.{weighs_explained, weighs_completed}
 use Rattle.tmw_plain_check.proofs.judge.has_legal_order.Goals as goal
 

@@ -1,9 +1,5 @@
 -- The steps of the search, by the lemmas on them.
-use Rattle.std.proofs.Common.{◌≡◌, sym, ◌∙◌, length, arith, refl}
-use Rattle.std.specs.Prelude.{slice_get, Some}
-use Rattle.std.proofs.lemmas.List.{length-map}
-use Rattle.std.proofs.lemmas.Option.{slice_get_read}
-use Rattle.tmw_plain_check.specs.TransactionViews.{txn_of, shown}
+use Rattle.tmw_plain_check.proofs.Shared.{Some, arith, length, length-map, refl, shown, slice_get, slice_get_read, sym, txn_of, ◌∙◌, ◌≡◌}
 use Rattle.tmw_plain_check.proofs.OrderSteps.{shown_at, explained_found, explained_none, may_come-whole}
 use Rattle.tmw_plain_check.proofs.order.+orders.Goals as goal
 

@@ -1,7 +1,5 @@
 -- None of the transactions that were tried can come first. Each search is for one transaction less.
-use Rattle.std.proofs.Common.{◌≡◌, ◌+◌, ◌-◌, ◌*◌, false, length}
-use Rattle.tmw_defs.specs.Decision.{has_order, one_below}
-use Rattle.tmw_plain_check.specs.TransactionViews.{shown}
+use Rattle.tmw_plain_check.proofs.Shared.{false, has_order, length, one_below, shown, ◌*◌, ◌+◌, ◌-◌, ◌≡◌}
 use Rattle.tmw_plain_check.proofs.order.+orders.Given as goal
 
 abbrev pub decreases-has_order : goal.decreases-has_order

@@ -1,7 +1,5 @@
 -- None of those seen precedes the transaction, so the rest decides.
-use Rattle.std.proofs.Common.{◌≡◌, drop}
-use Rattle.tmw_defs.specs.Decision.{is_free}
-use Rattle.tmw_plain_check.specs.TransactionViews.{txn_of, shown}
+use Rattle.tmw_plain_check.proofs.Shared.{drop, is_free, shown, txn_of, ◌≡◌}
 use Rattle.tmw_plain_check.proofs.order.is_free.Given as goal
 
 abbrev pub invariant-loop-other : goal.invariant-loop-other

@@ -1,5 +1,5 @@
 -- A reference list without one shows what is left of the transactions.
-use Rattle.std.proofs.Common.{◌≡◌}
+use Rattle.tmw_plain_check.proofs.Shared.{◌≡◌}
 use Rattle.tmw_plain_check.proofs.OrderSteps.{shown-remove}
 use Rattle.tmw_plain_check.proofs.order.without.Goals as goal
 

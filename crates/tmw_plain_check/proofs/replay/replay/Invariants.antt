@@ -1,7 +1,5 @@
 -- What is left of the text, from the state reached, reads and writes as the whole does from the start.
-use Rattle.std.proofs.Common.{◌≡◌, length}
-use Rattle.tmw_defs.specs.History.{operations}
-use Rattle.tmw_defs.specs.Opaque.{reads_hold, after_writes}
+use Rattle.tmw_plain_check.proofs.Shared.{after_writes, length, operations, reads_hold, ◌≡◌}
 use Rattle.tmw_plain_check.proofs.replay.replay.Given as goal
 
 abbrev pub invariant-loop-rest : goal.invariant-loop-rest

@@ -1,5 +1,5 @@
 -- The event joins the transaction that was found, or begins one where none was.
-use Rattle.std.proofs.Common.{refl}
+use Rattle.tmw_plain_check.proofs.Shared.{refl}
 use Rattle.tmw_plain_check.proofs.Adding.{add_event-position, add_event-nowhere}
 use Rattle.tmw_plain_check.proofs.transaction.add.Goals as goal
 

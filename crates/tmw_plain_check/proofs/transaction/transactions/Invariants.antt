@@ -1,7 +1,5 @@
 -- The events that are left make of the transactions so far those of the whole history.
-use Rattle.std.proofs.Common.{◌≡◌, drop}
-use Rattle.tmw_defs.specs.History.{transactions, transactions_from}
-use Rattle.tmw_plain_check.specs.TransactionViews.{txns_of}
+use Rattle.tmw_plain_check.proofs.Shared.{drop, transactions, transactions_from, txns_of, ◌≡◌}
 use Rattle.tmw_plain_check.proofs.transaction.transactions.Given as goal
 
 abbrev pub invariant-loop-place : goal.invariant-loop-place

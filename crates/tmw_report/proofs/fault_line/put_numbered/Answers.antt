@@ -1,6 +1,5 @@
 -- The second text came after the first and its number.
-use Rattle.std.proofs.Common.{◌++◌, decimal}
-use Rattle.tmw_streams.proofs.Putting.{Puts-more, Puts-front}
+use Rattle.tmw_report.proofs.Shared.{Puts-front, Puts-more, decimal, ◌++◌}
 use Rattle.tmw_report.proofs.fault_line.put_numbered.Goals as goal
 
 pub returns-in_err-put_with_number : goal.returns-in_err-put_with_number

@@ -1,9 +1,6 @@
 -- A byte came after all the bytes before it.
-use Rattle.std.proofs.Common.{ℕ, ◌+◌, List, ◌++◌, take, drop, get_or, refl, sym, subst}
-use Rattle.tmw_report.specs.Quote.{escaped, escaped_byte}
+use Rattle.tmw_report.proofs.Shared.{List, Puts, Puts-front, Puts-more, drop, escaped, escaped_byte, get_or, refl, subst, sym, take, ℕ, ◌++◌, ◌+◌}
 use Rattle.tmw_streams.proofs.FlatMaps.{flat_map-split}
-use Rattle.tmw_streams.proofs.Putting.{Puts-more, Puts-front}
-use Rattle.tmw_streams.specs.Told.{Puts}
 use Rattle.tmw_report.proofs.quote.put_escaped.Goals as goal
 
 pub returns-in_err-put_escaped_byte : goal.returns-in_err-put_escaped_byte

@@ -1,6 +1,4 @@
-use Rattle.std.proofs.Common.{◌≡◌, take}
-use Rattle.tmw_report.specs.Quote.{escaped}
-use Rattle.tmw_streams.specs.Told.{Takes}
+use Rattle.tmw_report.proofs.Shared.{Takes, escaped, take, ◌≡◌}
 use Rattle.tmw_report.proofs.quote.put_escaped.Given as goal
 
 abbrev pub invariant-loop-byte : goal.invariant-loop-byte

@@ -1,8 +1,5 @@
 -- The bytes came after the first quote, and the end after them.
-use Rattle.std.proofs.Common.{◌∙◌, codes, take, ◌++◌, ap}
-use Rattle.std.proofs.lemmas.List.{take_min}
-use Rattle.tmw_report.specs.Quote.{escaped, quote_end}
-use Rattle.tmw_streams.proofs.Putting.{Puts-more, Puts-front}
+use Rattle.tmw_report.proofs.Shared.{Puts-front, Puts-more, ap, codes, escaped, quote_end, take, take_min, ◌++◌, ◌∙◌}
 use Rattle.tmw_report.proofs.quote.put_quoted.Goals as goal
 
 pub returns-in_err-put_escaped : goal.returns-in_err-put_escaped

@@ -1,7 +1,5 @@
 -- The line was put, or a beginning of it.
-use Rattle.std.proofs.Common.{◌≡◌, ◌∙◌, ℕ, List, Some, sym, subst, append-nil}
-use Rattle.tmw_report.specs.Putting.{IsSent}
-use Rattle.tmw_report.specs.Quote.{number_of}
+use Rattle.tmw_report.proofs.Shared.{IsSent, List, Some, append-nil, number_of, subst, sym, ℕ, ◌∙◌, ◌≡◌}
 use Rattle.tmw_report.proofs.Quotes.{sent-put}
 use Rattle.tmw_report.proofs.quote.send_quote.Goals as goal
 

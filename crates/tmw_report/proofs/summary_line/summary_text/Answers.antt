@@ -1,5 +1,5 @@
 -- The line is the text of the object of the counts, and its line feed.
-use Rattle.std.proofs.Common.{◌∙◌}
+use Rattle.tmw_report.proofs.Shared.{◌∙◌}
 use Rattle.tmw_report.proofs.SummaryLines.{summary_object-line}
 use Rattle.tmw_report.proofs.summary_line.summary_text.Goals as goal
 

@@ -1,5 +1,5 @@
 -- The mask of a power of two divides by it.
-use Rattle.std.proofs.Common.{◌≡◌, ◌<◌, ℕ, ◌-◌, ◌*◌, ◌%◌, ◌^◌, bit_and, sym, ap, ◌∙◌, arith, mod-lt, mod-eq_of_lt}
+use Rattle.tmw_ring.proofs.Shared.{ap, arith, bit_and, mod-eq_of_lt, mod-lt, sym, ℕ, ◌%◌, ◌*◌, ◌-◌, ◌<◌, ◌^◌, ◌∙◌, ◌≡◌}
 use Rattle.std.proofs.Math.Pow.{pow-lt}
 use lib.Bits.{and_mask}
 use Rattle.tmw_ring.proofs.cell_words.cell_of.Goals as goal

@@ -1,7 +1,4 @@
-use Rattle.std.proofs.Common.{◌+◌, ◌<◌, ℕ, List, length, sym, ap, ◌∙◌, subst, arith}
-use Rattle.std.proofs.lemmas.List.{length_push}
-use Rattle.tmw_ring.specs.Ends.{RingIs, WriterIs}
-use Rattle.tmw_ring.specs.NewRing.{AreNewWriters}
+use Rattle.tmw_ring.proofs.Shared.{AreNewWriters, List, RingIs, WriterIs, ap, arith, length, length_push, subst, sym, ℕ, ◌+◌, ◌<◌, ◌∙◌}
 use Rattle.tmw_ring.proofs.Dealing.{dealt, left_over, new_writer-idle, new_writers-dealt}
 use Rattle.tmw_ring.proofs.Seats.{splits_second}
 use Rattle.tmw_ring.proofs.make.deal.Goals as goal

@@ -1,7 +1,4 @@
-use Rattle.std.proofs.Common.{◌≡◌, ◌-◌, [], ◌∷◌, length, vec_capacity}
-use Rattle.tmw_ring.specs.NewRing.{AreNewWriters}
-use Rattle.tmw_ring.specs.Parts.{new_reader, new_writers}
-use Rattle.tmw_ring.specs.declared.part.Part.TheVariants.{Reads}
+use Rattle.tmw_ring.proofs.Shared.{AreNewWriters, Reads, [], length, new_reader, new_writers, vec_capacity, ◌-◌, ◌∷◌, ◌≡◌}
 use Rattle.tmw_ring.proofs.make.deal.Given as goal
 
 abbrev pub invariant-loop-number : goal.invariant-loop-number

@@ -1,7 +1,4 @@
-use Rattle.std.proofs.Common.{◌+◌, ◌*◌, ◌∙◌, List, ℕ, [], ap, replicate, subst, sym}
-use Rattle.atomic_table.specs.Table.{opening}
-use Rattle.tmw_ring.specs.Parts.{new_parts}
-use Rattle.tmw_ring.specs.Rule.{Shown}
+use Rattle.tmw_ring.proofs.Shared.{List, Shown, [], ap, new_parts, opening, replicate, subst, sym, ℕ, ◌*◌, ◌+◌, ◌∙◌}
 use Rattle.tmw_ring.proofs.Starts.{starts}
 use Rattle.tmw_ring.proofs.make.ring.Goals as goal
 

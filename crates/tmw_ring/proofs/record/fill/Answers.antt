@@ -1,6 +1,4 @@
-use Rattle.std.proofs.Common.{sym, ap, ◌∙◌}
-use Rattle.tmw_ring.specs.Ends.{RingIs}
-use Rattle.tmw_ring.specs.Words.{value_word}
+use Rattle.tmw_ring.proofs.Shared.{RingIs, ap, sym, value_word, ◌∙◌}
 use Rattle.tmw_ring.proofs.TableWords.{in_table}
 use Rattle.tmw_ring.proofs.WriterStores.{fills}
 use Rattle.tmw_ring.proofs.Words.{value_word-within}

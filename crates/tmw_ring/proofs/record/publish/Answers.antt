@@ -1,6 +1,4 @@
-use Rattle.std.proofs.Common.{sym, ap, ◌∙◌}
-use Rattle.tmw_ring.specs.Ends.{RingIs}
-use Rattle.tmw_ring.specs.Words.{stamp_word}
+use Rattle.tmw_ring.proofs.Shared.{RingIs, ap, stamp_word, sym, ◌∙◌}
 use Rattle.tmw_ring.proofs.TableWords.{in_table}
 use Rattle.tmw_ring.proofs.WriterStores.{publishes}
 use Rattle.tmw_ring.proofs.Words.{stamp_word-within}

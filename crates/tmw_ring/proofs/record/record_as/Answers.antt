@@ -1,11 +1,4 @@
-use Rattle.std.proofs.Common.{◌≡◌, true, false, sym, ap, ◌∙◌, subst}
-use Rattle.tmw_events.specs.declared.event.Kind.{Kind}
-use Rattle.tmw_ring_defs.specs.Room.{is_spent, is_full}
-use Rattle.tmw_ring_defs.specs.declared.ring_size.RingSize.{RingSize}
-use Rattle.tmw_ring.specs.Ends.{RingIs}
-use Rattle.tmw_ring.specs.Recording.{HasRecorded, IsRefusal}
-use Rattle.tmw_ring.specs.Seats.{writer_in, writer_is}
-use Rattle.tmw_ring.specs.declared.refused.Refused.TheVariants.{Full, Spent}
+use Rattle.tmw_ring.proofs.Shared.{Full, HasRecorded, IsRefusal, Kind, RingIs, RingSize, Spent, ap, false, is_full, is_spent, subst, sym, true, writer_in, writer_is, ◌∙◌, ◌≡◌}
 use Rattle.tmw_ring.proofs.Recordings.{looks, looks-spent, looks-full, looks-recorded}
 use Rattle.tmw_ring.proofs.record.record_as.Goals as goal
 

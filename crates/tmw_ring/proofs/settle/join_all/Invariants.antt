@@ -1,6 +1,4 @@
-use Rattle.std.proofs.Common.{◌≡◌, ◌++◌, length, map}
-use Rattle.std.specs.Vec.Iter.{into_iter_items, into_iter_len}
-use Rattle.tmw_ring.specs.Settling.{part_of}
+use Rattle.tmw_ring.proofs.Shared.{into_iter_items, into_iter_len, length, map, part_of, ◌++◌, ◌≡◌}
 use Rattle.tmw_ring.proofs.settle.join_all.Given as goal
 
 abbrev pub invariant-loop-writer : goal.invariant-loop-writer

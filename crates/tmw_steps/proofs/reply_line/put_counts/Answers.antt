@@ -1,7 +1,5 @@
 -- The line feed came after the counts.
-use Rattle.std.proofs.Common.{[], ◌∷◌}
-use Rattle.tmw_steps.specs.ReplyText.{counts_text}
-use Rattle.tmw_streams.proofs.Putting.{Puts-more, Puts-front}
+use Rattle.tmw_steps.proofs.Shared.{Puts-front, Puts-more, [], counts_text, ◌∷◌}
 use Rattle.tmw_steps.proofs.reply_line.put_counts.Goals as goal
 
 pub returns-in_err-put_numbers : goal.returns-in_err-put_numbers

@@ -1,13 +1,6 @@
 -- The second text and number came after the first.
-use Rattle.std.proofs.Common.{◌++◌, decimal}
-use Rattle.tmw_streams.proofs.Putting.{Puts-more, Puts-front}
+use Rattle.tmw_steps.proofs.Shared.{Puts-more, decimal, ◌++◌}
 use Rattle.tmw_steps.proofs.reply_line.put_numbers.Goals as goal
-
-pub returns-in_err-put_with_number : goal.returns-in_err-put_with_number
-returns-in_err-put_with_number g c =
-    Puts-front g.K.Sink.to c.args.sink.now c.put_with_number.new.sink (c.args.before.now ++ decimal c.args.first)
-    (c.args.between.now ++ decimal c.args.second) c.from_residual.result
-    c.from_residual.ensures.0 c.in_err-put_with_number.ensures
 
 pub returns : goal.returns
 returns g c =

@@ -1,14 +1,7 @@
 -- The line of the counts came after those of the replies.
+use Rattle.tmw_steps.proofs.Shared.{Puts-more, counts_text, lines_text}
 use Rattle.tmw_lines.specs.Text.{line}
-use Rattle.tmw_steps.specs.ReplyText.{counts_text, lines_text}
-use Rattle.tmw_streams.proofs.Putting.{Puts-more, Puts-front}
 use Rattle.tmw_steps.proofs.reply_line.put_replies.Goals as goal
-
-pub returns-in_err-put_lines : goal.returns-in_err-put_lines
-returns-in_err-put_lines g c =
-    Puts-front g.K.Sink.to c.args.sink.now c.put_lines.new.sink (lines_text c.args.replies.now)
-    (line (counts_text c.args.log c.args.taken)) c.from_residual.result
-    c.from_residual.ensures.0 c.in_err-put_lines.ensures
 
 pub returns : goal.returns
 returns g c =

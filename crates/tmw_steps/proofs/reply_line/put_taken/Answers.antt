@@ -1,7 +1,5 @@
 -- The event came after the word.
-use Rattle.std.proofs.Common.{codes}
-use Rattle.tmw_events.specs.Text.{event_text}
-use Rattle.tmw_streams.proofs.Putting.{Puts-more, Puts-front}
+use Rattle.tmw_steps.proofs.Shared.{Puts-front, Puts-more, codes, event_text}
 use Rattle.tmw_steps.proofs.reply_line.put_taken.Goals as goal
 
 pub returns-in_err-put_all : goal.returns-in_err-put_all

@@ -1,8 +1,6 @@
-use Rattle.std.proofs.Common.{◌≡◌, List, length, ap, ◌∙◌, subst}
+use Rattle.tmw_steps.proofs.Shared.{IsRunOf, List, Step, ap, length, subst, ◌∙◌, ◌≡◌}
 use Rattle.tmw_ring_defs.specs.RingMachine.{Machine, after, replies}
-use Rattle.tmw_ring_defs.specs.declared.ring_step.Step.{Step}
 use Rattle.tmw_ring_steps.specs.Simulated.{Simulated}
-use Rattle.tmw_steps.specs.Running.{IsRunOf}
 use Rattle.tmw_steps.proofs.run.made_of.Goals as goal
 
 pub returns : goal.returns

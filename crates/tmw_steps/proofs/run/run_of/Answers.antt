@@ -1,6 +1,5 @@
 -- The bytes told are the text of the steps that were made.
-use Rattle.std.proofs.Common.{refl}
-use Rattle.tmw_steps.specs.StepText.{steps_text}
+use Rattle.tmw_steps.proofs.Shared.{refl, steps_text}
 use Rattle.tmw_steps.proofs.Answering.{made-answers}
 use Rattle.tmw_steps.proofs.run.run_of.Goals as goal
 

@@ -1,5 +1,4 @@
-use Rattle.std.proofs.Common.{drop}
-use Rattle.std.proofs.lemmas.List.{take_rest}
+use Rattle.tmw_steps.proofs.Shared.{drop, take_rest}
 use Rattle.tmw_steps.proofs.SizeNumbers.{numbers-some, no_writers, no_limit, no_more}
 use Rattle.tmw_steps.proofs.size_line.numbers_of.Goals as goal
 

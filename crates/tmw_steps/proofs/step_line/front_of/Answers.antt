@@ -1,4 +1,4 @@
-use Rattle.std.proofs.Common.{get_or, ap}
+use Rattle.tmw_steps.proofs.Shared.{ap, get_or}
 use Rattle.tmw_steps.proofs.step_line.front_of.Goals as goal
 
 pub returns-in_default-ix_of-clause-none : goal.returns-in_default-ix_of-clause-none

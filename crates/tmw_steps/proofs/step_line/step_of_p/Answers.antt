@@ -1,4 +1,4 @@
-use Rattle.std.proofs.Common.{arith}
+use Rattle.tmw_steps.proofs.Shared.{arith}
 use Rattle.std.proofs.lemmas.Grind.{common_steps}
 use Rattle.tmw_steps.proofs.step_line.step_of_p.Goals as goal
 

@@ -1,6 +1,5 @@
 -- What was taken, or lacked, is the event whose line the bytes begin with.
-use Rattle.std.proofs.Common.{◌≡◌, true, arith}
-use Rattle.tmw_trace.specs.Start.{is_spoken}
+use Rattle.tmw_trace.proofs.Shared.{arith, is_spoken, true, ◌≡◌}
 use Rattle.tmw_trace.proofs.EventGiven.{event-line}
 use Rattle.tmw_trace.proofs.first_event.give.Goals as goal
 

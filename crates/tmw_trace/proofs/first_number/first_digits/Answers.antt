@@ -1,4 +1,4 @@
-use Rattle.std.proofs.Common.{◌-◌, ◌<◌, ◌^◌, get_or, arith}
+use Rattle.tmw_trace.proofs.Shared.{arith, get_or, ◌-◌, ◌<◌, ◌^◌}
 use Rattle.std.proofs.lemmas.Str.{digit_value_digit}
 use Rattle.tmw_trace.proofs.FirstNumbers.{few_digits, AreDigits-more, number-line}
 use Rattle.tmw_trace.proofs.first_number.first_digits.Goals as goal

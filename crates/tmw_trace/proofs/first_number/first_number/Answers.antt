@@ -1,4 +1,4 @@
-use Rattle.std.proofs.Common.{arith, rules}
+use Rattle.tmw_trace.proofs.Shared.{arith, rules}
 use Rattle.tmw_trace.proofs.FirstNumbers.{zero-line}
 use Rattle.tmw_trace.proofs.first_number.first_number.Goals as goal
 

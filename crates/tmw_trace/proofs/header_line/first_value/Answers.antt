@@ -1,5 +1,4 @@
-use Rattle.std.proofs.Common.{arith}
-use Rattle.std.proofs.lemmas.List.{take_rest}
+use Rattle.tmw_trace.proofs.Shared.{arith, take_rest}
 use Rattle.tmw_trace.proofs.ValueParts.{first_value-some, first_value-none}
 use Rattle.tmw_trace.proofs.header_line.first_value.Goals as goal
 

@@ -1,4 +1,4 @@
-use Rattle.std.proofs.lemmas.List.{take_rest}
+use Rattle.tmw_trace.proofs.Shared.{take_rest}
 use Rattle.tmw_trace.proofs.HeaderLines.{no_header}
 use Rattle.tmw_trace.proofs.header_line.header_of.Goals as goal
 

@@ -1,5 +1,4 @@
-use Rattle.std.proofs.Common.{arith}
-use Rattle.std.proofs.lemmas.List.{take_rest}
+use Rattle.tmw_trace.proofs.Shared.{arith, take_rest}
 use Rattle.tmw_trace.proofs.ValueParts.{AreRead-more, AreRead-none}
 use Rattle.tmw_trace.proofs.header_line.values_of.Goals as goal
 

@@ -1,7 +1,5 @@
 -- The line feed came after the header.
-use Rattle.std.proofs.Common.{[], ◌∷◌}
-use Rattle.tmw_trace.specs.Text.{header_text}
-use Rattle.tmw_streams.proofs.Putting.{Puts-more, Puts-front}
+use Rattle.tmw_trace.proofs.Shared.{Puts-front, Puts-more, [], header_text, ◌∷◌}
 use Rattle.tmw_trace.proofs.header_text.put_header.Goals as goal
 
 pub returns-in_err-put_header_text : goal.returns-in_err-put_header_text

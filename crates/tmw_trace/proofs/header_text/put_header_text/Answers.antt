@@ -1,7 +1,5 @@
 -- The numbers came after the first word.
-use Rattle.std.proofs.Common.{codes}
-use Rattle.tmw_trace.specs.Text.{numbers_text}
-use Rattle.tmw_streams.proofs.Putting.{Puts-more, Puts-front}
+use Rattle.tmw_trace.proofs.Shared.{Puts-front, Puts-more, codes, numbers_text}
 use Rattle.tmw_trace.proofs.header_text.put_header_text.Goals as goal
 
 pub returns-in_err-put_all : goal.returns-in_err-put_all

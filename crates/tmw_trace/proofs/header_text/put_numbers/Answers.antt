@@ -1,8 +1,5 @@
 -- The values came after the two numbers.
-use Rattle.std.proofs.Common.{ℕ, ◌+◌, List, [], ◌∷◌, take}
-use Rattle.tmw_trace.specs.Text.{initial_text, version_digit}
-use Rattle.tmw_trace.specs.declared.header.Header.{Header}
-use Rattle.tmw_streams.proofs.Putting.{Puts-more, Puts-front}
+use Rattle.tmw_trace.proofs.Shared.{Header, List, Puts-front, Puts-more, [], initial_text, take, version_digit, ℕ, ◌+◌, ◌∷◌}
 use Rattle.tmw_trace.proofs.header_text.put_numbers.Goals as goal
 
 -- the version's digit and that of the number of registers, with a space between them

@@ -1,9 +1,6 @@
 -- A value came after all the values before it.
-use Rattle.std.proofs.Common.{ℕ, ◌+◌, List, ◌∷◌, ◌++◌, decimal, take, drop, get_or, refl, sym, subst}
+use Rattle.tmw_trace.proofs.Shared.{List, Puts, Puts-front, Puts-more, decimal, drop, get_or, refl, subst, sym, take, values_text, ℕ, ◌++◌, ◌+◌, ◌∷◌}
 use Rattle.tmw_streams.proofs.FlatMaps.{flat_map-split}
-use Rattle.tmw_streams.proofs.Putting.{Puts-more, Puts-front}
-use Rattle.tmw_streams.specs.Told.{Puts}
-use Rattle.tmw_trace.specs.Text.{values_text}
 use Rattle.tmw_trace.proofs.header_text.put_values.Goals as goal
 
 pub returns-in_err-put_with_number : goal.returns-in_err-put_with_number

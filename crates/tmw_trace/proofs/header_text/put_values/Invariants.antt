@@ -1,6 +1,4 @@
-use Rattle.std.proofs.Common.{◌≡◌, take}
-use Rattle.tmw_streams.specs.Told.{Takes}
-use Rattle.tmw_trace.specs.Text.{values_text}
+use Rattle.tmw_trace.proofs.Shared.{Takes, take, values_text, ◌≡◌}
 use Rattle.tmw_trace.proofs.header_text.put_values.Given as goal
 
 abbrev pub invariant-loop-value : goal.invariant-loop-value

@@ -1,8 +1,5 @@
 -- The lines of the events came after the header's.
-use Rattle.tmw_lines.specs.Grammar.{items_text}
-use Rattle.tmw_lines.specs.Text.{line}
-use Rattle.tmw_trace.specs.Text.{header_text, trace_grammar}
-use Rattle.tmw_streams.proofs.Putting.{Puts-more, Puts-front}
+use Rattle.tmw_trace.proofs.Shared.{Puts-front, Puts-more, header_text, items_text, line, trace_grammar}
 use Rattle.tmw_trace.proofs.writer.write_trace.Goals as goal
 
 pub returns-in_err-put_header : goal.returns-in_err-put_header

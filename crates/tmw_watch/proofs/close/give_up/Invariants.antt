@@ -1,7 +1,5 @@
 -- The writers of so many recorders are there, and room for those of the others.
-use Rattle.std.proofs.Common.{◌≡◌, ◌≤◌, ◌+◌, ◌++◌, length, vec_len, vec_capacity}
-use Rattle.std.specs.Vec.Iter.{into_iter_items, into_iter_len}
-use Rattle.tmw_watch.specs.Closing.{writers_of}
+use Rattle.tmw_watch.proofs.Shared.{into_iter_items, into_iter_len, length, vec_capacity, vec_len, writers_of, ◌++◌, ◌+◌, ◌≡◌, ◌≤◌}
 use Rattle.tmw_watch.proofs.close.give_up.Given as goal
 
 abbrev pub invariant-loop-recorder : goal.invariant-loop-recorder

@@ -1,12 +1,7 @@
-use Rattle.std.proofs.Common.{◌≡◌, ◌<◌, ◌+◌, ◌++◌, ℕ, List, [], ◌∷◌, length, get_or, sym, ap, ◌∙◌, subst, append_assoc, arith}
-use Rattle.std.proofs.lemmas.List.{length_push}
-use Rattle.std.specs.Vec.Iter.{into_iter_items}
-use Rattle.tmw_ring.specs.Ends.{WriterIs}
+use Rattle.tmw_watch.proofs.Shared.{IsNewRecorder, List, Recorder, WriterIs, [], ap, append_assoc, arith, get_or, into_iter_items, length, length_push, subst, sym, ℕ, ◌++◌, ◌+◌, ◌<◌, ◌∙◌, ◌∷◌, ◌≡◌}
 use Rattle.tmw_ring.specs.NewRing.{IsNewWriter}
 use Rattle.tmw_ring.proofs.InOrder.{one_more, next_new}
 use Rattle.tmw_watch.proofs.open.share.Goals as goal
-use Rattle.tmw_watch.specs.Opening.{IsNewRecorder}
-use Rattle.tmw_watch.specs.declared.recorder.Recorder.{Recorder}
 
 pub loop-writer-preserved : goal.loop-writer-preserved
 loop-writer-preserved c =

@@ -1,7 +1,5 @@
 -- So many writers have become recorders, and the others are still to come.
-use Rattle.std.proofs.Common.{◌≡◌, ◌<◌, ◌++◌, ℕ, length, get_or}
-use Rattle.std.specs.Vec.Iter.{into_iter_items, into_iter_len}
-use Rattle.tmw_watch.specs.Opening.{IsNewRecorder}
+use Rattle.tmw_watch.proofs.Shared.{IsNewRecorder, get_or, into_iter_items, into_iter_len, length, ℕ, ◌++◌, ◌<◌, ◌≡◌}
 use Rattle.tmw_watch.proofs.open.share.Given as goal
 
 abbrev pub invariant-loop-writer : goal.invariant-loop-writer

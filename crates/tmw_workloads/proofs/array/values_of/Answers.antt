@@ -1,7 +1,5 @@
 -- An array of too many values is none of fewer.
-use Rattle.std.proofs.Common.{length, map, ap, sym, ◌∙◌, arith}
-use Rattle.std.proofs.lemmas.List.{length-map}
-use Rattle.serde_json.specs.View.{view}
+use Rattle.tmw_workloads.proofs.Shared.{ap, arith, length, length-map, map, sym, view, ◌∙◌}
 use Rattle.tmw_workloads.proofs.Values.{array_from_as_array, array_same}
 use Rattle.tmw_workloads.proofs.array.values_of.Goals as goal
 

@@ -1,6 +1,5 @@
 -- The calls are the others and then the last.
-use Rattle.std.proofs.Common.{◌&&◌, ap, sym, ◌∙◌}
-use Rattle.tmw_runs.specs.Scripts.{is_request, is_transaction}
+use Rattle.tmw_workloads.proofs.Shared.{ap, is_request, is_transaction, sym, ◌&&◌, ◌∙◌}
 use Rattle.tmw_workloads.proofs.Transactions.{is_transaction-push}
 use Rattle.tmw_workloads.proofs.calls.is_transaction.Goals as goal
 

@@ -1,8 +1,5 @@
 -- An entry that is no thread's, and the order that was read whole.
-use Rattle.std.proofs.Common.{◌<◌, arith}
-use Rattle.serde_json.specs.View.{view}
-use Rattle.tmw_workloads.specs.Json.{number_data}
-use Rattle.tmw_workloads.specs.Parts.{IsOrder}
+use Rattle.tmw_workloads.proofs.Shared.{IsOrder, arith, number_data, view, ◌<◌}
 use Rattle.tmw_workloads.proofs.Lists.{length-read, none_at, read_all}
 use Rattle.tmw_workloads.proofs.Rules.{order_each, order_right}
 use Rattle.tmw_workloads.proofs.order.read_order.Goals as goal

@@ -1,5 +1,4 @@
-use Rattle.std.proofs.Common.{take, ◌<◌}
-use Rattle.tmw_workloads.specs.Json.{number_data}
+use Rattle.tmw_workloads.proofs.Shared.{number_data, take, ◌<◌}
 use Rattle.tmw_workloads.proofs.Lists.{HasRead}
 use Rattle.tmw_workloads.proofs.order.read_order.Given as goal
 

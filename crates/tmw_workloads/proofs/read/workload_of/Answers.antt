@@ -1,11 +1,5 @@
 -- An order that could not be read.
-use Rattle.std.proofs.Common.{◌≡◌, length, sym, subst, ◌∙◌, arith}
-use Rattle.std.proofs.lemmas.List.{length-map}
-use Rattle.std.proofs.lemmas.Result.{err_from_is_err_and}
-use Rattle.serde_json.specs.View.{view}
-use Rattle.tmw_runs.specs.Scripts.{script_of, scripts_of}
-use Rattle.tmw_workloads.specs.Json.{fields_data, list_data, number_data, script_data, workload_data}
-use Rattle.tmw_workloads.specs.Parts.{IsOrder}
+use Rattle.tmw_workloads.proofs.Shared.{IsOrder, arith, err_from_is_err_and, fields_data, length, length-map, list_data, number_data, script_data, script_of, scripts_of, subst, sym, view, workload_data, ◌∙◌, ◌≡◌}
 use Rattle.tmw_workloads.proofs.Lists.{length-same}
 use Rattle.tmw_workloads.proofs.Rules.{workload_order}
 use Rattle.tmw_workloads.proofs.read.workload_of.Goals as goal

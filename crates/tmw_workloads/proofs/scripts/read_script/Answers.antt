@@ -1,10 +1,5 @@
 -- A transaction that could not be read, and the script that was read whole.
-use Rattle.std.proofs.Common.{sym, ◌∙◌, arith}
-use Rattle.std.proofs.lemmas.Result.{err_from_is_err_and}
-use Rattle.serde_json.specs.View.{view}
-use Rattle.tmw_runs.specs.Scripts.{script_of}
-use Rattle.tmw_workloads.specs.Json.{transaction_data}
-use Rattle.tmw_workloads.specs.Parts.{IsScript, IsTransaction}
+use Rattle.tmw_workloads.proofs.Shared.{IsScript, IsTransaction, arith, err_from_is_err_and, script_of, sym, transaction_data, view, ◌∙◌}
 use Rattle.tmw_workloads.proofs.Lists.{length-read, none_at, read_all}
 use Rattle.tmw_workloads.proofs.Rules.{script_each, script_right}
 use Rattle.tmw_workloads.proofs.scripts.read_script.Goals as goal

@@ -1,7 +1,4 @@
-use Rattle.std.proofs.Common.{take}
-use Rattle.tmw_runs.specs.Scripts.{script_of}
-use Rattle.tmw_workloads.specs.Json.{transaction_data}
-use Rattle.tmw_workloads.specs.Parts.{IsTransaction}
+use Rattle.tmw_workloads.proofs.Shared.{IsTransaction, script_of, take, transaction_data}
 use Rattle.tmw_workloads.proofs.Lists.{HasRead}
 use Rattle.tmw_workloads.proofs.scripts.read_script.Given as goal
 

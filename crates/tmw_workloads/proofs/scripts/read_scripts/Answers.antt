@@ -1,13 +1,6 @@
 -- An array without scripts, a script that could not be read, one more that was, and the scripts that were read whole.
-use Rattle.std.proofs.Common.{◌<◌, ◌+◌, length, take, sym, ap, subst, ◌∙◌, arith}
-use Rattle.std.proofs.lemmas.Bool.{eqb-true}
+use Rattle.tmw_workloads.proofs.Shared.{AreScripts, IsScript, ap, arith, eqb-true, err_from_is_err_and, length, map_push, script_data, script_of, scripts_of, subst, sym, take, view, ◌+◌, ◌<◌, ◌∙◌}
 use Rattle.std.proofs.lemmas.Bool.Decides.{nat_tests}
-use Rattle.std.proofs.lemmas.List.{map_push}
-use Rattle.std.proofs.lemmas.Result.{err_from_is_err_and}
-use Rattle.serde_json.specs.View.{view}
-use Rattle.tmw_runs.specs.Scripts.{script_of, scripts_of}
-use Rattle.tmw_workloads.specs.Json.{script_data}
-use Rattle.tmw_workloads.specs.Parts.{AreScripts, IsScript}
 use Rattle.tmw_workloads.proofs.Lists.{HasRead, length-read, none_at, read_all, read_from_list, read_one}
 use Rattle.tmw_workloads.proofs.Rules.{scripts_each, scripts_right, scripts_some}
 use Rattle.tmw_workloads.proofs.scripts.read_scripts.Goals as goal

@@ -1,7 +1,4 @@
-use Rattle.std.proofs.Common.{take}
-use Rattle.tmw_runs.specs.Scripts.{scripts_of}
-use Rattle.tmw_workloads.specs.Json.{script_data}
-use Rattle.tmw_workloads.specs.Parts.{IsScript}
+use Rattle.tmw_workloads.proofs.Shared.{IsScript, script_data, scripts_of, take}
 use Rattle.tmw_workloads.proofs.Lists.{HasRead}
 use Rattle.tmw_workloads.proofs.scripts.read_scripts.Given as goal
 

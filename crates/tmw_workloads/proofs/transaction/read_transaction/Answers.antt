@@ -1,10 +1,5 @@
 -- A string that is no kind's text, and calls that are not those of a transaction.
-use Rattle.std.proofs.Common.{ap, sym, ◌∙◌}
-use Rattle.serde_json.specs.View.{view}
-use Rattle.tmw_events.specs.Text.{FitsKind}
-use Rattle.tmw_runs.specs.Scripts.{is_transaction}
-use Rattle.tmw_workloads.specs.Json.{call_data}
-use Rattle.tmw_workloads.specs.Parts.{IsTransaction}
+use Rattle.tmw_workloads.proofs.Shared.{FitsKind, IsTransaction, ap, call_data, is_transaction, sym, view, ◌∙◌}
 use Rattle.tmw_workloads.proofs.Lists.{list_from_read, none_at, read_all}
 use Rattle.tmw_workloads.proofs.Transactions.{none_of_calls}
 use Rattle.tmw_workloads.proofs.transaction.read_transaction.Goals as goal

@@ -1,6 +1,4 @@
-use Rattle.std.proofs.Common.{take}
-use Rattle.tmw_events.specs.Text.{FitsKind}
-use Rattle.tmw_workloads.specs.Json.{call_data}
+use Rattle.tmw_workloads.proofs.Shared.{FitsKind, call_data, take}
 use Rattle.tmw_workloads.proofs.Lists.{HasRead}
 use Rattle.tmw_workloads.proofs.transaction.read_transaction.Given as goal
 

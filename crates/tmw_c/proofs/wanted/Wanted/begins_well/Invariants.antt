@@ -1,5 +1,5 @@
 -- Each register before this place that the memory does not have is to begin at 0.
-use Rattle.std.proofs.Common.{◌≡◌, ◌≤◌, ◌<◌, ℕ}
+use Rattle.tmw_c.proofs.Shared.{ℕ, ◌<◌, ◌≡◌, ◌≤◌}
 use Rattle.std.specs.Prelude.{slice_index}
 use Rattle.tmw_c.proofs.wanted.Wanted.begins_well.Given as goal
 

@@ -1,33 +1,5 @@
 -- The pointer and the allocator are moved, and nothing else is owned.
-use mathlib.Core.Path.{refl, sym, subst}
-use mathlib.Core.List.{List, [], ◌∷◌, ◌++◌}
-use Rattle.std.specs.Prelude.{None}
-use seplogic.Ra.Ura.{Ura}
-use mir.Val.{Val, vstruct, of_list}
-use base.Logic.{SProp, ent, emp, id⊢}
-use base.Fml.{ftrue}
-use prog.Memory.{Memory}
-use prog.Routine.{Routine}
-use prog.Wp.{WpFn, Tables}
-use types.Logic.{Logic}
-use contract.Monad.{Fun}
-use contract.Running.{tables, tables_of}
-use sound.WpLaws.{WpFn-mono}
-use types.Kit.{Item, ‵, raw, ◌⊛◌, ◌$◌, ◌∵◌, !, qed, by, move, drop, use1, join, split, fsplit, fjoin, fpack, feq_i, feq_l, suffices, done}
-use types.Part.{agg}
-use types.Run.{no_more, and_then, returns, enter}
-use types.ByLocal.{alloc_all, pass_all, free_all, look_at, get, sets}
-use denote.Exit.{yes}
-use denote.RattleType.{owns, Valss}
-use denote.RawPtr.{Ptr, RawPtr, ptr_val, rawptr_Lawful}
-use denote.Signature.{type_at, plain}
-use denote.Steps.{nothing}
-use denote.Struct.Struct.{within}
-use denote.Struct.Owning.{shape, to}
-use denote.Triple.Spec.{triple_of}
-use denote.Triple.Table.{entered}
-use denote.Triple.Walked.{says, Stays, stay_dropped, walk_of, ends_at, Goes-dropped, walk_Meets}
-use Rattle.std.proofs.alloc.Calls.{handle_tells}
+use Rattle.tmw_handles.proofs.Steps.{ !, Fun, Goes-dropped, Item, List, Logic, Memory, None, Ptr, RawPtr, Routine, SProp, Stays, Tables, Ura, Val, Valss, WpFn, WpFn-mono, [], agg, alloc_all, and_then, by, done, drop, emp, ends_at, ent, enter, entered, feq_i, feq_l, fjoin, fpack, free_all, fsplit, ftrue, get, handle_tells, id⊢, join, look_at, move, no_more, nothing, of_list, owns, pass_all, plain, ptr_val, qed, raw, rawptr_Lawful, refl, returns, says, sets, shape, split, stay_dropped, subst, suffices, sym, tables, tables_of, to, triple_of, type_at, use1, vstruct, walk_Meets, walk_of, within, yes, ‵, ◌$◌, ◌++◌, ◌∵◌, ◌∷◌, ◌⊛◌}
 use Rattle.std_heap.specs.contracts.Global as Heap
 use Rattle.tmw_handles.specs.contracts.recorder_slot.RecorderSlot as RecorderSlot
 use Rattle.tmw_handles.proofs.AsBoxes.{slot_typed, recorder_box as E}

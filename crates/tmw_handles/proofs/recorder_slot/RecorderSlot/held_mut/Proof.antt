@@ -1,35 +1,16 @@
 -- What a full slot owns is lent at its pointer, and the slot follows it.
-use Rattle.tmw_handles.proofs.Steps.{◌≡◌, refl, List, [], ◌∷◌, Ura, ftrue, fsep, SProp, ent, id⊢, Fun, fact, Val, Memory, Routine, WpFn, Logic, ‵, raw, ◌⊛◌, ◌$◌, ◌∵◌, !, qed, by, move, use1, drop, split, join, fsplit, fjoin, rewrite, suffices, done, whole, sub, stop, fld, of_opd, returns, enter, alloc_all, pass_all, free_all, look_at, get, sets, nothing, heard, says, Stays, stay_dropped, walk_of, ends_at, Option, None, Some, IsSome, D, B, word, box_out, box_in}
+use Rattle.tmw_handles.proofs.Steps.{ !, B, Calls, D, Fml, Fun, GName, Goes-spent_ref, IsSome, Lft, List, Logic, Loops, Memory, None, Option, R, Routine, SProp, Share, Some, Stays, Ura, Val, WpFn, [], addr, alloc_all, at_ret, await, block_ptr, blocks, box_in, box_out, by, done, drop, ends_at, ent, enter, env, exec, fact, first, fjoin, fld, flft, fpack, frame, free_all, fsep, fsplit, fsplit3, ftrue, get, group, handle, heard, id⊢, join, keep, later, load, look_at, look_in, move, mut_ref_to, named, no, nothing, of_opd, opens, pass_all, pick, plain, qed, raw, recorder_owned, refl, returns, rewrite, says, sem, sep, sets, sets_last, some, split, stay_dropped, stop, sub, suffices, tables, through, token, use1, vptr, walk_of, whole, word, τ, ‵, ◌$◌, ◌∵◌, ◌∷◌, ◌≡◌, ◌⊛◌}
 use Prim.Native.Nat.{ℕ}
 use base.Fraction.{full_share}
-use base.Fml.{Lft, GName, Share, Fml, flft}
-use base.Logic.{sep}
-use contract.Running.{tables}
-use mir.Raw.{raw as bare}
-use mir.Syntax.{named}
-use mir.Val.{vptr}
-use prog.Wp.{Calls, Loops}
-use types.Logic.{sem}
-use types.Kit.{some, later, at_ret, keep, pick, fsplit3, fpack, frame, group, await}
-use types.Part.{look_in}
-use types.Run.{load, first, blocks, exec, addr}
-use types.ByLocal.{through, sets_last, env}
-use denote.Exit.{no}
 use denote.Follow.{follows, Part, lends_Part}
 use denote.Memory.{part_at, mem, cell_at, part_of}
-use denote.RawPtr.{block_ptr}
 use denote.Ref.{MutRef, mut_vals, mut_Tells}
-use denote.Signature.{plain, mut_ref_to}
-use denote.Steps.{opens}
 use denote.Triple.Entry.{on_entry}
-use denote.Triple.Walked.{Goes-spent_ref}
 use Rattle.std.proofs.raw_atomic.Walks.{proved}
 use Rattle.std.proofs.VecSteps.Shapes.{after}
-use Rattle.std.proofs.alloc.Calls.{token}
-use Rattle.std_alloc.proofs.BoxSteps.Form.{R, τ, handle}
-use Rattle.tmw_handles.proofs.AsBoxes.{recorder_box as E, none_is_some}
-use Rattle.tmw_handles.specs.Slots.{recorder_owned}
 use Rattle.tmw_handles.specs.Lending.{with_held}
+use mir.Raw.{raw as bare}
+use Rattle.tmw_handles.proofs.AsBoxes.{recorder_box as E, none_is_some}
 use Rattle.tmw_handles.specs.contracts.held_recorder.HeldRecorder as Held
 use Rattle.tmw_handles.specs.contracts.recorder_slot.RecorderSlot as Place
 use Rattle.tmw_handles.specs.contracts.recorder_slot.RecorderSlot.held_mut as called

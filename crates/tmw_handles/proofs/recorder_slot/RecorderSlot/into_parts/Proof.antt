@@ -1,11 +1,8 @@
 -- The pointer of a place that holds something is told its type again, and the parts own what the place owned.
-use contract.Running.{tables, tables_of}
-use Rattle.tmw_handles.proofs.Steps.{refl, sym, subst, List, [], ◌∷◌, ◌++◌, Some, ftrue, fsep, SProp, ent, id⊢, Fun, Val, Memory, Routine, WpFn, Tables, Ura, WpFn-mono, alloc_all, pass_all, free_all, look_at, get, get_in, sets, ⋆, Item, ‵, raw, ◌⊛◌, ◌$◌, ◌∵◌, !, qed, by, move, drop, use1, join, split, fsplit, fjoin, suffices, done, Logic, whole, sub, agg, stop, fld, no_more, and_then, of_opd, returns, enter, yes, nothing, heard, rewrite, fact, ◌≡◌, Option, None, IsSome, triple_of, entered, says, Stays, stay_dropped, walk_of, ends_at, Goes-dropped, walk_Meets, D, B, word, box_typed, box_out, box_in}
+use Rattle.tmw_handles.proofs.Steps.{ !, B, D, Fun, Goes-dropped, IsSome, Item, List, Logic, Memory, None, Option, Routine, SProp, Some, Stays, Tables, Ura, Val, WpFn, WpFn-mono, [], agg, alloc_all, and_then, box_in, box_out, box_typed, by, done, drop, ends_at, ent, enter, entered, fact, fjoin, fld, free_all, fsep, fsplit, ftrue, get, get_in, heard, id⊢, join, look_at, move, no_more, nothing, of_opd, pass_all, qed, raw, recorder_owned, refl, returns, rewrite, says, sets, split, stay_dropped, stop, sub, subst, suffices, sym, tables, tables_of, triple_of, type_at, use1, walk_Meets, walk_of, whole, word, yes, ‵, ⋆, ◌$◌, ◌++◌, ◌∵◌, ◌∷◌, ◌≡◌, ◌⊛◌}
 use Rattle.tmw_handles.proofs.AsBoxes.{recorder_box as E, none_is_some, recorder_slot as Given}
-use Rattle.tmw_handles.specs.Slots.{recorder_owned}
 use Rattle.tmw_handles.specs.contracts.held_recorder.HeldRecorder as Held
 use Rattle.tmw_handles.specs.contracts.recorder_slot.RecorderSlot as Place
-use denote.Signature.{type_at}
 use Rattle.tmw_handles.specs.contracts.recorder_slot.RecorderSlot.into_parts as called
 use Rattle.tmw_handles.specs.contracts.recorder_slot.RecorderSlot.into_parts.Key as key
 use Rattle.tmw_handles.proofs.recorder_slot.RecorderSlot.into_parts.Statement.{statement}

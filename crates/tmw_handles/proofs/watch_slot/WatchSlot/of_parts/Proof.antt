@@ -1,6 +1,5 @@
 -- The place of a box is made of its pointer, whose type is told no more, and its allocator; it owns what the parts owned.
-use contract.Running.{tables, tables_of}
-use Rattle.tmw_handles.proofs.Steps.{refl, sym, subst, List, [], ◌∷◌, ◌++◌, Some, ftrue, fsep, SProp, ent, emp, id⊢, Fun, Val, Memory, Routine, WpFn, Tables, Ura, WpFn-mono, alloc_all, pass_all, free_all, look_at, get, get_in, sets, ⋆, Item, ‵, raw, ◌⊛◌, ◌$◌, ◌∵◌, !, qed, by, move, drop, use1, join, split, fsplit, fjoin, suffices, done, Logic, whole, sub, agg, stop, fld, no_more, and_then, of_opd, returns, enter, yes, nothing, triple_of, entered, says, Stays, stay_dropped, walk_of, ends_at, Goes-dropped, walk_Meets, D, B, word, box_typed, box_out, box_in}
+use Rattle.tmw_handles.proofs.Steps.{ !, B, D, Fun, Goes-dropped, Item, List, Logic, Memory, Routine, SProp, Some, Stays, Tables, Ura, Val, WpFn, WpFn-mono, [], agg, alloc_all, and_then, box_in, box_out, box_typed, by, done, drop, emp, ends_at, ent, enter, entered, fjoin, fld, free_all, fsep, fsplit, ftrue, get, get_in, id⊢, join, look_at, move, no_more, nothing, of_opd, pass_all, qed, raw, refl, returns, says, sets, split, stay_dropped, stop, sub, subst, suffices, sym, tables, tables_of, triple_of, use1, walk_Meets, walk_of, whole, word, yes, ‵, ⋆, ◌$◌, ◌++◌, ◌∵◌, ◌∷◌, ◌⊛◌}
 use Rattle.tmw_handles.proofs.AsBoxes.{watch_box as E, watch_parts as Given}
 use Rattle.tmw_handles.specs.contracts.watch_slot.WatchSlot as Place
 use Rattle.tmw_handles.specs.contracts.watch_slot.WatchSlot.of_parts as called

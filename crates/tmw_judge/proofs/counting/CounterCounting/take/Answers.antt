@@ -1,7 +1,5 @@
 -- The counter takes an event exactly where the history stays well-formed.
-use Rattle.std.proofs.Common.{◌≡◌, ◌++◌, ◌<◌, ◌-◌, ◌^◌, ℕ, List, [], ◌∷◌, length, Result, Ok, Err, IfOk, IfErr, OnErr, sym, subst}
-use Rattle.std.proofs.lemmas.Bool.{both_ways}
-use Rattle.tmw_events.specs.declared.event.Event.{Event}
+use Rattle.tmw_judge.proofs.Shared.{Err, Event, IfErr, IfOk, List, Ok, OnErr, Result, [], both_ways, length, subst, sym, ℕ, ◌++◌, ◌-◌, ◌<◌, ◌^◌, ◌∷◌, ◌≡◌}
 use Rattle.tmw_counts.specs.Counting.{CountsSo}
 use Rattle.tmw_counts.specs.declared.counter.Counter.{Counter}
 use Rattle.tmw_wellformed.specs.Faults.{Refuses}

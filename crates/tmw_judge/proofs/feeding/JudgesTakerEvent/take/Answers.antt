@@ -1,6 +1,5 @@
 -- An event that was fed is one more, and is counted where some verdict was open.
-use Rattle.std.proofs.Common.{◌∙◌, refl}
-use Rattle.std.proofs.lemmas.Bool.{both_ways}
+use Rattle.tmw_judge.proofs.Shared.{both_ways, refl, ◌∙◌}
 use Rattle.tmw_judge.proofs.CountedParts.{judged-more}
 use Rattle.tmw_judge.proofs.Taking.{counted-taken, few_fed, have_room, on_err}
 use Rattle.tmw_judge.proofs.feeding.JudgesTakerEvent.take.Goals as goal

@@ -1,4 +1,4 @@
-use Rattle.std.proofs.Common.{length-take, arith}
+use Rattle.tmw_lines.proofs.Shared.{arith, length-take}
 use Rattle.tmw_lines.proofs.HeldBytes.{between-less}
 use Rattle.tmw_lines.proofs.held.Held.consume.Goals as goal
 

@@ -1,6 +1,4 @@
-use Rattle.std.proofs.Common.{◌≡◌, ◌≤◌, ◌+◌, ◌-◌, ◌++◌, take, length, ap, ◌∙◌, arith}
-use Rattle.std.proofs.lemmas.List.{length-take-le}
-use borrow.Rule.Slice.PartMut.{put_mid}
+use Rattle.tmw_lines.proofs.Shared.{ap, arith, length, length-take-le, put_mid, take, ◌++◌, ◌+◌, ◌-◌, ◌∙◌, ◌≡◌, ◌≤◌}
 use Rattle.tmw_lines.proofs.HeldBytes.{take-read}
 use Rattle.tmw_lines.proofs.held.Held.read.Goals as goal
 

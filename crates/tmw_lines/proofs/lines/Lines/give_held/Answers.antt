@@ -1,5 +1,5 @@
 -- The lines that were given are let go of.
-use Rattle.std.proofs.Common.{refl}
+use Rattle.tmw_lines.proofs.Shared.{refl}
 use Rattle.tmw_lines.proofs.HeldGiven.{gives-held, lacks-held}
 use Rattle.tmw_lines.proofs.LinesRead.{IsReading-new, IsReading-over, IsReading-failed}
 use Rattle.tmw_lines.proofs.lines.Lines.give_held.Goals as goal

@@ -1,4 +1,4 @@
-use Rattle.std.proofs.Common.{refl}
+use Rattle.tmw_lines.proofs.Shared.{refl}
 use Rattle.tmw_lines.proofs.LinesRead.{HasRead-first}
 use Rattle.tmw_lines.proofs.lines.Lines.header.Goals as goal
 

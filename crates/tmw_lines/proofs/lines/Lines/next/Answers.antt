@@ -1,4 +1,4 @@
-use Rattle.std.proofs.Common.{refl}
+use Rattle.tmw_lines.proofs.Shared.{refl}
 use Rattle.tmw_lines.proofs.LinesRead.{HasRead-push, text_fault-line, IsReading-over, IsReading-failed}
 use Rattle.tmw_lines.proofs.lines.Lines.next.Goals as goal
 

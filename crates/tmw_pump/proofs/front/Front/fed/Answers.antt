@@ -1,4 +1,4 @@
-use Rattle.std.proofs.Common.{◌∙◌}
+use Rattle.tmw_pump.proofs.Shared.{◌∙◌}
 use Rattle.tmw_pump.proofs.Feeding.{count-fed}
 use Rattle.tmw_pump.proofs.front.Front.fed.Goals as goal
 

@@ -1,16 +1,9 @@
-use Rattle.std.proofs.Common.{◌≡◌, ◌++◌, ◌<◌, ◌-◌, ◌^◌, List, [], ◌∷◌, length, refl, sym, ap, ◌∙◌, subst, arith}
-use Rattle.std.proofs.lemmas.Bool.{both_ways}
-use Rattle.std.proofs.lemmas.List.{length_push}
+use Rattle.tmw_pump.proofs.Shared.{Event, Fits, List, WasCounted, [], ap, arith, both_ways, is_open, length, length_push, refl, subst, sym, verdict_of, ◌++◌, ◌-◌, ◌<◌, ◌^◌, ◌∙◌, ◌∷◌, ◌≡◌}
 use Rattle.tmw_counts.proofs.Taking.{kept-ill, taken-formed}
-use Rattle.tmw_counts.specs.Parts.{is_open}
-use Rattle.tmw_events.specs.declared.event.Event.{Event}
-use Rattle.tmw_monitor.specs.Fitting.{Fits}
-use Rattle.tmw_monitor.specs.Monitor.{verdict_of}
 use Rattle.tmw_pump.proofs.CountingOn.{counted_next, counted_still}
 use Rattle.tmw_pump.proofs.Feeding.{few-held, room-fed, fed_on}
-use Rattle.tmw_pump.specs.Held.{WasCounted}
-use Rattle.tmw_pump.proofs.front.Front.judge.Goals as goal
 use Rattle.tmw_pump.proofs.front.Front.judge.Goals.{then-open, else-open}
+use Rattle.tmw_pump.proofs.front.Front.judge.Goals as goal
 
 pub feed-requires : goal.feed-requires
 feed-requires c = let old = c.args.self.now in

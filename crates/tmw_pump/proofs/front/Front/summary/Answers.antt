@@ -1,5 +1,5 @@
 -- What was counted is the part that the verdict covers.
-use Rattle.std.proofs.Math.Logic.{∥∥₁_map}
+use Rattle.tmw_pump.proofs.Shared.{∥∥₁_map}
 use Rattle.tmw_counts.proofs.Widest.{summary_known}
 use Rattle.tmw_pump.proofs.front.Front.summary.Goals as goal
 

@@ -1,32 +1,11 @@
 -- The list that `then` makes has one event more.
-use mathlib.Core.Path.{refl}
-use mathlib.Core.List.{[], ◌∷◌, ◌++◌}
-use seplogic.Ra.Ura.{Ura}
+use Rattle.tmw_pump.proofs.Steps.{ !, Args, Calls, Fun, Goes-none_ref, Logic, Loops, Meets, Memory, Routine, SProp, Stays, Tables, Ura, Val, Walks, WpFn, WpFn-mono, [], agg, alive, alloc_all, done, emp, ends_at, ent, enter, entered, free_all, fst∗, look_at, move, no_more, on_entry, owns, pass_all, pure_i, qed, raw, refl, returns, says, sets, stay_none_ref, suffices, tables, tables_of, triple_of, via, vnil, vptr, vstruct, walk_Meets, walk_of, walked, ‵, ◌$◌, ◌++◌, ◌∵◌, ◌∷◌}
 use mir.Syntax.{named}
-use mir.Val.{Val, vptr, vstruct, vnil}
-use base.Logic.{SProp, ent, emp, via, fst∗}
 use base.Fml.{Fml}
-use prog.Memory.{Memory}
-use prog.Routine.{Routine}
-use prog.Wp.{Calls, Loops, WpFn, Tables}
-use types.Logic.{Logic}
 use contract.Lifetimes.{Lfts, Shares}
-use contract.Monad.{Fun}
-use contract.Running.{tables, tables_of}
-use sound.WpLaws.{WpFn-mono}
-use types.Kit.{‵, raw, ◌$◌, ◌∵◌, !, qed, move, suffices, done}
-use types.Run.{no_more, returns, enter}
-use types.Part.{agg}
-use types.ByLocal.{alloc_all, pass_all, free_all, look_at, sets}
 use denote.Exit.{yes}
-use denote.RattleType.{owns}
 use denote.Ref.{shr_vals, shr_Tells}
-use denote.Shadow.{pure_i}
 use denote.Signature.{plain, types_at}
-use denote.Triple.Entry.{on_entry, alive, Args}
-use denote.Triple.Spec.{Meets, triple_of}
-use denote.Triple.Table.{entered}
-use denote.Triple.Walked.{says, stay_none_ref, Stays, walk_of, Walks, ends_at, walked, Goes-none_ref, walk_Meets}
 use Rattle.tmw_pump.specs.contracts.judged.Judged.then.Key.{name as key}
 use Rattle.tmw_pump.specs.contracts.judged.Judged.then as f
 use Rattle.tmw_pump.proofs.judged.Judged.then.Statement as stated

@@ -1,4 +1,4 @@
-use Rattle.std.proofs.Common.{rules}
+use Rattle.tmw_pump.proofs.Shared.{rules}
 use Rattle.tmw_pump.proofs.Keeping.{new_kept}
 use Rattle.tmw_pump.proofs.pump.Pump.keeping.Goals as goal
 

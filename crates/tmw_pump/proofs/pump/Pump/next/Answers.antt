@@ -1,4 +1,4 @@
-use Rattle.std.proofs.Common.{[], ◌∷◌, Some, refl, rules}
+use Rattle.tmw_pump.proofs.Shared.{Some, [], refl, rules, ◌∷◌}
 use Rattle.tmw_pump.proofs.Keeping.{kept-came, was_kept}
 use Rattle.tmw_pump.proofs.pump.Pump.next.Goals as goal
 

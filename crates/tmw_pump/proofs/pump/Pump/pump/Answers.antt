@@ -1,10 +1,8 @@
-use Rattle.std.proofs.Common.{◌≡◌, ℕ, refl, ap, ◌∙◌, subst, inl, inr, arith}
-use Rattle.std.proofs.lemmas.Result.{err_from_is_err_and}
+use Rattle.tmw_pump.proofs.Shared.{HasPumped, ap, arith, err_from_is_err_and, inl, inr, pump_in, refl, subst, ℕ, ◌∙◌, ◌≡◌}
 use Rattle.tmw_pump.proofs.HeadlineProof.{gives_headline}
 use Rattle.tmw_pump.proofs.Keeping.{was_kept}
 use Rattle.tmw_pump.proofs.Turns.{fits-came, pumped-came, pumped-more, pumped-next, pumped-refused}
 use Rattle.tmw_pump.proofs.pump.Pump.pump.Goals as goal
-use Rattle.tmw_pump.specs.Pumping.{HasPumped, pump_in}
 
 pub returns-in_default-clause-ok : goal.returns-in_default-clause-ok
 returns-in_default-clause-ok g c =

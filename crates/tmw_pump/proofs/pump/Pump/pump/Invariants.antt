@@ -1,8 +1,5 @@
 -- So many events were judged as turns were made, and none is held behind the last; before the first turn nothing is done.
-use Rattle.std.proofs.Common.{◌≡◌, ◌<◌, None}
-use Rattle.tmw_ring.specs.Ends.{ReaderOf}
-use Rattle.tmw_pump.specs.Keeping.{StaysKept}
-use Rattle.tmw_pump.specs.Pumping.{HasPumped, pump_in}
+use Rattle.tmw_pump.proofs.Shared.{HasPumped, None, ReaderOf, StaysKept, pump_in, ◌<◌, ◌≡◌}
 use Rattle.tmw_pump.proofs.pump.Pump.pump.Given as goal
 
 abbrev pub invariant-loop-judged : goal.invariant-loop-judged

@@ -1,10 +1,6 @@
-use Rattle.std.proofs.Common.{◌≡◌, ◌++◌, List, ap, ◌∙◌}
-use Rattle.tmw_events.specs.declared.event.Event.{Event}
+use Rattle.tmw_pump.proofs.Shared.{Event, Front, List, all_of, ap, came, rest_in, ◌++◌, ◌∙◌, ◌≡◌}
 use Rattle.tmw_pump.proofs.OneLog.{log-settled}
 use Rattle.tmw_pump.proofs.pump.Pump.settle.Goals as goal
-use Rattle.tmw_pump.specs.Fronts.{came}
-use Rattle.tmw_pump.specs.Resting.{all_of, rest_in}
-use Rattle.tmw_pump.specs.declared.front.Front.{Front}
 
 pub returns-clause-one_log : goal.returns-clause-one_log
 returns-clause-one_log g c =

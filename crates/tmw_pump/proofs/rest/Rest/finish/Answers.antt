@@ -1,11 +1,7 @@
-use Rattle.std.proofs.Common.{List, ap, sym, ◌∙◌, subst}
-use Rattle.tmw_defs.specs.declared.verdict.Verdict.{Verdict}
-use Rattle.tmw_events.specs.declared.event.Event.{Event}
+use Rattle.tmw_pump.proofs.Shared.{Event, GivesHeadline, List, Verdict, all_of, ap, rest_in, subst, sym, ◌∙◌}
 use Rattle.tmw_pump.proofs.HeadlineProof.{gives_rest}
 use Rattle.tmw_pump.proofs.Keeping.{all_kept}
 use Rattle.tmw_pump.proofs.rest.Rest.finish.Goals as goal
-use Rattle.tmw_pump.specs.Headline.{GivesHeadline}
-use Rattle.tmw_pump.specs.Resting.{all_of, rest_in}
 
 pub returns-clause-judged : goal.returns-clause-judged
 returns-clause-judged c =

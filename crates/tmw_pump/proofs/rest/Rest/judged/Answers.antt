@@ -1,4 +1,4 @@
-use Rattle.std.proofs.Common.{◌∙◌}
+use Rattle.tmw_pump.proofs.Shared.{◌∙◌}
 use Rattle.tmw_pump.proofs.Keeping.{all_kept}
 use Rattle.tmw_pump.proofs.rest.Rest.judged.Goals as goal
 

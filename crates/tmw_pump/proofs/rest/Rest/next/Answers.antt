@@ -1,4 +1,4 @@
-use Rattle.std.proofs.Common.{Some, rules}
+use Rattle.tmw_pump.proofs.Shared.{Some, rules}
 use Rattle.tmw_pump.proofs.Keeping.{kept-came, was_kept}
 use Rattle.tmw_pump.proofs.rest.Rest.next.Goals as goal
 

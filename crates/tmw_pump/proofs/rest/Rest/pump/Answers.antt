@@ -1,10 +1,8 @@
-use Rattle.std.proofs.Common.{◌∙◌, arith}
-use Rattle.std.proofs.lemmas.Result.{err_from_is_err_and}
+use Rattle.tmw_pump.proofs.Shared.{arith, err_from_is_err_and, rest_in, ◌∙◌}
 use Rattle.tmw_pump.proofs.HeadlineProof.{gives_rest}
 use Rattle.tmw_pump.proofs.Keeping.{was_kept}
 use Rattle.tmw_pump.proofs.Turns.{few-came, fits-came, rested-more, rested-next, rested-refused}
 use Rattle.tmw_pump.proofs.rest.Rest.pump.Goals as goal
-use Rattle.tmw_pump.specs.Resting.{rest_in}
 
 pub returns-in_default-clause-headline : goal.returns-in_default-clause-headline
 returns-in_default-clause-headline g c =

@@ -1,7 +1,5 @@
 -- So many events were judged as turns were made, and none is held behind the last; before the first turn nothing is done.
-use Rattle.std.proofs.Common.{◌≡◌, ◌<◌, None}
-use Rattle.tmw_pump.specs.Keeping.{StaysKept}
-use Rattle.tmw_pump.specs.Resting.{HasRested, rest_in}
+use Rattle.tmw_pump.proofs.Shared.{HasRested, None, StaysKept, rest_in, ◌<◌, ◌≡◌}
 use Rattle.tmw_pump.proofs.rest.Rest.pump.Given as goal
 
 abbrev pub invariant-loop-judged : goal.invariant-loop-judged

@@ -1,9 +1,6 @@
 -- The quoted line came after what is wrong with it.
-use Rattle.std.proofs.Common.{ℕ, List, codes, decimal, ◌++◌}
-use Rattle.tmw_report.specs.Quote.{quoted, wrong_of}
+use Rattle.tmw_report.proofs.Shared.{List, Puts-front, Puts-more, codes, decimal, quoted, version_digit, wrong_of, ℕ, ◌++◌}
 use Rattle.tmw_report.specs.declared.quote.Quote.{Quote}
-use Rattle.tmw_streams.proofs.Putting.{Puts-more, Puts-front}
-use Rattle.tmw_trace.specs.Text.{version_digit}
 use Rattle.tmw_report.proofs.quote.QuoteTextsTextsQuote.put_text.Goals as goal
 
 -- the line's number, and what is wrong with it

@@ -1,11 +1,6 @@
-use Rattle.std.proofs.Common.{sym, ap, ◌∙◌, arith}
-use mathlib.Core.Option.{none}
-use Rattle.atomic_table.specs.Table.{step}
-use Rattle.tmw_ring.specs.Ends.{RingIs, WriterIs}
-use Rattle.tmw_ring.specs.Seats.{writer_in}
-use Rattle.tmw_ring.specs.declared.part.Part.TheVariants.{Writes}
+use Rattle.tmw_ring.proofs.Shared.{RingIs, WriterIs, Writes, ap, arith, none, step, sym, writer_in, ◌∙◌}
 use Rattle.tmw_ring.proofs.Found.{finds_tail}
-use Rattle.tmw_ring.proofs.Meetings.{found_alone, idle_still, writer_met}
+use Rattle.tmw_ring.proofs.Meetings.{found_alone, writer_met}
 use Rattle.tmw_ring.proofs.ends.Ring.find_tail.Goals as goal
 
 pub load-requires : goal.load-requires
@@ -14,13 +9,6 @@ load-requires c = (
   omega (arith, c.self.invariant.words),
   finds_tail c.self.inside.table.shared.key c.self.inside.table.shared.table_id.slots c.writer.inside.seat.id c.writer.inside.seat.me,
 )
-
-pub invariant_of-writer : goal.invariant_of-writer
-invariant_of-writer c =
-    let (run, log, is, of, after) =
-    found_alone (step c.self.inside.table.shared.table_id.slots 0 0 0 none) c.load.result (Writes (writer_in c.writer.inside.seat.me.0))
-    c.writer.inside.seat.me c.load.new.seat.me c.writer.invariant.seated c.load.ensures.2 in
-    idle_still c.writer.inside.number _ run c.writer.inside.seat.me c.load.new.seat.me c.writer.invariant after
 
 pub returns : goal.returns
 returns c =

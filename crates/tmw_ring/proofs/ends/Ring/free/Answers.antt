@@ -1,5 +1,4 @@
-use Rattle.std.proofs.Common.{sym, ap, ◌∙◌, arith}
-use Rattle.tmw_ring.specs.Ends.{RingIs}
+use Rattle.tmw_ring.proofs.Shared.{RingIs, ap, arith, sym, ◌∙◌}
 use Rattle.tmw_ring.proofs.Takes.{may_free}
 use Rattle.tmw_ring.proofs.ends.Ring.free.Goals as goal
 

@@ -1,5 +1,4 @@
-use Rattle.tmw_ring.specs.Seats.{writer_in, reader_in}
-use Rattle.tmw_ring.specs.declared.part.Part.TheVariants.{Writes, Reads}
+use Rattle.tmw_ring.proofs.Shared.{Reads, Writes, reader_in, writer_in}
 use Rattle.tmw_ring.proofs.Meetings.{idle_still, waiting_still, writer_met, reader_met}
 use Rattle.tmw_ring.proofs.ends.Ring.meet.Goals as goal
 

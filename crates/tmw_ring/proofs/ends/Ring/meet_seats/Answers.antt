@@ -1,7 +1,4 @@
-use Rattle.std.proofs.Common.{sym, ap, ◌∙◌, arith}
-use mathlib.Core.Option.{none}
-use Rattle.atomic_table.specs.Table.{step}
-use Rattle.tmw_ring.specs.Ends.{RingIs}
+use Rattle.tmw_ring.proofs.Shared.{RingIs, ap, arith, none, step, sym, ◌∙◌}
 use Rattle.tmw_ring.proofs.Found.{finds_tail}
 use Rattle.tmw_ring.proofs.Joins.{joins_both}
 use Rattle.tmw_ring.proofs.Meetings.{seats_met}

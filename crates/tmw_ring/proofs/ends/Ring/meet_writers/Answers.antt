@@ -1,5 +1,4 @@
-use Rattle.tmw_ring.specs.Seats.{writer_in}
-use Rattle.tmw_ring.specs.declared.part.Part.TheVariants.{Writes}
+use Rattle.tmw_ring.proofs.Shared.{Writes, writer_in}
 use Rattle.tmw_ring.proofs.Meetings.{idle_still, writer_met}
 use Rattle.tmw_ring.proofs.ends.Ring.meet_writers.Goals as goal
 

@@ -1,5 +1,4 @@
-use Rattle.std.proofs.Common.{◌∙◌, sym, ap, arith}
-use Rattle.tmw_ring.specs.Ends.{RingIs}
+use Rattle.tmw_ring.proofs.Shared.{RingIs, ap, arith, sym, ◌∙◌}
 use Rattle.tmw_ring.proofs.Rooms.{front-le, same-tests}
 use Rattle.tmw_ring.proofs.ends.Ring.room.Goals as goal
 

@@ -1,9 +1,4 @@
-use Rattle.std.proofs.Common.{◌-◌, List, sym, ap, ◌∙◌, subst}
-use Rattle.std.specs.Mem.Slots.{slots_items}
-use Rattle.tmw_events.specs.declared.event.Event.{Event}
-use Rattle.tmw_ring.specs.Ends.{ReaderIs, RingIs}
-use Rattle.tmw_ring.specs.Seats.{reader_in}
-use Rattle.tmw_ring.specs.Settling.{IsSettled, events_from}
+use Rattle.tmw_ring.proofs.Shared.{Event, IsSettled, List, ReaderIs, RingIs, ap, events_from, reader_in, slots_items, subst, sym, ◌-◌, ◌∙◌}
 use Rattle.tmw_ring.proofs.LastStates.{ended_joined}
 use Rattle.tmw_ring.proofs.Settling.{Counted, leaves, settles}
 use Rattle.tmw_ring.proofs.ends.Ring.settle.Goals as goal

@@ -1,7 +1,4 @@
-use Rattle.std.proofs.Common.{ℕ, sym, ap, ◌∙◌, subst}
-use Rattle.tmw_ring.specs.Ends.{ReaderIs}
-use Rattle.tmw_ring.specs.Seats.{reader_in, reader_is}
-use Rattle.tmw_ring.specs.Takes.{IsReadyReader, HasTaken, HasFoundNone}
+use Rattle.tmw_ring.proofs.Shared.{HasFoundNone, HasTaken, IsReadyReader, ReaderIs, ap, reader_in, reader_is, subst, sym, ℕ, ◌∙◌}
 use Rattle.tmw_ring.proofs.Takings.{looked_none, looked_ready, read_told, freed_taken}
 use Rattle.tmw_ring.proofs.ends.Ring.take.Goals as goal
 

@@ -1,6 +1,4 @@
-use Rattle.std.proofs.Common.{ℕ, List, sym, ◌∙◌, arith}
-use Rattle.std.proofs.lemmas.Option.{IfSome_then}
-use Rattle.std.specs.Mem.Slots.{slots_items}
+use Rattle.tmw_ring.proofs.Shared.{IfSome_then, List, arith, slots_items, sym, ℕ, ◌∙◌}
 use Rattle.tmw_ring.proofs.NextLeft.{found_at, next_left, some_event, none_then}
 use Rattle.tmw_ring.proofs.settled.Settled.take.Goals as goal
 

@@ -1,6 +1,5 @@
-use Rattle.std.proofs.Common.{sym, arith}
+use Rattle.tmw_ring_steps.proofs.Shared.{arith, core_of, machine_of, sym}
 use Rattle.tmw_ring_steps.proofs.SoundWords.{has_told, free-told}
-use Rattle.tmw_ring_steps.specs.RingState.{core_of, machine_of}
 use Rattle.tmw_ring_steps.proofs.ring_state.RingState.free.Goals as goal
 
 pub returns-in_ok-push-in-Told-clause-ok : goal.returns-in_ok-push-in-Told-clause-ok

@@ -1,6 +1,5 @@
-use Rattle.std.proofs.Common.{Some, sym, ap, ◌∙◌, arith, length}
+use Rattle.tmw_ring_steps.proofs.Shared.{Some, ap, arith, core_of, length, sym, ◌∙◌}
 use Rattle.tmw_ring_steps.proofs.SoundWords.{claimed_small, has_writer}
-use Rattle.tmw_ring_steps.specs.RingState.{core_of}
 use Rattle.tmw_ring_steps.proofs.ring_state.RingState.publish.Goals as goal
 
 pub overflow_add-place : goal.overflow_add-place

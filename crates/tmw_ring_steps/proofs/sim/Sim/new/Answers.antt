@@ -1,9 +1,5 @@
-use Rattle.std.proofs.Common.{sym, subst, ap}
-use Rattle.tmw_ring_defs.specs.RingMachine.{Machine}
-use Rattle.tmw_ring_defs.specs.RingSound.{Sound}
-use Rattle.tmw_ring_defs.proofs.RingStart.{new_core-sound}
+use Rattle.tmw_ring_steps.proofs.Shared.{Machine, Simulated, Sound, ap, new_core-sound, subst, sym}
 use Rattle.tmw_ring_steps.proofs.sim.Sim.new.Goals as goal
-use Rattle.tmw_ring_steps.specs.Simulated.{Simulated}
 
 pub invariant_of-result : goal.invariant_of-result
 invariant_of-result c =

@@ -1,14 +1,7 @@
-use Rattle.std.proofs.Common.{◌≡◌, ◌+◌, List, [], ◌∷◌, ◌++◌, take, sym, ap, ◌∙◌, subst, arith}
-use Rattle.std.proofs.lemmas.List.{take_more, take_all}
+use Rattle.tmw_ring_steps.proofs.Shared.{List, RanFirst, Reply, Simulated, Sound, Step, [], after, ap, arith, subst, sym, take, take_all, take_more, ◌++◌, ◌+◌, ◌∙◌, ◌∷◌, ◌≡◌}
 use Rattle.std.proofs.lemmas.Result.{err_from_is_err_and}
-use Rattle.tmw_ring_defs.specs.RingMachine.{after}
-use Rattle.tmw_ring_defs.specs.RingSound.{Sound}
-use Rattle.tmw_ring_defs.specs.declared.ring_step.Reply.{Reply}
-use Rattle.tmw_ring_defs.specs.declared.ring_step.Step.{Step}
 use Rattle.tmw_ring_steps.proofs.Runs.{HasRun, run-more, run-none, goes_on, ran_first}
 use Rattle.tmw_ring_steps.proofs.sim.Sim.run.Goals as goal
-use Rattle.tmw_ring_steps.specs.Runs.{RanFirst}
-use Rattle.tmw_ring_steps.specs.Simulated.{Simulated}
 
 pub returns-in_err-said-clause-err : goal.returns-in_err-said-clause-err
 returns-in_err-said-clause-err c =

@@ -1,6 +1,5 @@
 -- The steps so far were made and answered, and there is room for the other replies.
-use Rattle.std.proofs.Common.{◌≡◌, ◌≤◌, length, take, vec_len, vec_capacity}
-use Rattle.tmw_ring_defs.specs.RingSound.{Sound}
+use Rattle.tmw_ring_steps.proofs.Shared.{Sound, length, take, vec_capacity, vec_len, ◌≡◌, ◌≤◌}
 use Rattle.tmw_ring_steps.proofs.Runs.{HasRun}
 use Rattle.tmw_ring_steps.proofs.sim.Sim.run.Given as goal
 

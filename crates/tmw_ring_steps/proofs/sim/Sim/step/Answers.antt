@@ -1,9 +1,6 @@
-use Rattle.std.proofs.Common.{subst}
-use Rattle.tmw_ring_defs.specs.RingSound.{Spares}
+use Rattle.tmw_ring_steps.proofs.Shared.{Simulated, Spares, core_of, machine_of, subst}
 use Rattle.tmw_ring_steps.proofs.Runs.{made_sound}
 use Rattle.tmw_ring_steps.proofs.sim.Sim.step.Goals as goal
-use Rattle.tmw_ring_steps.specs.Simulated.{Simulated}
-use Rattle.tmw_ring_steps.specs.RingState.{core_of, machine_of}
 
 pub invariant_of-self-2 : goal.invariant_of-self-2
 invariant_of-self-2 c =

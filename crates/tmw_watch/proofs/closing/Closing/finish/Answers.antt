@@ -1,6 +1,4 @@
-use Rattle.std.proofs.Common.{◌^◌, ◌-◌, length, ap, ◌∙◌, arith}
-use Rattle.tmw_pump.specs.Resting.{rest_in}
-use Rattle.tmw_pump.specs.declared.front.Front.{Front}
+use Rattle.tmw_watch.proofs.Shared.{Front, ap, arith, length, rest_in, ◌-◌, ◌^◌, ◌∙◌}
 use Rattle.tmw_watch.proofs.Closings.{is_judged}
 use Rattle.tmw_watch.proofs.closing.Closing.finish.Goals as goal
 

@@ -1,4 +1,4 @@
-use Rattle.std.proofs.Common.{rules}
+use Rattle.tmw_watch.proofs.Shared.{rules}
 use Rattle.tmw_watch.proofs.recorder.Recorder.record.Goals as goal
 
 pub returns-clause-ok : goal.returns-clause-ok

@@ -1,12 +1,6 @@
-use Rattle.std.proofs.Common.{rules, ◌≡◌, refl, sym, subst}
-use Rattle.std.proofs.lemmas.List.Sorted.{IsPermutation-map}
-use Rattle.std.specs.List.Sorted.{IsPermutation}
-use Rattle.tmw_pump.specs.Resting.{all_of}
+use Rattle.tmw_watch.proofs.Shared.{IsPermutation, IsPermutation-map, Recorder, all_of, refl, rest_of, rules, subst, sym, writers_of, ◌≡◌}
 use Rattle.tmw_watch.proofs.Closings.{ended_again, is_closed, is_left, of_ring_placed}
 use Rattle.tmw_watch.proofs.watch.Watch.close.Goals as goal
-use Rattle.tmw_watch.specs.Closing.{writers_of}
-use Rattle.tmw_watch.specs.Shown.{rest_of}
-use Rattle.tmw_watch.specs.declared.recorder.Recorder.{Recorder}
 
 pub returns-in-Err-clause-err : goal.returns-in-Err-clause-err
 returns-in-Err-clause-err c =

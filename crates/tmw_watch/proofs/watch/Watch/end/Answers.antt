@@ -1,6 +1,5 @@
-use Rattle.std.proofs.Common.{All, sym, ◌∙◌, subst}
+use Rattle.tmw_watch.proofs.Shared.{All, WriterOf, subst, sym, ◌∙◌}
 use Rattle.std.proofs.lemmas.Result.{IfErr-weaker}
-use Rattle.tmw_ring.specs.Ends.{WriterOf}
 use Rattle.tmw_watch.proofs.Closings.{ended_settled, of_ring-writers, writers-given}
 use Rattle.tmw_watch.proofs.watch.Watch.end.Goals as goal
 

@@ -1,7 +1,5 @@
-use Rattle.std.proofs.Common.{[], sym, ap, ◌∙◌, subst}
-use Rattle.tmw_monitor.specs.Fitting.{Fits, rules_of}
+use Rattle.tmw_watch.proofs.Shared.{Fits, ReaderIs, RingIs, [], ap, rules_of, subst, sym, ◌∙◌}
 use Rattle.tmw_monitor.specs.declared.monitor.Monitor.{Monitor}
-use Rattle.tmw_ring.specs.Ends.{RingIs, ReaderIs}
 use Rattle.tmw_ring_defs.specs.Sizes.{HasNumbers}
 use Rattle.tmw_watch.proofs.watch.Watch.open.Goals as goal
 

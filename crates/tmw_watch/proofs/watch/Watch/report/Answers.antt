@@ -1,7 +1,5 @@
-use Rattle.std.proofs.Common.{sym, subst}
+use Rattle.tmw_watch.proofs.Shared.{GivesHeadline, gives_headline, subst, sym}
 use Rattle.tmw_defs.specs.declared.verdict.Verdict.{Verdict}
-use Rattle.tmw_pump.proofs.HeadlineProof.{gives_headline}
-use Rattle.tmw_pump.specs.Headline.{GivesHeadline}
 use Rattle.tmw_watch.proofs.watch.Watch.report.Goals as goal
 
 pub returns-clause-headline : goal.returns-clause-headline

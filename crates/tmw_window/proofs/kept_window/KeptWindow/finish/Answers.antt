@@ -1,6 +1,5 @@
 -- The monitor tells the rest.
-use Rattle.std.proofs.Common.{sym, subst}
-use Rattle.tmw_window.specs.Keeping.{KeepsShown}
+use Rattle.tmw_window.proofs.Shared.{KeepsShown, subst, sym}
 use Rattle.tmw_window.proofs.kept_window.KeptWindow.finish.Goals as goal
 
 pub returns : goal.returns

@@ -1,7 +1,5 @@
 -- A window begins at a cut, from the outcomes there.
-use Rattle.std.proofs.Common.{rules, List, sym, subst}
-use Rattle.tmw_defs.specs.Opaque.{State}
-use Rattle.tmw_monitor.specs.Holding.{AreLastOutcomes}
+use Rattle.tmw_window.proofs.Shared.{AreLastOutcomes, List, State, rules, subst, sym}
 use Rattle.tmw_window.proofs.kept_window.KeptWindow.make_room.Goals as goal
 
 pub returns-clause-next : goal.returns-clause-next

@@ -1,8 +1,5 @@
 -- Before the first event the window is empty, and begins at the start.
-use Rattle.std.proofs.Common.{◌<◌, ℕ, List, [], sym, subst, ap, ◌∙◌}
-use Rattle.tmw_defs.specs.Opaque.{State}
-use Rattle.tmw_defs.specs.Criteria.{so_far}
-use Rattle.tmw_monitor.specs.Holding.{AreLastOutcomes}
+use Rattle.tmw_window.proofs.Shared.{AreLastOutcomes, List, State, [], ap, so_far, subst, sym, ℕ, ◌<◌, ◌∙◌}
 use Rattle.tmw_window.proofs.Windows.{shown-none, fine-empty}
 use Rattle.tmw_window.proofs.kept_window.KeptWindow.new.Goals as goal
 

@@ -1,8 +1,5 @@
 -- Behind a final verdict nothing more is shown; else the event is, in a new window or in the last.
-use Rattle.std.proofs.Common.{rules, sym, ap, ◌∙◌, subst}
-use Rattle.tmw_defs.proofs.VerdictProof.{fine-so_far}
-use Rattle.tmw_defs.specs.Criteria.{so_far}
-use Rattle.tmw_window.specs.Keeping.{IsNext}
+use Rattle.tmw_window.proofs.Shared.{IsNext, ap, fine-so_far, rules, so_far, subst, sym, ◌∙◌}
 use Rattle.tmw_window.proofs.Windows.{shown-cut, shown-final, shown-open, so_far-length}
 use Rattle.tmw_window.proofs.kept_window.KeptWindow.take.Goals as goal
 
