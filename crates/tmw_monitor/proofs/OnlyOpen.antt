@@ -1,6 +1,6 @@
 -- A monitor keeps of each history that fits it the open window and the outcomes before it alone.
-use Rattle.tmw_monitor.proofs.Shared.{Event, Fits, Keeps, KeepsNothing, List, Monitor, Open, Rules, cases_lt, inl, inr, length, members, outcomes_by, take, ◌≤◌}
-use Rattle.tmw_monitor.specs.Holding.{AreLastOutcomes, HoldsOpen, HoldsNone, KeepsOnlyOpen}
+use Rattle.tmw_monitor.proofs.Shared.{Event, Fits, Keeps, List, Monitor, Open, Rules, cases_lt, inl, inr, length, members, outcomes_by, take, ◌≤◌}
+use Rattle.tmw_monitor.specs.Holding.{AreLastOutcomes, HoldsOpen, KeepsOnlyOpen}
 use Rattle.tmw_monitor.proofs.Counting.{more_than-rising}
 
 -- a history in which nothing is wrong has no more outcomes at its last cut than the bound
@@ -22,19 +22,14 @@ holds_open rules history kept keeps = record {
   states = keeps.sums_up.states;
   few = few_outcomes rules history kept keeps;
   transactions = keeps.stands.shows;
-}
-
-holds_none : (kept : Open) → KeepsNothing kept → HoldsNone kept
-holds_none kept nothing = record {
-  states = nothing.states;
-  transactions = nothing.transactions;
+  turns = keeps.stands.turns;
 }
 
 pub keeps_only_open : (rules : Rules) (history : List Event) (monitor : Monitor) → Fits rules history monitor
     → KeepsOnlyOpen rules history monitor
 keeps_only_open rules history monitor fits = record {
   holds = λ is. holds_open rules history monitor.kept (fits.keeps is);
-  ended = λ final. holds_none monitor.kept (fits.forgets final);
+  ended = fits.forgets;
 }
 
 -- what it keeps of them are the outcomes at the last cut

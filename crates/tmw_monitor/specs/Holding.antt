@@ -1,5 +1,5 @@
 -- What a monitor holds of a history, which does not grow with what lies before the last cut.
-use Rattle.std.specs.Prelude.{◌≡◌, ◌↔◌, ◌≤◌, ◌++◌, ◌∷◌, ℕ, List, [], length, take, drop}
+use Rattle.std.specs.Prelude.{◌<◌, ◌≡◌, ◌↔◌, ◌≤◌, ◌++◌, ◌∷◌, ℕ, List, [], length, take, drop}
 use Rattle.std.specs.Cmp.Lexicographic.{slice_cmp}
 use Rattle.std.specs.List.{Contains}
 use Rattle.std.specs.List.Sorted.{IsStrictlySortedBy}
@@ -10,31 +10,29 @@ use Rattle.tmw_defs.specs.Opaque.{State}
 use Rattle.tmw_defs.specs.Summary.{IsLastCut}
 use Rattle.tmw_defs.specs.Verdict.{Rules}
 use Rattle.tmw_cuts.specs.Members.{members}
-use Rattle.tmw_cuts.specs.Standing.{views, views_of}
+use Rattle.tmw_cuts.specs.Standing.{descriptors_of, turn_at, views, views_of}
+use Rattle.tmw_cuts.specs.Turns.{find_open, found_in}
 use Rattle.tmw_monitor.specs.declared.monitor.Monitor.{Monitor}
 use Rattle.tmw_monitor.specs.declared.open.Open.{Open}
-use Rattle.tmw_monitor.specs.Fitting.{Fits}
+use Rattle.tmw_monitor.specs.Fitting.{Fits, KeepsNothing}
 use Rattle.tmw_monitor.specs.Monitor.{IsOpen, kept_of}
 
 -- It holds the history's outcomes at its last cut, no more of them than the bound, and the transactions of the open window, which
--- are those of the events since. It holds none of their operations: the list that a transaction shows is for clauses alone.
+-- are those of the events since, with each thread's open one and its pending call. It holds none of their operations: the list that a
+-- transaction shows is for clauses alone.
 pub record HoldsOpen (rules : Rules) (history : List Event) (kept : Open) : Type 0 where
   pub cut : ℕ
   pub last : IsLastCut history cut
   pub states : (s : State) → Contains (members kept.states) s ↔ outcomes_by rules.criterion rules.start (take cut history) s
   pub few : length (members kept.states) ≤ rules.states
   pub transactions : views kept.window ≡ views_of (drop cut history)
+  pub turns : (thread : ℕ) → thread < 8 → found_in (turn_at kept.window thread) ≡ find_open thread (descriptors_of (drop cut history))
 
--- It holds no state and no transaction.
-pub record HoldsNone (kept : Open) : Type 0 where
-  pub states : members kept.states ≡ []
-  pub transactions : views kept.window ≡ []
-
--- The states and the window of the monitor are those of the open window alone, and hold nothing after a final verdict. That it keeps no
--- event is seen in the fields of its types.
+-- The states and the window of the monitor are those of the open window alone; after a final verdict there is no state and no transaction.
+-- That it keeps no event is seen in the fields of its types.
 pub record KeepsOnlyOpen (rules : Rules) (history : List Event) (monitor : Monitor) : Type 0 where
   pub holds : IsOpen monitor → HoldsOpen rules history (kept_of monitor)
-  pub ended : (IsOpen monitor → ⊥) → HoldsNone (kept_of monitor)
+  pub ended : (IsOpen monitor → ⊥) → KeepsNothing (kept_of monitor)
 
 -- The monitor holds only the open window of what fitted it before.
 abbrev pub HoldsStill : Monitor → Monitor → Type 0

@@ -28,7 +28,7 @@ pub fn take_at_once(kept: &mut Open, bounds: Bounds, criterion: Criterion, event
                 kept.window.ask(event, place);
                 true
             } else {
-                // A copy that only this way needs, so that the event is mostly no value in memory.
+                // A copy that only this way needs, so that the event mostly stays in registers of the processor.
                 let copied = Event {
                     thread: event.thread,
                     kind: event.kind,

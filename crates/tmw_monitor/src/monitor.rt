@@ -118,7 +118,7 @@ impl Monitor {
             self.count += 1;
             return Ok(self.verdict);
         }
-        // A copy that only this way needs, so that the event is mostly no value in memory.
+        // A copy that only this way needs, so that the event mostly stays in registers of the processor.
         let copied = Event {
             thread: event.thread,
             kind: event.kind,

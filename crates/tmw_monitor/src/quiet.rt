@@ -5,8 +5,8 @@ ghost use Rattle.tmw_defs.specs.History.{Txn};
 use tmw_defs::Criterion;
 use tmw_events::Kind;
 
-/// Tells of most events that can't break the criterion. Such an event ends no transaction; by opacity it is no value either, which
-/// answers a read or an add.
+/// Tells whether an event of this kind can't break the criterion. `false` tells nothing. Such an event ends no transaction; by opacity it
+/// is no value either, which answers a read or an add.
 #[inline(always)]
 pub fn is_quiet(criterion: Criterion, kind: Kind) -> bool
     ensures { IsTrue result → (transactions : List Txn) (thread : ℕ)

@@ -17,7 +17,7 @@ impl Witness {
     ghost use Rattle.tmw_cuts.specs.declared.turn.Move.TheVariants.{End};
     ghost use Rattle.tmw_cuts.specs.declared.window.Window.{Window};
 
-    /// Takes in that a transaction begins, behind so many others.
+    /// Takes in that a transaction begins, behind so many others, or marks the order unknown.
     #[inline(always)]
     pub fn begin(&mut self, count: u8)
         ensures { (starts : List State) (xs : List View) (y : View) → length xs ≡ count
@@ -107,7 +107,7 @@ impl Witness {
     }
 
     /// Puts the transaction, which was left out, at the end and takes it as committed, if its reads hold there. It is called, so
-    /// that what has to be part of the reading of each line stays small enough to be.
+    /// that what has to be inlined into the reading of each line stays small enough to be.
     #[inline(never)]
     fn hold(&mut self, item: &Txn, place: usize) -> bool
         ensures held { IsTrue result → (starts : List State) (xs ys : List View) (x : View)
@@ -130,8 +130,8 @@ impl Witness {
         true
     }
 
-    /// If the next event commits the transaction at the place, takes that as committed at the end of the order, if its reads hold
-    /// there. So an order that is never searched for is that of the commits.
+    /// If the next event commits the transaction at the place, takes that as committed at the end of the order, if it writes and its
+    /// reads hold there. So an order that is never searched for is that of the commits. A body that did nothing would cost time alone.
     #[inline(always)]
     pub fn hold_pending(&mut self, window: &Window, event: Event, place: Ix)
         ensures known { self.new.known ≡ self.old.known }
