@@ -1,10 +1,8 @@
 -- The ends of a node's orders, told by the last writer of each register.
-use Rattle.std.specs.Prelude.{◌≡◌, ◌⊎◌, ◌<◌, ◌≤◌, ℕ, Bool, List, IsTrue, length, slice_index, slice_index_or, slice_set}
+use Rattle.std.specs.Prelude.{◌≡◌, ◌⊎◌, ◌<◌, ◌≤◌, ℕ, Bool, List, IsTrue, length, slice_index, slice_set}
 use Rattle.std.specs.List.{Contains}
 use Rattle.tmw_defs.specs.Opaque.{State}
 use Rattle.tmw_cuts.specs.declared.effect.Effect.{Effect}
-use Rattle.tmw_search.specs.declared.last.Final.{Final}
-use Rattle.tmw_search.specs.declared.last.Final.TheVariants.{Held, Left, Several}
 use Rattle.tmw_search.specs.declared.node.Node.{Node}
 use Rattle.tmw_search.specs.declared.sources.Choices.{Choices}
 use Rattle.tmw_search.specs.Chosen.{Chosen}
@@ -39,16 +37,6 @@ pub record IsEndOf (xs : List Effect) (start : State) (node : Node) (registers :
 abbrev pub EndWith : List Effect → Node → ℕ → ℕ → ℕ → Type 0
 EndWith xs node r was value = (start : State) → IsNode xs start 0 node → (held : ℕ) (rank : ℕ → ℕ) → IsLegal xs start 0 node held rank
     → EndsAt xs held rank r was value
-
--- This is what the register ends with in each legal order of the node; or it is open, and the register has a writer.
-abbrev pub IsFinal : List Effect → Node → ℕ → Final → Type 0
-IsFinal xs node r Held = (was : ℕ) → EndWith xs node r was was
-IsFinal xs node r (Left value) = (was : ℕ) → EndWith xs node r was value
-IsFinal xs node r Several = (k : ℕ) × (k < 8) × In (slice_index node.choices.writers r) k
-
--- These are what the registers end with.
-abbrev pub AreFinals : List Effect → Node → List Final → Type 0
-AreFinals xs node finals = (r : ℕ) → r < 8 → IsFinal xs node r (slice_index_or finals r Held)
 
 -- It is the state with what one of the mask leaves in the register.
 abbrev pub LeftByOne : List Effect → ℕ → ℕ → State → State → Type 0

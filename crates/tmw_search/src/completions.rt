@@ -5,7 +5,7 @@ ghost use Rattle.tmw_cuts.specs.Members.{members};
 ghost use Rattle.tmw_defs.specs.Opaque.{State};
 ghost use Rattle.tmw_search.specs.Chosen.{IsRead};
 ghost use Rattle.tmw_search.specs.Completed.{AreEndsFrom, EndsByReading, EndsFromAll, EndsByMore};
-ghost use Rattle.tmw_search.specs.Last.{AreFinals, IsEndOf, Adds};
+ghost use Rattle.tmw_search.specs.Last.{IsEndOf, Adds};
 ghost use Rattle.tmw_search.specs.Legal.{In, effects, IsNode};
 ghost use Rattle.tmw_search.specs.Narrowed.{AllOpen, Entails};
 ghost use Rattle.tmw_search.specs.Order.{IsOrder};
@@ -13,7 +13,7 @@ ghost use Rattle.tmw_search.specs.Rooted.{ReadsAll};
 
 use crate::end_states::EndStates;
 use crate::found::Found;
-use crate::last::{Final, add_last, finals_of, is_plain, put_known};
+use crate::last::{add_last, is_plain, put_known};
 use crate::node::Node;
 use crate::pass::settle;
 use crate::reads::read_all;
@@ -41,8 +41,6 @@ pub struct Reading {
     pub start: State,
     pub node: Node,
     pub alive: bool,
-    /// What the registers end with.
-    pub finals: [Final; 8],
 }
 
 /// Returns what follows from all reads of the root from this start.
@@ -51,7 +49,6 @@ fn reading_of(items: &[Txn], start: &State, root: &Node) -> Reading
     requires waits { AllOpen root.now.choices.reads root.now }
     ensures follows { Entails (effects items.now) result.start 0 root.now result.node result.alive }
     ensures start { result.start ≡ start.now }
-    ensures finals { AreFinals (effects items.now) result.node result.finals }
 {
     let mut node = *root;
     let alive = read_settled(items, start, &mut node);
@@ -59,7 +56,6 @@ fn reading_of(items: &[Txn], start: &State, root: &Node) -> Reading
         start: *start,
         node,
         alive,
-        finals: finals_of(items, &node),
     }
 }
 
@@ -69,10 +65,8 @@ fn read_from(items: &[Txn], start: &State, root: &Node, needed: u8, reading: &mu
     requires waits { AllOpen root.now.choices.reads root.now }
     requires follows { Entails (effects items.now) reading.now.start 0 root.now
         reading.now.node reading.now.alive }
-    requires finals { AreFinals (effects items.now) reading.now.node reading.now.finals }
     ensures follows { Entails (effects items.now) reading.new.start 0 root.now
         reading.new.node reading.new.alive }
-    ensures finals { AreFinals (effects items.now) reading.new.node reading.new.finals }
     ensures agree { (r : ℕ) → r < 8 → In needed r
         → slice_index reading.new.start r ≡ slice_index start.now r }
 {
@@ -89,9 +83,7 @@ fn add_from(
     reading: &Reading,
     found: &mut Found,
 ) -> Result<bool, AllocError>
-    requires node { IsTrue reading.now.alive
-        → IsNode (effects items.now) reading.now.start 0 reading.now.node }
-    requires finals { AreFinals (effects items.now) reading.now.node reading.now.finals }
+    requires { IsTrue reading.now.alive → IsNode (effects items.now) reading.now.start 0 reading.now.node }
     ensures adds { IfOk result (λ done. Adds done (members found.old.ends) (members found.new.ends)
         (EndsByReading (effects items.now) reading.now start.now)) }
     ensures cap { found.new.cap ≡ found.old.cap }
@@ -102,7 +94,7 @@ fn add_from(
     }
     let node = &reading.node;
     let mut end = *start;
-    let registers = put_known(&reading.finals, &mut end);
+    let registers = put_known(items, node, &mut end);
     add_last(
         items,
         &reading.start,

@@ -1,10 +1,8 @@
 //! The ends of a node's orders: one register after another, one of its writers is taken for the last.
-ghost use Rattle.std.specs.Prelude.{◌≡◌, ◌↔◌, ◌<◌, ◌≤◌, IsTrue, IsFalse, List, ℕ, slice_index, IfOk, IfSome, OnOk, length, true};
+ghost use Rattle.std.specs.Prelude.{◌≡◌, ◌↔◌, ◌<◌, ◌≤◌, IsTrue, IsFalse, ℕ, slice_index, IfOk, IfSome, IfNone, OnOk, length, true};
 ghost use Rattle.tmw_cuts.specs.Members.{members};
-ghost use Rattle.tmw_cuts.specs.declared.effect.Effect.{Effect};
-ghost use Rattle.tmw_search.specs.declared.node.Node.{Node};
 ghost use Rattle.tmw_search.specs.Chosen.{IsRead, Within};
-ghost use Rattle.tmw_search.specs.Last.{AreFinals, ComeBefore, IsEndOf, IsFinal, IsPutLast, LeftByOne, Adds};
+ghost use Rattle.tmw_search.specs.Last.{ComeBefore, IsEndOf, EndWith, IsPutLast, LeftByOne, Adds};
 ghost use Rattle.tmw_search.specs.Legal.{In, effects, left_at, ordered, IsNode};
 ghost use Rattle.tmw_defs.specs.Opaque.{State};
 ghost use Rattle.tmw_search.specs.Order.{Has, IsOrder, Narrows};
@@ -168,63 +166,40 @@ fn last_of(reach: &[u8; 8], writers: u8) -> Option<usize>
     None
 }
 
-/// What a register ends with in each legal order of a node, if that is known.
-#[derive(Clone, Copy)]
-pub enum Final {
-    /// It has no writer, and holds what it held.
-    Held,
-    /// Its last writer leaves this value.
-    Left(u64),
-    /// It has writers, and which comes last is open.
-    Several,
-}
-
-/// Returns what the register ends with.
+/// Returns what the register ends with in each legal order, if that is known: where it has no writer, what it held.
 #[inline(always)]
-fn final_of(items: &[Txn], node: &Node, register: usize) -> Final
+fn known_end(items: &[Txn], node: &Node, register: usize, held: u64) -> Option<u64>
     requires { register < 8 }
-    ensures { IsFinal (effects items.now) node.now register result }
+    ensures some { IfSome result (λ value. EndWith (effects items.now) node.now register held value) }
+    ensures none { IfNone result
+        ((k : ℕ) × (k < 8) × In (slice_index node.now.choices.writers register) k) }
 {
     let writers = node.choices.writers[register];
     if writers == 0 {
-        return Final::Held;
+        return Some(held);
     }
     match last_of(&node.reach, writers) {
-        Some(place) => Final::Left(left_at(items, place, register)),
-        None => Final::Several,
+        Some(place) => Some(left_at(items, place, register)),
+        None => None,
     }
-}
-
-/// Returns what each register ends with.
-pub fn finals_of(items: &[Txn], node: &Node) -> [Final; 8]
-    ensures { AreFinals (effects items.now) node.now result }
-{
-    let mut finals = [Final::Held; 8];
-    for r in 0..8usize {
-        finals[r] = final_of(items, node, r);
-    }
-    finals
 }
 
 /// Puts into the state what each register ends with of which that is known. Returns the other registers, as a mask.
-#[inline(always)]
-pub fn put_known(finals: &[Final; 8], end: &mut State) -> u8
-    ensures ends { (xs : List Effect) (node : Node) → AreFinals xs node finals.now
-        → (start : State) → IsNode xs start 0 node → (e : State)
-        → IsEndOf xs start node 255 end.old e ↔ IsEndOf xs start node result end.new e }
-    ensures written { (xs : List Effect) (node : Node) → AreFinals xs node finals.now
-        → (r : ℕ) → r < 8 → In result r
-        → (k : ℕ) × (k < 8) × In (slice_index node.choices.writers r) k }
+pub fn put_known(items: &[Txn], node: &Node, end: &mut State) -> u8
+    ensures ends { (start : State) → IsNode (effects items.now) start 0 node.now → (e : State)
+        → IsEndOf (effects items.now) start node.now 255 end.old e
+        ↔ IsEndOf (effects items.now) start node.now result end.new e }
+    ensures written { (r : ℕ) → r < 8 → In result r
+        → (k : ℕ) × (k < 8) × In (slice_index node.now.choices.writers r) k }
 {
     let mut registers = 255u8;
     for r in 0..8usize {
-        match finals[r] {
-            Final::Held => registers -= 1 << r,
-            Final::Left(value) => {
+        match known_end(items, node, r, end[r]) {
+            Some(value) => {
                 end[r] = value;
                 registers -= 1 << r;
             }
-            Final::Several => {}
+            None => {}
         }
     }
     registers

@@ -13,7 +13,6 @@ pub loop-index-init : goal.loop-index-init
 loop-index-init c = record {
   adds = adds-empty (λ e x. absurd (omega (arith, x.below)));
   cap = refl;
-  finals = c.reading_of-reading.ensures.finals;
   follows = c.reading_of-reading.ensures.follows;
 }
 
@@ -37,7 +36,6 @@ loop-index-preserved c =
             c.requires.reads c.needed_registers-needed.ensures w.read_from.ensures.agree w.read_from.ensures.follows
             (rw w.if-not-branch.false at w.in_ok-add_from.ensures.adds));
         cap = w.in_ok-add_from.ensures.cap ∙ c.loop-index.invariant.cap;
-        finals = w.read_from.ensures.finals;
         follows = w.read_from.ensures.follows;
       })
       | else-index-eq0+else-differ w ↦ rw (w.found-is, w.reading-is) (record {
@@ -47,7 +45,6 @@ loop-index-preserved c =
             (λ r few out. c.unwritten.ensures r few (λ has. out (or-right _ _ r has)))
             (w.differ.ensures w.if-differ.false) c.loop-index.invariant.adds;
         cap = c.loop-index.invariant.cap;
-        finals = c.loop-index.invariant.finals;
         follows = c.loop-index.invariant.follows;
       })
     ]

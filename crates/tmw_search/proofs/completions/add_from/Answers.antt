@@ -8,8 +8,5 @@ returns-then-not-reading-clause-adds c = adds-empty (λ e (lives, x). absurd (cc
 pub returns-clause-adds : goal.returns-clause-adds
 returns-clause-adds c =
     let lives : IsTrue c.args.reading.now.alive = cc in
-    let same = c.put_known-registers.ensures.ends _ _ c.requires.finals _ (c.requires.node lives) in
+    let same = c.put_known-registers.ensures.ends _ (c.requires lives) in
     IfOk-weaker c.add_last.result _ _ (λ done adds. adds-to (λ e x. (lives, (same e).1 x)) (λ all e (_, x). (same e).0 x) adds) c.add_last.ensures.adds
-
-pub add_last-requires-clause-written : goal.add_last-requires-clause-written
-add_last-requires-clause-written c = c.put_known-registers.ensures.written _ _ c.requires.finals

@@ -1,17 +1,17 @@
 use Rattle.tmw_search.proofs.Shared.{ap, arith, bit_at, bit_at-zero, effects, inl, inr, refl, slice_index, ℕ}
 use Rattle.tmw_search.proofs.Lasting.{some-place, writer-of, writes-in}
-use Rattle.tmw_search.proofs.last.final_of.Goals as goal
+use Rattle.tmw_search.proofs.last.known_end.Goals as goal
 
-pub returns-then-writers-eq0 : goal.returns-then-writers-eq0
-returns-then-writers-eq0 c = λ was start n held rank l. inl (
+pub returns-then-writers-eq0-clause-some : goal.returns-then-writers-eq0-clause-some
+returns-then-writers-eq0-clause-some c = λ start n held rank l. inl (
   λ k w.
       let is = writer-of (effects c.args.items.now) start c.args.node.now c.args.register k held rank c.requires n l w in
       absurd (omega (arith, is, ap (λ (m : ℕ). bit_at m k) c.if-writers-eq0.true, bit_at-zero k)),
   refl,
 )
 
-pub returns-in-Some : goal.returns-in-Some
-returns-in-Some c = λ was start n held rank l.
+pub returns-in-Some-clause-some : goal.returns-in-Some-clause-some
+returns-in-Some-clause-some c = λ start n held rank l.
     let (within, writes, last) = c.in-Some.ensures in
     let xs = effects c.args.items.now in
     inr (
@@ -24,5 +24,5 @@ returns-in-Some c = λ was start n held rank l.
       },
     )
 
-pub returns-in-None : goal.returns-in-None
-returns-in-None c = some-place (slice_index c.args.node.now.choices.writers c.args.register) (omega arith) c.if-writers-eq0.false
+pub returns-in-None-clause-none : goal.returns-in-None-clause-none
+returns-in-None-clause-none c = some-place (slice_index c.args.node.now.choices.writers c.args.register) (omega arith) c.if-writers-eq0.false
