@@ -330,6 +330,10 @@ expect_usage "error: the argument '--show' cannot be used multiple times" bench 
 expect_usage "error: unexpected argument '--show' found" drive --show
 expect_usage "error: unexpected argument '--rounds' found" drive --rounds 1
 expect_usage "error: unexpected argument '--trace' found" judge --trace
+expect_usage "error: the argument '--first' cannot be used multiple times" judge --first --first
+expect_usage "error: unexpected value '1' for '--first' found; no more were expected" judge --first=1
+expect_usage "error: unexpected argument '--first' found" show --first
+expect_usage "error: unexpected argument '--first' found" drive --first
 expect_usage "error: the argument '--summary' cannot be used multiple times" judge --summary --summary
 expect_usage "error: unexpected argument '--summary' found" show --summary
 expect_usage "error: unexpected argument 'further' found" judge further

@@ -8,7 +8,8 @@
 # call. Reads and writes move few bytes each, so that there are many. (`rt try --fail-alloc` refuses the same growths, but builds the
 # program anew for each run.) What a command line has to do:
 # - If a growth is refused, that one alone or all from it on, it writes the line of the fault `memory` alone, with status 4. The fault is
-#   `spawn` if the growth was for the start of a thread, or if the start failed.
+#   `spawn` if the growth was for the start of a thread, or if the start failed. If that one alone is refused, `show` may ask again for as
+#   much as it needs, and then writes what the plain run writes.
 # - If a read fails, it writes the line of the fault `io` alone, with status 4.
 # - If a write fails, it has written a beginning of what the plain run writes, and not all of it, with status 4.
 # - If a read or write is interrupted, or no call refused, it writes what the plain run writes, with its status.
@@ -69,7 +70,7 @@ is_right() {
     growth | growths)
         case " $starts " in
         *" $2 "*) has_left "$folder/spawn" 4 ;;
-        *) has_left "$folder/memory" 4 ;;
+        *) has_left "$folder/memory" 4 || { [ "$1 ${name%%,*}" = "growth show" ] && has_left "$folder/plain" "$plain_status"; } ;;
         esac
         ;;
     thread) has_left "$folder/spawn" 4 ;;

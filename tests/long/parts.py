@@ -71,7 +71,8 @@ def pieces(window):
 def with_readers(piece, window):
     """The piece and the calls, with their answers, that read a value which it puts into a register."""
     put = {left_by(call) for call in calls(window) if call[0] in piece}
-    return [*piece, *[event for call in calls(window) if (operation(call) or (None, None))[:2] in put for event in call]]
+    reads = [call for call in calls(window) if (done := operation(call)) and done[1] is not None and done[:2] in put]
+    return [*piece, *[event for call in reads for event in call]]
 
 
 def without(piece, events):

@@ -1,11 +1,5 @@
 -- Bounds and settings are known by their numbers.
-use Rattle.std.proofs.Common.{◌≡◌, ◌≤◌, ◌<◌, ◌^◌, ◌∙◌, ℕ, Option, Some, None, ap, refl, subst}
-use Rattle.std.proofs.Math.Bridge.{le_prop}
-use Rattle.std.specs.Prelude.{unwrap_or}
-use Rattle.tmw_bench.specs.declared.settings.Settings.{Settings}
-use Rattle.tmw_monitor.specs.declared.bounds.Bounds.{Bounds}
-use Rattle.tmw_args.specs.Counts.{Count}
-use Rattle.tmw_args.specs.Words.{◌>>=◌, bounds_of, settings_of}
+use Rattle.tmw_args.proofs.Shared.{ap, Bounds, bounds_of, Count, le_prop, None, Option, refl, Settings, settings_of, Some, subst, unwrap_or, ℕ, ◌<◌, ◌>>=◌, ◌^◌, ◌∙◌, ◌≡◌, ◌≤◌}
 use Rattle.tmw_args.proofs.Counting.{number_of}
 
 bounds-are : (bounds : Bounds) (window : Count 1 8) (states : Count 1 64) → bounds.window ≡ window.number → bounds.states ≡ states.number

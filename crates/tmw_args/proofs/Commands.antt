@@ -1,10 +1,5 @@
 -- A program with one more command.
-use Rattle.std.proofs.Common.{◌≡◌, ◌∙◌, Result, Ok, Err, true, ap, ap₂}
-use Rattle.std.specs.Prelude.{IfOk, IsOkAnd}
-use Rattle.std.specs.declared.alloc.AllocError.{AllocError}
-use Rattle.clap.specs.Words.{AddsSubcommand, App, Shape, app_of, with_subcommand}
-use Rattle.clap.specs.declared.builder.command.Command.{Command}
-use Rattle.clap.proofs.SimpleLemmas.{plain_fields}
+use Rattle.tmw_args.proofs.Shared.{AddsSubcommand, AllocError, ap, App, app_of, ap₂, Command, Err, IfOk, IsOkAnd, Ok, plain_fields, Result, Shape, true, with_subcommand, ◌∙◌, ◌≡◌}
 
 -- a command that is plain is added as it stands
 pub app_of-added : (program command given : Command) (before : App) (top : Shape) → app_of program ≡ before → (app_of command).top ≡ top

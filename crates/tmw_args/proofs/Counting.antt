@@ -1,15 +1,5 @@
 -- The number of an option is read from its text.
-use Rattle.std.proofs.Common.{◌≡◌, ◌∙◌, ℕ, Bool, true, false, Option, Some, None, ap, refl, sym}
-use Rattle.std.specs.Prelude.{option_and_then, option_map}
-use Rattle.std.specs.Str.Parse.{digits_value, without_leading_plus}
-use Rattle.clap.specs.Values.{Accepts}
-use Rattle.clap.specs.Words.{Text, one_text, rows_of}
-use Rattle.clap.specs.declared.parser.matches.Found.{Found}
-use Rattle.clap.specs.declared.builder.value_parser.ValueParser.TheVariants.{Unsigned}
-use Rattle.clap.proofs.ValueTestLemmas.{Accepts-accepts, accepts-Accepts}
-use Rattle.clap.proofs.WalkLemmas.{one_text-rows}
-use Rattle.tmw_args.specs.Counts.{Count, counted, made_if}
-use Rattle.tmw_args.specs.Words.{count_in}
+use Rattle.tmw_args.proofs.Shared.{Accepts, Accepts-accepts, accepts-Accepts, ap, Bool, Count, count_in, counted, digits_value, false, Found, made_if, None, one_text, one_text-rows, Option, option_and_then, option_map, refl, rows_of, Some, sym, Text, true, Unsigned, without_leading_plus, ℕ, ◌∙◌, ◌≡◌}
 
 abbrev pub number_of : {least most : ℕ} → Option (Count least most) → Option ℕ
 number_of = option_map (λ count. count.number)

@@ -1,16 +1,7 @@
 -- A flag is read from its text.
-use Rattle.std.proofs.Common.{◌≡◌, ◌∙◌, Bool, true, false, Option, Some, None, [], ◌∷◌, ap, sym, refl}
-use Rattle.std.specs.Prelude.{◌≢◌, codes, option_and_then}
-use Rattle.std.specs.Str.{bytes_eq}
-use Rattle.std.specs.Str.Parse.{ParsesBool, false_text, true_text}
-use Rattle.std.proofs.lemmas.Slice.Eq.{bytes_eq-Decides}
-use Rattle.clap.specs.Matches.{ReadsOne, one_text}
-use Rattle.clap.specs.Values.{bool_text}
-use Rattle.clap.specs.Words.{Text, rows_of}
-use Rattle.clap.specs.declared.parser.matches.Found.{Found}
-use Rattle.clap.proofs.WalkLemmas.{one_text-rows}
-use Rattle.tmw_args.specs.Names.{named}
-use Rattle.tmw_args.specs.Words.{flag_in}
+use Rattle.tmw_args.proofs.Shared.{[], ap, Bool, bool_text, bytes_eq, bytes_eq-Decides, false, false_text, flag_in, Found, named, None, one_text-rows, Option, option_and_then, ParsesBool, ReadsOne, refl, rows_of, Some, sym, Text, true, true_text, ◌∙◌, ◌∷◌, ◌≡◌, ◌≢◌}
+use Rattle.std.specs.Prelude.{codes}
+use Rattle.clap.specs.Matches.{one_text}
 
 abbrev flag_named : Text → Option Bool
 flag_named = named bool_text (true ∷ false ∷ [])

@@ -1,9 +1,6 @@
 -- The words with `help` moved behind them, as the code moves it.
-use Rattle.std.proofs.Common.{◌≡◌, ◌<◌, ◌∙◌, true, false, List, [], ◌∷◌, ◌++◌, length, codes, refl, ap, arith}
-use Rattle.std.specs.Borrow.{Bor}
-use Rattle.std.specs.List.{remove}
-use Rattle.clap.specs.Walk.{Text, texts}
-use Rattle.tmw_args.specs.Words.{help_as_flag, names_help}
+use Rattle.tmw_args.proofs.Shared.{[], ap, arith, Bor, codes, false, help_as_flag, length, List, names_help, refl, remove, texts, true, ◌++◌, ◌<◌, ◌∙◌, ◌∷◌, ◌≡◌}
+use Rattle.clap.specs.Walk.{Text}
 
 -- where `help` is named, there is a second word
 pub names_help-second : (words : List (Bor Text)) → names_help (texts words) ≡ true → 1 < length words

@@ -1,10 +1,9 @@
 mod Bounding
 mod Commands
 mod Counting
-mod EachName
-mod HelpWords
 mod Flags
+mod HelpWords
 mod Refusals
 mod Sample
+mod Shared
 mod Simple
-mod WrittenOut

@@ -1,12 +1,5 @@
 -- A refusal is a reading of the words of which the parse failed.
-use Rattle.std.proofs.Common.{◌≡◌, ◌∙◌, List, Err, inl, inr, subst, sym}
-use Rattle.clap.specs.Words.{App, IsAmong, Text}
-use Rattle.clap.specs.declared.error.kind.ErrorKind.{ErrorKind}
-use Rattle.clap.specs.declared.error.kind.ErrorKind.TheVariants.{ArgumentConflict, DisplayHelp, DisplayVersion, OutOfMemory}
-use Rattle.tmw_args.specs.Words.{kinds_of}
-use Rattle.tmw_args.specs.Reading.{FailsAs, IsRefusal, Reads}
-use Rattle.tmw_args.specs.declared.refusal.Refusal.{Refusal}
-use Rattle.tmw_args.specs.declared.refusal.Refusal.TheVariants.{Help, Version, Usage, Memory}
+use Rattle.tmw_args.proofs.Shared.{App, ArgumentConflict, DisplayHelp, DisplayVersion, Err, ErrorKind, FailsAs, Help, inl, inr, IsAmong, IsRefusal, kinds_of, List, Memory, OutOfMemory, Reads, Refusal, subst, sym, Text, Usage, Version, ◌∙◌, ◌≡◌}
 
 pub refused-reads : (program : App) (words : List Text) (kind : ErrorKind) (refusal : Refusal) → FailsAs program words kind
     → IsRefusal kind refusal → Reads program words (Err refusal)

@@ -1,13 +1,5 @@
 -- A program whose names stand at the address 0: there is one.
-use Rattle.std.proofs.Common.{◌≡◌, List, Result, Ok, Err, inl, map, refl}
-use Rattle.std.specs.Prelude.{IfErr, IsErrAnd}
-use Rattle.std.specs.Borrow.{Bor}
-use Rattle.clap.specs.Words.{App, Text, kind_of}
-use Rattle.clap.specs.declared.error.Error.{Error}
-use Rattle.clap.specs.declared.error.kind.ErrorKind.TheVariants.{OutOfMemory}
-use Rattle.clap.specs.declared.builder.value_parser.ValueParser.TheVariants.{Names}
-use Rattle.tmw_args.specs.Program.{IsProgram, criteria_names, memory_names, program_among, shown_names}
-use Rattle.tmw_args.specs.Reading.{FailsAs}
+use Rattle.tmw_args.proofs.Shared.{App, Bor, criteria_names, Err, Error, FailsAs, IfErr, inl, IsErrAnd, IsProgram, kind_of, List, map, memory_names, Names, Ok, OutOfMemory, program_among, refl, Result, shown_names, Text, ◌≡◌}
 
 abbrev lent : {X : Type 0} → X → Bor X
 lent value = record { ref_ptr = (0, 0); now = value }

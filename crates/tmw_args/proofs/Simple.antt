@@ -1,12 +1,7 @@
 -- Whatever the addresses of its names are, the program is a simple command, of which the parser says what it finds.
-use Rattle.std.proofs.Common.{◌≡◌, ◌∙◌, true, refl, ap}
-use Rattle.clap.specs.Faults.{is_free_app, is_simple_and_free}
-use Rattle.clap.specs.Simple.{App, built, is_simple}
-use Rattle.clap.specs.declared.builder.value_parser.ValueParser.{ValueParser}
-use Rattle.clap.specs.declared.builder.value_parser.ValueParser.TheVariants.{Names}
 use Rattle.clap.proofs.OnLiterals.{clap_on_literals}
-use Rattle.clap.proofs.WalkLemmas.{both}
-use Rattle.tmw_args.specs.Program.{IsProgram, program_among}
+use Rattle.tmw_args.proofs.Shared.{ap, both, built, is_free_app, is_simple, is_simple_and_free, IsProgram, Names, program_among, refl, true, ValueParser, ◌∙◌, ◌≡◌}
+use Rattle.clap.specs.Simple.{App}
 
 free_among : (criteria shown memories : ValueParser) → is_simple_and_free (program_among criteria shown memories) ≡ true
 unfolding clap_on_literals

@@ -106,7 +106,8 @@ has the events shown, and nothing else. With --page it writes one page of HTML
 that draws the window, for a browser; it needs no network.
 
 With --from N events are numbered in the whole run, of which N come before the
-trace, but for the first line. The bench in C writes this N in FILE.run.
+trace; the report line and standard error count from 1. The bench in C writes
+this N in FILE.run.
 
 Exit status: 0 opaque (or strict) so far, 1 violated, 2 undecided, 3 malformed,
 4 for a fault, which one line on standard output names.

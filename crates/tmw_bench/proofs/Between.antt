@@ -1,6 +1,6 @@
 -- A worker, from one round to the next, and to its end.
-use Rattle.tmw_bench.proofs.Shared.{Answer, Call, Consumer, Ended, HasMet, HasPlayedLast, HasPlayedOn, HasSeen, HasWorked, IsBetween, Kind, List, None, Option, Producer, Refused, RingIs, SameConsumer, SameProducer, Worker, WriterIs, WriterOf, [], ap, arith, length, length_push, received, refl, sent, subst, sym, ℕ, ◌++◌, ◌+◌, ◌∙◌, ◌∷◌, ◌≡◌, ◌≤◌}
-use Rattle.tmw_bench.proofs.PlayedRounds.{ready-new, ready-met, played_last-worked}
+use Rattle.tmw_bench.proofs.Shared.{Answer, Call, Consumer, Ended, HasMet, HasPlayedLast, HasPlayedOn, HasSeen, HasWorked, IsBetween, Kind, List, None, Option, Producer, Refused, RingIs, SameConsumer, SameProducer, Worker, WriterIs, WriterOf, [], ap, arith, length, length_push, received, sent, subst, sym, ℕ, ◌++◌, ◌+◌, ◌∙◌, ◌∷◌, ◌≡◌, ◌≤◌}
+use Rattle.tmw_bench.proofs.PlayedRounds.{ready-met, played_last-worked}
 use Rattle.tmw_ring.specs.Meeting.{FindsTail}
 
 module _ {T A P : Type 0} where
@@ -18,60 +18,16 @@ module _ {T A P : Type 0} where
 
 -- a writer that has found a tail has met there
 met-found : (tail : ℕ) (old new : WriterIs) → FindsTail tail old new → HasMet tail old new
-met-found tail old new found =
-    let is = found.counted in
-    let low = found.meets.reached in
-    let high = found.meets.seen in
-    record {
-      table = found.meets.table;
-      sized = found.meets.size;
-      number = found.meets.number;
-      made = found.meets.made;
-      reached = omega (arith, is, low);
-      seen = omega (arith, is, high);
-    }
+met-found tail old new found = grind arith
 
 -- and one that has then been told of a bound behind it, and has seen it, has met at the bound
 met-told : (tail bound : ℕ) (old found new : WriterIs) → FindsTail tail old found → tail ≤ bound → HasSeen bound found new → HasMet bound old new
-met-told tail bound old found new finds behind seen =
-    let met = met-found tail old found finds in
-    let low = met.reached in
-    record {
-      table = seen.same.table ∙ met.table;
-      sized = seen.same.sized ∙ met.sized;
-      number = seen.same.number ∙ met.number;
-      made = seen.same.made ∙ met.made;
-      reached = omega (arith, low, behind);
-      seen = seen.reached;
-    }
+met-told tail bound old found new finds behind seen = grind arith
 
 -- what was claimed stays so where a writer meets that was not stopped
 last-met : (gives : Call → Answer → Type 0) (script : List (List Kind)) (bounds : List ℕ) (tail : ℕ) (old new : WriterIs)
     → HasPlayedLast gives script bounds old.made None old → HasMet tail old new → HasPlayedLast gives script bounds new.made None new
-last-met gives script bounds tail old new last met = record {
-  old = last.old;
-  fresh = last.fresh;
-  split = met.made ∙ last.split;
-  played = last.played;
-  later = last.later;
-  earlier = λ place fallback low. omega (arith, last.earlier place fallback low, met.reached, met.seen);
-  seen = omega (arith, last.seen, met.reached, met.seen);
-  found = last.found;
-  stands = last.stands;
-  ended = last.ended;
-}
-
--- a new worker
-pub between-new : (gives : Call → Answer → Type 0) (ring : RingIs) (script : List (List Kind)) (worker : Worker) → WriterOf ring worker.writer
-    → worker.writer.made ≡ [] → received worker.down ≡ [] → sent worker.up ≡ [] → IsBetween gives ring script worker worker
-between-new gives ring script worker of_ring new none_told none_sent = record {
-  of_ring = of_ring;
-  same = record { number = refl; up = ((refl, refl, refl, refl), refl); down = ((refl, refl, refl, refl), refl) };
-  bounds = [];
-  told = none_told;
-  counted = ap (λ (l : List Ended). length l) none_sent;
-  ready = ready-new gives script worker.writer new;
-}
+last-met gives script bounds tail old new last met = grind arith
 
 module _ (gives : Call → Answer → Type 0) (ring : RingIs) (script : List (List Kind)) (first old new : Worker) (was : IsBetween gives ring script first old) where
   -- It was stopped in a round, and has told of it.

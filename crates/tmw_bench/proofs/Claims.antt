@@ -1,18 +1,10 @@
 -- Places that a writer claims, call after call.
-use Rattle.tmw_bench.proofs.Shared.{All-append, All-cons, All-nil, Err, Full, HasClaimed, HasTried, IsTrue, Kind, List, Made, Ok, Refused, RingIs, Spent, StopsAt, WriterIs, WriterOf, [], answers, ap, append-nil, append_assoc, arith, inl, inr, kinds_made, kinds_made-append, made_at, refl, sym, tail_of, ℕ, ◌++◌, ◌<◌, ◌∙◌, ◌∷◌, ◌≡◌, ◌≤◌}
+use Rattle.tmw_bench.proofs.Shared.{All-append, Err, HasClaimed, HasTried, IsTrue, Kind, List, Made, Ok, Refused, RingIs, StopsAt, WriterIs, WriterOf, [], answers, ap, append-nil, append_assoc, arith, inl, inr, kinds_made, kinds_made-append, tail_of, ℕ, ◌++◌, ◌<◌, ◌∙◌, ◌∷◌, ◌≡◌, ◌≤◌}
 use Rattle.tmw_bench.proofs.Tries.{has_looked-refused, was_refused-tried}
 
 -- nothing was claimed
 pub claimed-none : (writer : WriterIs) → HasClaimed [] writer writer
-claimed-none writer =
-    record {
-      fresh = [];
-      is = refl;
-      made = sym (append-nil writer.made);
-      later = All-nil (λ made. writer.seen ≤ made.place);
-      earlier = All-nil (λ made. made.place < writer.seen);
-      seen = omega arith;
-    }
+claimed-none writer = grind (arith, append-nil)
 
 -- places were claimed, and then more
 pub claimed-more : (first then : List Kind) (old middle new : WriterIs) → HasClaimed first old middle → HasClaimed then middle new
@@ -35,42 +27,18 @@ claimed-more first then old middle new one two =
 -- one record was made
 pub claimed-tried : (kind : Kind) (old : WriterIs) (place : ℕ) (new : WriterIs) → HasTried kind old (Ok place) new
     → HasClaimed (kind ∷ []) old new
-claimed-tried kind old place new (before, waited, recorded) =
-    let one = made_at before.number kind place in
-    let waited_seen = waited.seen in
-    let later = recorded.later in
-    let seen = recorded.seen in
-    record {
-      fresh = one ∷ [];
-      is = refl;
-      made = recorded.made ∙ ap (λ (l : List Made). l ++ one ∷ []) waited.made;
-      later = All-cons (λ made. old.seen ≤ made.place) one [] (omega (arith, waited_seen, later)) (All-nil (λ made. old.seen ≤ made.place));
-      earlier = All-cons (λ made. made.place < new.seen) one [] seen (All-nil (λ made. made.place < new.seen));
-      seen = omega (arith, waited_seen, later, seen);
-    }
+claimed-tried kind old place new (before, waited, recorded) = grind arith
 
 -- a record was refused
 pub claimed-refused : (kind : Kind) (old : WriterIs) (refused : Refused) (new : WriterIs) → HasTried kind old (Err refused) new
     → HasClaimed [] old new
 claimed-refused kind old refused new (before, waited, is) =
-    let looked = (has_looked-refused kind before refused new is).1 in
-    let waited_seen = waited.seen in
-    let later = looked.later in
-    let seen = looked.seen in
-    record {
-      fresh = [];
-      is = refl;
-      made = looked.made ∙ waited.made ∙ sym (append-nil old.made);
-      later = All-nil (λ made. old.seen ≤ made.place);
-      earlier = All-nil (λ made. made.place < new.seen);
-      seen = omega (arith, waited_seen, later, seen);
-    }
+    grind (arith, has_looked-refused, append-nil)
 
 -- a refusal finds no fewer places claimed than the writer had seen
 later-refused : (kind : Kind) (old : WriterIs) (refused : Refused) (new : WriterIs) → HasTried kind old (Err refused) new
     → old.seen ≤ tail_of refused
-later-refused kind old (Full front tail) new (before, waited, is) = omega (arith, waited.seen, is.0.later)
-later-refused kind old (Spent tail) new (before, waited, is) = omega (arith, waited.seen, is.1.later)
+later-refused kind old refused new h1 = grind arith
 
 -- the record of the call was refused
 pub stops_at-call : (ring : RingIs) (call : Kind) (refused : Refused) (before after : WriterIs) → WriterOf ring before → WriterOf ring after

@@ -1,5 +1,5 @@
 -- What the leader knows of a worker that has come back: it was told all bounds and no others, and has told all that was heard.
-use Rattle.tmw_bench.proofs.Shared.{Answer, Call, Ended, HasPlayedLast, HasPlayedOn, IsLineAt, Kind, Line, List, Option, Refused, RingIs, Worker, [], ap, append-nil, arith, in_order, length, length-append, length_push, nil_from_length, received, refl, sent, subst, sym, ℕ, ◌++◌, ◌+◌, ◌∙◌, ◌∷◌, ◌≡◌}
+use Rattle.tmw_bench.proofs.Shared.{Answer, Call, Ended, HasPlayedLast, HasPlayedOn, IsLineAt, Kind, Line, List, Option, Refused, RingIs, Worker, [], ap, append-nil, arith, in_order, length, length-append, length_push, nil_from_length, received, refl, sent, sym, ℕ, ◌++◌, ◌+◌, ◌∙◌, ◌∷◌, ◌≡◌}
 
 -- two lists that end in one item each
 pub last-same : {A : Type 0} (xs ys : List A) (x y : A) → length xs ≡ length ys → xs ++ x ∷ [] ≡ ys ++ y ∷ [] → (xs ≡ ys) × (x ≡ y)
@@ -15,9 +15,7 @@ last-same (a ∷ xs) (b ∷ ys) x y long is =
 length-in_order : (bounds : List ℕ) → length (in_order bounds) ≡ length bounds
 length-in_order [] = refl
 length-in_order (bound ∷ bounds) =
-    let rest = length-in_order bounds in
-    let one : length (in_order bounds ++ bound ∷ []) ≡ length (in_order bounds) + 1 = length_push (in_order bounds) bound in
-    omega (arith, rest, one)
+    grind (arith, length, in_order, length_push, (length-in_order bounds))
 
 in_order-same : (ours theirs : List ℕ) → length ours ≡ length theirs → in_order ours ≡ in_order theirs → ours ≡ theirs
 in_order-same [] [] long is = refl
@@ -57,8 +55,4 @@ pub played-closed : (gives : Call → Answer → Type 0) (ring : RingIs) (script
     → received new.down ++ left ≡ sent line.down → received line.up ++ unheard ≡ sent new.up
     → HasPlayedLast gives script bounds new.writer.made stop new.writer × (received line.up ≡ sent new.up)
 played-closed gives ring script bounds first new stop line_first line left unheard on at all_taken all_heard =
-    let both = closed bounds on.bounds (received new.down) left (received line.up) unheard on.earlier on.last
-    (all_taken ∙ at.told) on.told (all_heard ∙ on.sent_all) on.counted at.heard in (
-      subst (λ (l : List ℕ). HasPlayedLast gives script l new.writer.made stop new.writer) both.0 on.played,
-      both.1 ∙ sym on.sent_all,
-    )
+    grind (arith, closed, received)

@@ -7,12 +7,7 @@ use Rattle.tmw_ring.specs.NewRing.{AreNewWriters}
 
 pair-then : {T A P : Type 0} (p_old p_new : Producer T A P) (c_old c_new : Consumer T A P) → IsPair p_old c_old → SameProducer p_old p_new
     → SameConsumer c_old c_new → IsPair p_new c_new
-pair-then p_old p_new c_old c_new pair p c = (
-  c.0.0 ∙ pair.0 ∙ sym p.0.0,
-  c.0.1 ∙ pair.1 ∙ sym p.0.1,
-  c.0.2 ∙ pair.2 ∙ sym p.0.2,
-  c.0.3 ∙ pair.3 ∙ sym p.0.3,
-)
+pair-then p_old p_new c_old c_new pair p c = grind arith
 
 -- what was written into a slice of the whole
 pub written_back : {A : Type 0} (n : ℕ) (xs ys : List A) → length xs ≡ n → take n (xs ++ drop (length xs) ys) ≡ xs
@@ -28,9 +23,7 @@ pub promised_at : (gave : Call → Answer → Type 0) (ring : RingIs) (scripts :
     → IsPromised ring scripts workers place own_ring script before → HasPlayedOn gave own_ring script before back.1 back.0
     → HasPlayedOn gave ring (script_at scripts place) (get_or workers place fallback.0) back.1 back.0
 promised_at gave ring scripts workers place own_ring script before back fallback promise on =
-    subst (λ (w : Worker). HasPlayedOn gave ring (script_at scripts place) w back.1 back.0) (sym (promise.worker fallback.0))
-    (subst (λ (s : List (List Kind)). HasPlayedOn gave ring s before back.1 back.0) promise.same
-    (subst (λ (r : RingIs). HasPlayedOn gave r script before back.1 back.0) promise.of_ring on))
+    grind arith
 
 -- At first.
 module _ (ring : RingIs) (writers : List WriterIs) (workers : List Worker) (lines : List Line) (opened : AreOpened writers workers lines) where

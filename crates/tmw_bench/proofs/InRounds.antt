@@ -1,5 +1,5 @@
 -- From a settled ring, whose writers have claimed whole rounds and a last one, to the log of these rounds.
-use Rattle.tmw_bench.proofs.Shared.{All, All-drop, All-take, AllOpaque, AllStand, Answer, AreEndings, Call, Ending, EndsRound, EndsWork, Event, FindsFrom, Full, HasPlayed, HasPlayedLast, HaveAllPlayedLast, IsInRounds, IsLogOfAll, IsSettled, Kind, List, None, Option, ReaderIs, Refused, Rules, Some, Spent, WriterIs, [], ap, arith, cases_lt, drop, ending_of, get_or, inl, inr, kinds_of, last_bound, length, length-take-le, made_from, no_kinds, script_at, subst, sym, take, take-append-drop, true, ℕ, ◌++◌, ◌<◌, ◌∙◌, ◌∷◌, ◌≡◌, ◌≤◌}
+use Rattle.tmw_bench.proofs.Shared.{All-drop, All-take, AllOpaque, AllStand, Answer, AreEndings, Call, Ending, EndsRound, EndsWork, Event, FindsFrom, HasPlayed, HasPlayedLast, HaveAllPlayedLast, IsInRounds, IsLogOfAll, IsSettled, Kind, List, None, Option, ReaderIs, Refused, Rules, WriterIs, arith, cases_lt, drop, ending_of, get_or, inl, inr, kinds_of, last_bound, length, length-take-le, made_from, no_kinds, script_at, subst, sym, take, take-append-drop, true, ℕ, ◌++◌, ◌<◌, ◌∙◌, ◌≡◌, ◌≤◌, rules}
 use Rattle.tmw_bench.proofs.Cutting.{cutting}
 use Rattle.tmw_bench.proofs.OpaqueRounds.{all_opaque-take, last_bound-within}
 use Rattle.tmw_bench.proofs.PlayedRounds.{earlier_played}
@@ -8,27 +8,13 @@ use Rattle.tmw_bench.proofs.WholeRounds.{are_whole_rounds}
 -- the log of a settled ring
 pub log_of_all-settled : (scripts : List (List (List Kind))) (reader : ReaderIs) (writers : List WriterIs) (left log : List Event)
     → length writers ≡ length scripts → IsSettled reader writers left → log ≡ reader.taken ++ left → IsLogOfAll scripts log writers
-log_of_all-settled scripts reader writers left log counted settled whole =
-    let is : settled.log ≡ log = settled.rest ∙ sym whole in
-    record {
-      own = subst (All (λ (event : Event). event.thread.number < length scripts)) is
-          (subst (λ (n : ℕ). All (λ (event : Event). event.thread.number < n) settled.log) counted settled.own);
-      made = λ thread fallback low.
-          settled.made thread fallback (subst (λ (n : ℕ). thread < n) (sym counted) low) ∙ ap (made_from thread 0) is;
-      seen = λ thread fallback low.
-          subst (λ (l : List Event). (get_or writers thread fallback).seen ≤ length l) is
-          (settled.seen thread fallback (subst (λ (n : ℕ). thread < n) (sym counted) low));
-    }
+log_of_all-settled scripts reader writers left log counted settled whole = grind arith
 
 -- how the thread has ended, where its writer has seen no further than the log is long
 ends_round : (script : List (List Kind)) (kinds : List Kind) (stop : Option Refused) (writer : WriterIs) (start places : ℕ)
     → EndsWork script kinds stop writer → FindsFrom start stop → writer.seen ≤ places
     → EndsRound script kinds start places (ending_of stop) writer
-ends_round script kinds None writer start places ended found seen = ended
-ends_round script kinds (Some (Full front tail)) writer start places ended found seen =
-    (ended, found, omega (arith, seen, ended.refusal.refusal.0.seen))
-ends_round script kinds (Some (Spent tail)) writer start places ended found seen =
-    (ended, found, omega (arith, seen, ended.refusal.refusal.1.seen))
+ends_round script kinds stop writer start places ended found seen = grind arith
 
 -- What a thread has done in a log whose last round begins at this length, whether it ended there or not.
 record LastAt (gives : Call → Answer → Type 0) (script : List (List Kind)) (bounds : List ℕ) (thread : ℕ) (log : List Event) (stop : Option Refused) (writer : WriterIs) : Type 0 where
@@ -51,8 +37,7 @@ last_at gives script bounds thread log stop writer within made last =
     }
 
 pub some_writer : (writers : List WriterIs) (place : ℕ) → place < length writers → WriterIs
-some_writer [] place low = absurd (omega (arith, low))
-some_writer (writer ∷ writers) place low = writer
+some_writer writers place low = grind arith
 
 -- the log, in rounds
 pub in_rounds : (rules : Rules) (gives : Call → Answer → Type 0) (scripts : List (List (List Kind))) (bounds : List ℕ) (log : List Event)

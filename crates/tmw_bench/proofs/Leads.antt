@@ -1,5 +1,5 @@
 -- What the leader has heard and told, from one worker to the next.
-use Rattle.tmw_bench.proofs.Shared.{AllOpaque, AreNewLines, Ended, Event, Fits, Front, HasGoneOn, HasHeard, HasJudged, HasLedTo, HasToldStop, HaveHeardUpTo, HaveToldUpTo, IsVerdict, Line, List, None, OpaqueSoFar, Option, Refused, Rules, SameConsumer, SameProducer, Some, SomeToldStop, [], ap, append_assoc, arith, cases_lt, get_or, get_or-set_other, get_or-set_same, inl, inr, judged-none, length, length-append, length-set, length_push, received, refl, sent, set, subst, sym, ℕ, ◌++◌, ◌+◌, ◌<◌, ◌∙◌, ◌∷◌, ◌≡◌, ◌≢◌}
+use Rattle.tmw_bench.proofs.Shared.{AllOpaque, AreNewLines, Ended, Fits, Front, HasGoneOn, HasHeard, HasJudged, HasLedTo, HasToldStop, HaveHeardUpTo, HaveToldUpTo, IsVerdict, Line, List, OpaqueSoFar, Option, Refused, Rules, SameConsumer, SameProducer, Some, SomeToldStop, [], ap, append_assoc, arith, cases_lt, get_or, get_or-set_other, get_or-set_same, inl, inr, judged-none, length, length-append, length-set, length_push, received, sent, set, subst, sym, ℕ, ◌++◌, ◌+◌, ◌<◌, ◌∙◌, ◌∷◌, ◌≡◌, ◌≢◌, rules}
 use Rattle.std.specs.Option.{IsSome}
 use Rattle.std.proofs.Math.Nat.{ne_of_lt}
 use Rattle.tmw_bench.proofs.OpaqueRounds.{all_opaque-append, all_opaque-round}
@@ -9,12 +9,7 @@ use Rattle.tmw_pump.specs.declared.pump.Pump.{Pump}
 
 -- The pump goes on.
 judged-then : (one two : ℕ) (old mid new : Front) → HasJudged one old mid → HasJudged two mid new → HasJudged (one + two) old new
-judged-then one two old mid new first second = record {
-  more = first.more ++ second.more;
-  counted = length-append first.more second.more ∙ ap (λ (n : ℕ). n + length second.more) first.counted ∙ ap (λ (n : ℕ). one + n) second.counted;
-  judged = second.judged ∙ ap (λ (l : List Event). l ++ second.more) first.judged ∙ append_assoc old.judged.items first.more second.more;
-  fits = λ rules was. second.fits rules (first.fits rules was);
-}
+judged-then one two old mid new first second = grind (arith, length-append, length, append_assoc)
 
 module _ {K N : Type 0} {G : Ghosts K N} where
   pub gone_on-none : (pump : Pump K N G) → HasGoneOn pump pump
@@ -28,8 +23,7 @@ module _ {K N : Type 0} {G : Ghosts K N} where
   }
 
 some_of : (stop : Option Refused) → IsSome stop → (refused : Refused) × (stop ≡ Some refused)
-some_of None is = absurd (grind (arith, is))
-some_of (Some refused) is = (refused, refl)
+some_of stop is = grind arith
 
 module _ (old now : List Line) (count : ℕ) (item next : Line) (ended : Ended) (low : count < length now)
     (is : (fallback : Line) → get_or now count fallback ≡ item) (heard : HasHeard ended item next) where
@@ -133,14 +127,4 @@ led-told rules bounds bound first old new front led is verdict told = record {
 -- at first
 pub led-new : (rules : Rules) (lines : List Line) (front : Front) → AreNewLines lines → front.judged.items ≡ [] → Fits rules [] front.monitor
     → HasLedTo rules 0 [] front lines lines
-led-new rules lines front new none fits = record {
-  line_count = refl;
-  lines = λ place fallback low. record {
-    up = ((refl, refl, refl, refl), refl);
-    down = ((refl, refl, refl, refl), refl);
-    told = (new place fallback low).1;
-    heard = ap (λ (l : List Ended). length l) (new place fallback low).0;
-  };
-  fits = subst (λ (l : List Event). Fits rules l front.monitor) (sym none) fits;
-  opaque = tt;
-}
+led-new rules lines front new none fits = grind arith

@@ -1,5 +1,5 @@
 -- The calls that a script has left become fewer with each answer.
-use Rattle.tmw_bench.proofs.Shared.{GoesOn, Kind, List, Player, Some, [], ap, arith, cases_Bool, ends, inl, inr, left_of, left_of-goes_on, length, next_left, next_of, next_of-some, ℕ, ◌+◌, ◌<◌, ◌∷◌, ◌≡◌}
+use Rattle.tmw_bench.proofs.Shared.{GoesOn, Kind, List, Player, Some, [], ap, arith, left_of, left_of-goes_on, length, next_left, next_of, next_of-some, ℕ, ◌+◌, ◌<◌, ◌∷◌, ◌≡◌}
 
 abbrev pub calls_left : List (List Kind) → ℕ
 calls_left [] = 0
@@ -7,11 +7,7 @@ calls_left (calls ∷ later) = length calls + calls_left later
 
 calls_left-next_left : (call answer : Kind) (calls : List Kind) (later : List (List Kind))
     → calls_left (next_left answer ((call ∷ calls) ∷ later)) < calls_left ((call ∷ calls) ∷ later)
-calls_left-next_left call answer calls later =
-    elim (cases_Bool (ends answer)) [
-      | inl over ↦ rw over (omega arith)
-      | inr on ↦ rw on (omega arith)
-    ]
+calls_left-next_left call answer calls later = grind arith
 
 pub calls_left-goes_on : (script : List (List Kind)) (old new : Player) (call answer : Kind) → next_of (left_of script old) ≡ Some call
     → GoesOn answer old new → calls_left (left_of script new) < calls_left (left_of script old)

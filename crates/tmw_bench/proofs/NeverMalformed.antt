@@ -1,8 +1,8 @@
 -- A log of rounds is never malformed: each thread's events begin a run of its script, repeated.
-use Rattle.tmw_bench.proofs.Shared.{All, Answer, AreWholeRounds, Call, Ending, EndsRound, Event, Headline, IsBeginning, IsFirst, IsInRounds, IsMalformed, IsTrue, IsWholeRun, Kind, List, Malformed, Rules, Verdict, WriterIs, [], ap, append-nil, append_assoc, are_transactions, both_ways, cases_lt, get_or, get_or_past, inl, inr, is_well_formed, kinds_of, kinds_of-append, length, no_kinds, refl, script_at, subst, suc, sym, take, whole_run-append, zero, ℕ, ◌<◌, ◌∙◌, ◌∷◌, ◌≡◌, ◌≢◌}
+use Rattle.tmw_bench.proofs.Shared.{All, Answer, AreWholeRounds, Call, Ending, EndsRound, Event, Headline, IsBeginning, IsFirst, IsInRounds, IsMalformed, IsTrue, IsWholeRun, Kind, List, Malformed, Rules, Verdict, WriterIs, [], ap, append-nil, append_assoc, are_transactions, both_ways, cases_lt, get_or, get_or_past, inl, inr, is_well_formed, kinds_of, kinds_of-append, length, no_kinds, refl, script_at, subst, suc, sym, take, whole_run-append, zero, ℕ, ◌<◌, ◌∙◌, ◌≡◌, ◌≢◌, arith, rules}
 use Rattle.tmw_bench.proofs.InRounds.{some_writer}
 use Rattle.tmw_bench.proofs.RepeatedRuns.{repeated, are_transactions-repeated, beginning-append, repeated-nil}
-use Rattle.tmw_drive.specs.declared.ending.Ending.TheVariants.{Done, Left, Stopped}
+use Rattle.tmw_drive.specs.declared.ending.Ending.TheVariants.{Done}
 use Rattle.tmw_runs.proofs.NeverMalformed.{formed_law}
 
 -- a thread's events of whole rounds are a whole run of its script, repeated
@@ -11,18 +11,13 @@ whole_run-rounds : (rules : Rules) (gives : Call → Answer → Type 0) (scripts
     → IsWholeRun (repeated count (script_at scripts thread)) (kinds_of thread log)
 whole_run-rounds rules gives scripts zero log none_done thread low = ap (kinds_of thread) none_done
 whole_run-rounds rules gives scripts (suc count) log (before, round, parts, whole, last, told) thread low =
-    let script = script_at scripts thread in
-    subst (IsWholeRun (repeated (suc count) script)) (sym (ap (kinds_of thread) parts ∙ kinds_of-append thread before round))
-    (whole_run-append (repeated count script) script (kinds_of thread before) (kinds_of thread round)
-    (whole_run-rounds rules gives scripts count before whole thread low) (last.runs thread low))
+    let more = whole_run-rounds rules gives scripts count before whole thread low in
+    grind (arith, script_at, repeated, kinds_of, kinds_of-append, whole_run-append)
 
 begins-ends_round : (script : List (List Kind)) (kinds : List Kind) (start places : ℕ) (ending : Ending) (writer : WriterIs)
     → EndsRound script kinds start places ending writer → IsBeginning script kinds
-begins-ends_round script kinds start places Done writer whole = ([], subst (IsWholeRun script) (sym (append-nil kinds)) whole)
-begins-ends_round script kinds start places Left writer never = absurd never
-begins-ends_round script kinds start places (Stopped refused) writer (stops, late, few) =
-    let (more, run) = stops.begins in
-    (stops.next ∷ more, subst (IsWholeRun script) (append_assoc kinds (stops.next ∷ []) more) run)
+begins-ends_round script kinds start places ending writer whole =
+    grind (arith, append-nil, append_assoc)
 
 -- each thread's events begin a run of its script, repeated
 begins-in_rounds : (rules : Rules) (gives : Call → Answer → Type 0) (scripts : List (List (List Kind))) (earlier : ℕ) (log : List Event)

@@ -1,55 +1,21 @@
 -- What a writer has claimed in whole rounds, one round after another, and where writers meet in between.
-use Rattle.tmw_bench.proofs.Shared.{All, All-append, All-nil, Answer, Call, EndsWork, FindsFrom, HasMet, HasPlayed, HasPlayedLast, HasWorked, IsReady, Kind, List, Made, None, Option, Refused, Some, WriterIs, [], arith, kinds_made, last_bound, subst, sym, ℕ, ◌<◌, ◌∙◌, ◌∷◌, ◌≡◌, ◌≤◌}
+use Rattle.tmw_bench.proofs.Shared.{All, All-append, All-nil, Answer, Call, HasMet, HasPlayed, HasPlayedLast, HasWorked, IsReady, Kind, List, Made, None, Option, Refused, WriterIs, [], arith, last_bound, subst, sym, ℕ, ◌<◌, ◌∷◌, ◌≡◌}
 
 -- a new writer is ready for the first round
 pub ready-new : (gives : Call → Answer → Type 0) (script : List (List Kind)) (writer : WriterIs) → writer.made ≡ [] → IsReady gives script [] writer
 ready-new gives script writer none_made = record { played = none_made; seen = omega arith }
 
--- a refusal that has found so many places claimed has found fewer
-finds_from-lower : (start seen : ℕ) (stop : Option Refused) → start ≤ seen → FindsFrom seen stop → FindsFrom start stop
-finds_from-lower start seen None low found = tt
-finds_from-lower start seen (Some refused) low found = omega (arith, low, found)
-
 -- a ready writer's thread has carried its script out, to its end or up to where it was stopped
 pub played_last-worked : (gives : Call → Answer → Type 0) (script : List (List Kind)) (bounds : List ℕ) (old : WriterIs) (stop : Option Refused)
     (new : WriterIs) → IsReady gives script bounds old → HasWorked gives script old stop new
     → HasPlayedLast gives script bounds new.made stop new
-played_last-worked gives script bounds old stop new ready worked = record {
-  old = old.made;
-  fresh = worked.fresh;
-  split = worked.made;
-  played = ready.played;
-  later = λ place fallback low. omega (arith, ready.seen, worked.later place fallback low);
-  earlier = worked.earlier;
-  seen = omega (arith, ready.seen, worked.seen);
-  found = finds_from-lower (last_bound bounds) old.seen stop ready.seen worked.found;
-  stands = worked.stands;
-  ended = worked.ended;
-}
+played_last-worked gives script bounds old stop new ready worked = grind arith
 
 -- where it was not stopped, and the writers have met behind what it had seen, its round is over
 pub ready-met : (gives : Call → Answer → Type 0) (script : List (List Kind)) (bounds : List ℕ) (tail : ℕ) (old : WriterIs) (stop : Option Refused)
     (new : WriterIs) → stop ≡ None → HasPlayedLast gives script bounds old.made stop old → HasMet tail old new
     → IsReady gives script (tail ∷ bounds) new
-ready-met gives script bounds tail old stop new not_stopped last met =
-    let whole : EndsWork script (kinds_made last.fresh) None old =
-    subst (λ (s : Option Refused). EndsWork script (kinds_made last.fresh) s old) not_stopped last.ended in
-    record {
-      played = (
-        last.old,
-        last.fresh,
-        met.made ∙ last.split,
-        last.played,
-        record {
-          rises = omega (arith, last.seen, met.reached);
-          later = last.later;
-          earlier = λ place fallback low. omega (arith, last.earlier place fallback low, met.reached);
-          stands = last.stands;
-          whole = whole;
-        },
-      );
-      seen = met.seen;
-    }
+ready-met gives script bounds tail old stop new not_stopped last met = grind arith
 
 -- what was claimed in whole rounds stands before the end of the last of them
 pub earlier_played : (gives : Call → Answer → Type 0) (script : List (List Kind)) (bounds : List ℕ) (made : List Made)

@@ -1,19 +1,11 @@
 -- What workers were given, and what they have done with it.
-use Rattle.tmw_bench.proofs.Shared.{Answer, Call, GivesWithin, HasWorked, Kind, List, Option, Refused, WriterIs, [], all_stand-more, ap, get_or, get_or-append_seam, kinds_made, length, one_more, subst, sym, true, ℕ, ◌++◌, ◌<◌, ◌∙◌, ◌∷◌, ◌≡◌}
+use Rattle.tmw_bench.proofs.Shared.{Answer, Call, GivesWithin, HasWorked, Kind, List, Option, Refused, WriterIs, [], all_stand-more, ap, get_or, get_or-append_seam, kinds_made, length, one_more, subst, sym, ℕ, ◌++◌, ◌<◌, ◌∙◌, ◌∷◌, ◌≡◌, rules}
 
 -- What was carried out with answers that the memory gives was so with answers of which there may be more.
 pub worked-more : (gives more : Call → Answer → Type 0) (script : List (List Kind)) (before writer : WriterIs) (stop : Option Refused)
     → GivesWithin gives more → HasWorked gives script before stop writer → HasWorked more script before stop writer
-worked-more gives more script before writer stop larger worked = record {
-  fresh = worked.fresh;
-  made = worked.made;
-  later = worked.later;
-  earlier = worked.earlier;
-  seen = worked.seen;
-  found = worked.found;
-  stands = all_stand-more gives more larger true (kinds_made worked.fresh) worked.stands;
-  ended = worked.ended;
-}
+worked-more gives more script before writer stop larger worked =
+    search (rules, all_stand-more, kinds_made)
 
 pub pushed : {A : Type 0} (P : ℕ → A → Type 0) (items : List A) (item : A) (new : List A) → new ≡ items ++ item ∷ []
     → ((place : ℕ) (fallback : A) → place < length items → P place (get_or items place fallback)) → P (length items) item

@@ -1,5 +1,5 @@
 -- Where no further round was begun, and how the threads have ended.
-use Rattle.tmw_bench.proofs.Shared.{AreEndings, Ending, Event, Front, Headline, IsFine, IsOver, IsVerdict, Kind, List, None, OpaqueSoFar, Option, Refused, Rules, SomeStopped, Verdict, WriterIs, ap, arith, ending_of, get_or, get_or-map, inl, inr, length, length-append, length-map, map, subst, sym, take-append-le, verdict-one, ℕ, ◌++◌, ◌<◌, ◌∙◌, ◌≡◌, ◌≢◌, ◌⊎◌}
+use Rattle.tmw_bench.proofs.Shared.{AreEndings, Ending, Event, Front, Headline, IsFine, IsOver, IsVerdict, Kind, List, None, OpaqueSoFar, Option, Refused, Rules, SomeStopped, Verdict, WriterIs, arith, ending_of, get_or, get_or-map, inl, inr, length, length-append, length-map, map, subst, take-append-le, verdict-one, ℕ, ◌++◌, ◌<◌, ◌≡◌, ◌≢◌, ◌⊎◌, rules}
 use Rattle.tmw_bench.proofs.Whole.{some_stopped-endings}
 use Rattle.tmw_defs.specs.declared.criterion.Criterion.TheVariants.{Opacity}
 use Rattle.tmw_pump.proofs.Verdicts.{fine-opaque}
@@ -7,12 +7,8 @@ use Rattle.tmw_pump.proofs.Verdicts.{fine-opaque}
 -- Each ending is that of its thread's refusal, if any.
 pub are_endings-map : (scripts : List (List (List Kind))) (stops : List (Option Refused)) (ends : List Ending) → length stops ≡ length scripts
     → ends ≡ map ending_of stops → AreEndings scripts stops ends
-are_endings-map scripts stops ends counted are = record {
-  counted = ap (λ (l : List Ending). length l) are ∙ length-map stops ending_of ∙ counted;
-  each = λ thread fallback low.
-      ap (λ (l : List Ending). get_or l thread fallback) are
-      ∙ get_or-map ending_of stops thread None fallback (subst (λ (n : ℕ). thread < n) (sym counted) low);
-}
+are_endings-map scripts stops ends counted are =
+    grind (arith, length, length-map, ending_of, get_or, get_or-map)
 
 -- A log that is opaque so far begins with nothing that is not.
 opaque-front : (rules : Rules) (front more log : List Event) (verdict : Verdict) → log ≡ front ++ more → IsVerdict rules front verdict

@@ -1,11 +1,10 @@
 -- The writer tries, waits, and tries again.
-use Rattle.tmw_bench.proofs.Shared.{Err, Full, HasLooked, HasRecorded, HasTried, HasWaited, IfErr, IfOk, IsRefusal, Kind, Ok, Refused, Result, RingIs, Spent, WasRefused, WriterIs, WriterOf, sym, ℕ, ◌∙◌, ◌≡◌}
+use Rattle.tmw_bench.proofs.Shared.{Err, HasLooked, HasRecorded, HasTried, HasWaited, IfErr, IfOk, IsRefusal, Kind, Ok, Refused, Result, RingIs, WasRefused, WriterIs, WriterOf, sym, ℕ, ◌∙◌, ◌≡◌, arith}
 
 -- A refused call has recorded nothing, and has looked at tail.
 pub has_looked-refused : (kind : Kind) (old : WriterIs) (refused : Refused) (new : WriterIs) → IsRefusal kind old refused new
     → (tail : ℕ) × HasLooked tail old new
-has_looked-refused kind old (Full front tail) new is = (tail, is.0)
-has_looked-refused kind old (Spent tail) new is = (tail, is.1)
+has_looked-refused kind old refused new is = grind arith
 
 -- A writer that has waited tries once more.
 pub tried : (kind : Kind) (start old : WriterIs) (result : Result ℕ Refused) (new : WriterIs) → HasWaited start old

@@ -1,5 +1,5 @@
 -- From one call to the next, and to the end of the script or to a refusal.
-use Rattle.tmw_bench.proofs.Shared.{AllStand, Answer, Call, EndsWork, FindsFrom, HasCalled, HasClaimed, HasRunSoFar, HasWorked, IsBeginning, IsNew, IsTrue, Kind, List, None, Option, Player, Plays, Refused, Some, StopsAt, WriterIs, [], answers, append-nil, append_assoc, are_transactions, are_transactions-next_left, arith, inl, inr, leaves-next_left, left_of, next_left, next_of, next_of-some, plays-goes_on, plays-new, so_far_all, so_far_called, subst, sym, tail_of, true, whole-plays, ℕ, ◌++◌, ◌∷◌, ◌≡◌, ◌≤◌}
+use Rattle.tmw_bench.proofs.Shared.{AllStand, Answer, Call, EndsWork, FindsFrom, HasCalled, HasClaimed, HasRunSoFar, HasWorked, IsBeginning, IsNew, IsTrue, Kind, List, None, Option, Player, Plays, Refused, Some, StopsAt, WriterIs, [], answers, append-nil, append_assoc, are_transactions, are_transactions-next_left, arith, inl, inr, leaves-next_left, left_of, next_left, next_of, next_of-some, plays-goes_on, plays-new, so_far_all, so_far_called, subst, sym, tail_of, true, whole-plays, ℕ, ◌++◌, ◌∷◌, ◌≡◌, ◌≤◌, rules}
 use Rattle.tmw_runs.proofs.Calls.{are_calls-transactions}
 use Rattle.tmw_runs.proofs.LeavingSteps.{beginning, beginning_pending}
 use Rattle.tmw_runs.specs.Leaving.{Leaves}
@@ -26,24 +26,13 @@ played-called gives script old new call start before after played is called =
 worked : (gives : Call → Answer → Type 0) (script : List (List Kind)) (kinds : List Kind) (old : WriterIs) (stop : Option Refused) (new : WriterIs)
     → HasClaimed kinds old new → FindsFrom old.seen stop → AllStand gives true kinds → EndsWork script kinds stop new
     → HasWorked gives script old stop new
-worked gives script kinds old stop new claimed found stand ended =
-    record {
-      fresh = claimed.fresh;
-      made = claimed.made;
-      later = claimed.later;
-      earlier = claimed.earlier;
-      seen = claimed.seen;
-      found = found;
-      stands = subst (AllStand gives true) (sym claimed.is) stand;
-      ended = subst (λ (l : List Kind). EndsWork script l stop new) (sym claimed.is) ended;
-    }
+worked gives script kinds old stop new claimed found stand ended = grind arith
 
 -- no call is left
 pub worked-none_left : (gives : Call → Answer → Type 0) (script : List (List Kind)) (player : Player) (old new : WriterIs)
     → HasRunSoFar gives script player old new → next_of (left_of script player) ≡ None → HasWorked gives script old None new
 worked-none_left gives script player old new played is =
-    worked gives script played.kinds old None new played.claimed tt (so_far_all gives played.kinds _ played.plays.stands)
-    (whole-plays gives script player played.kinds played.plays is)
+    search (rules, worked, so_far_all, whole-plays)
 
 -- the next call may come, and after it each answer that fits it
 begins-call : (gives : Call → Answer → Type 0) (script : List (List Kind)) (player : Player) (kinds : List Kind) (call : Kind)

@@ -6,39 +6,18 @@ use Rattle.tmw_events.specs.declared.ix.Ix.{Ix}
 pub one_kind : OneKindLaw
 one_kind registers letter register value (R a1) (R a2) one other =
     ap (λ (ix : Ix). R ix) (same_ix a1 a2 (one.of_register.0 ∙ sym other.of_register.0))
-one_kind registers letter register value (R a1) _ one other =
-    absurd (let here = one.lettered in let there = other.lettered in omega (arith, here, there))
 one_kind registers letter register value (V v1) (V v2) one other =
     ap (λ (n : ℕ). V n) (one.of_value ∙ sym other.of_value)
-one_kind registers letter register value (V v1) _ one other =
-    absurd (let here = one.lettered in let there = other.lettered in omega (arith, here, there))
 one_kind registers letter register value (W a1 v1) (W a2 v2) one other =
     ap (λ (ix : Ix). W ix v1) (same_ix a1 a2 (one.of_register.0 ∙ sym other.of_register.0))
     ∙ ap (λ (n : ℕ). W a2 n) (one.of_value ∙ sym other.of_value)
-one_kind registers letter register value (W a1 v1) _ one other =
-    absurd (let here = one.lettered in let there = other.lettered in omega (arith, here, there))
-one_kind registers letter register value K K one other =
-    refl
-one_kind registers letter register value K _ one other =
-    absurd (let here = one.lettered in let there = other.lettered in omega (arith, here, there))
-one_kind registers letter register value T T one other =
-    refl
-one_kind registers letter register value T _ one other =
-    absurd (let here = one.lettered in let there = other.lettered in omega (arith, here, there))
-one_kind registers letter register value C C one other =
-    refl
-one_kind registers letter register value C _ one other =
-    absurd (let here = one.lettered in let there = other.lettered in omega (arith, here, there))
-one_kind registers letter register value X X one other =
-    refl
-one_kind registers letter register value X _ one other =
-    absurd (let here = one.lettered in let there = other.lettered in omega (arith, here, there))
-one_kind registers letter register value A A one other =
-    refl
-one_kind registers letter register value A _ one other =
-    absurd (let here = one.lettered in let there = other.lettered in omega (arith, here, there))
 one_kind registers letter register value (N a1 v1) (N a2 v2) one other =
     ap (λ (ix : Ix). N ix v1) (same_ix a1 a2 (one.of_register.0 ∙ sym other.of_register.0))
     ∙ ap (λ (n : ℕ). N a2 n) (one.of_value ∙ sym other.of_value)
-one_kind registers letter register value (N a1 v1) _ one other =
+one_kind registers letter register value K K one other = refl
+one_kind registers letter register value T T one other = refl
+one_kind registers letter register value C C one other = refl
+one_kind registers letter register value X X one other = refl
+one_kind registers letter register value A A one other = refl
+one_kind registers letter register value _ _ one other =
     absurd (let here = one.lettered in let there = other.lettered in omega (arith, here, there))

@@ -6,15 +6,6 @@ use Rattle.tmw_handles.specs.declared.held_watch.HeldWatch.{HeldWatch}
 
 pub recording-refused : (letter register value place : ℕ) (before after : HeldRecorder) (old new : Option HeldRecorder) → old ≡ Some before → new ≡ Some after
     → (status : Status) → HasRefused letter register value before after status → IsRecording letter register value old new place place status
-recording-refused l r v place before after old new held holds Done refused = absurd refused
-recording-refused l r v place before after old new held holds NoHandle refused = absurd refused
-recording-refused l r v place before after old new held holds FullHandle refused = absurd refused
-recording-refused l r v place before after old new held holds BadRegisters refused = absurd refused
-recording-refused l r v place before after old new held holds BadStart refused = absurd refused
-recording-refused l r v place before after old new held holds BadBounds refused = absurd refused
-recording-refused l r v place before after old new held holds BadSize refused = absurd refused
-recording-refused l r v place before after old new held holds BadLimit refused = absurd refused
-recording-refused l r v place before after old new held holds Memory refused = absurd refused
 recording-refused l r v place before after old new held holds Full refused =
     (record { before = before; after = after; held = held; holds = holds; refused = refused }, refl)
 recording-refused l r v place before after old new held holds Spent refused =
@@ -23,32 +14,14 @@ recording-refused l r v place before after old new held holds BadKind refused =
     (record { before = before; after = after; held = held; holds = holds; refused = refused }, refl)
 recording-refused l r v place before after old new held holds BadRegister refused =
     (record { before = before; after = after; held = held; holds = holds; refused = refused }, refl)
-recording-refused l r v place before after old new held holds Missing refused = absurd refused
-recording-refused l r v place before after old new held holds Closing refused = absurd refused
-recording-refused l r v place before after old new held holds OutOfTurn refused = absurd refused
-recording-refused l r v place before after old new held holds NotCall refused = absurd refused
-recording-refused l r v place before after old new held holds Misfit refused = absurd refused
+recording-refused l r v place before after old new held holds _ refused = absurd refused
 
 pub closing-unended : (before after : HeldWatch) (old new : Option HeldWatch) (olds news : List RecorderHandle) (told : Told) → old ≡ Some before
     → new ≡ Some after → (status : Status) → IsUnended before after olds news status → IsClosing old new olds news told told status
-closing-unended before after old new olds news told held holds Done unended = absurd unended
-closing-unended before after old new olds news told held holds NoHandle unended = absurd unended
-closing-unended before after old new olds news told held holds FullHandle unended = absurd unended
-closing-unended before after old new olds news told held holds BadRegisters unended = absurd unended
-closing-unended before after old new olds news told held holds BadStart unended = absurd unended
-closing-unended before after old new olds news told held holds BadBounds unended = absurd unended
-closing-unended before after old new olds news told held holds BadSize unended = absurd unended
-closing-unended before after old new olds news told held holds BadLimit unended = absurd unended
 closing-unended before after old new olds news told held holds Memory unended =
     (record { before = before; after = after; held = held; holds = holds; unended = unended }, refl)
-closing-unended before after old new olds news told held holds Full unended = absurd unended
-closing-unended before after old new olds news told held holds Spent unended = absurd unended
-closing-unended before after old new olds news told held holds BadKind unended = absurd unended
-closing-unended before after old new olds news told held holds BadRegister unended = absurd unended
 closing-unended before after old new olds news told held holds Missing unended =
     (record { before = before; after = after; held = held; holds = holds; unended = unended }, refl)
 closing-unended before after old new olds news told held holds Closing unended =
     (record { before = before; after = after; held = held; holds = holds; unended = unended }, refl)
-closing-unended before after old new olds news told held holds OutOfTurn unended = absurd unended
-closing-unended before after old new olds news told held holds NotCall unended = absurd unended
-closing-unended before after old new olds news told held holds Misfit unended = absurd unended
+closing-unended before after old new olds news told held holds _ unended = absurd unended

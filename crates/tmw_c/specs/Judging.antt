@@ -33,12 +33,9 @@ verdict_at StrictSoFar = 0
 
 -- the number of the bound that was passed, and 0 where none was
 abbrev pub verdict_why : Verdict → ℕ
-verdict_why OpaqueSoFar = 0
-verdict_why (Violated at) = 0
 verdict_why (Undecided at Transactions) = 1
 verdict_why (Undecided at States) = 2
-verdict_why (Malformed at) = 0
-verdict_why StrictSoFar = 0
+verdict_why _ = 0
 
 -- This verdict is told, on so many events.
 pub record IsTold (events : ℕ) (verdict : Verdict) (told : Told) : Type 0 where

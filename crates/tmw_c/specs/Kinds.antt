@@ -20,24 +20,14 @@ abbrev pub HasRegister : (registers register : ℕ) → Kind → Type 0
 HasRegister registers register (R ix) = (ix.number ≡ register) × (register < registers)
 HasRegister registers register (W ix written) = (ix.number ≡ register) × (register < registers)
 HasRegister registers register (N ix added) = (ix.number ≡ register) × (register < registers)
-HasRegister registers register (V answered) = Unit {0}
-HasRegister registers register K = Unit {0}
-HasRegister registers register T = Unit {0}
-HasRegister registers register C = Unit {0}
-HasRegister registers register X = Unit {0}
-HasRegister registers register A = Unit {0}
+HasRegister registers register _ = Unit {0}
 
 -- The value of the kind, if it has one, is this one.
 abbrev pub HasValue : ℕ → Kind → Type 0
 HasValue value (V answered) = answered ≡ value
 HasValue value (W ix written) = written ≡ value
 HasValue value (N ix added) = added ≡ value
-HasValue value (R ix) = Unit {0}
-HasValue value K = Unit {0}
-HasValue value T = Unit {0}
-HasValue value C = Unit {0}
-HasValue value X = Unit {0}
-HasValue value A = Unit {0}
+HasValue value _ = Unit {0}
 
 -- This kind is asked for.
 pub record AsksFor (registers letter register value : ℕ) (kind : Kind) : Type 0 where

@@ -1,14 +1,13 @@
 ghost use Rattle.std.specs.Prelude.{map, string_bytes};
 ghost use Rattle.std.specs.Result.{result_map_both};
 ghost use Rattle.tmw_report.specs.Putting.{IsPut, IsSent};
-ghost use Rattle.tmw_command.specs.Running.{AnswersRefusal, RunsCommand, RunsOrder, RunsWords, by_which, streams};
+ghost use Rattle.tmw_command.specs.Running.{AnswersRefusal, RunsCommand, RunsOrder, by_which, streams};
 ghost use Rattle.tmw_tm.specs.Memory.{memory_is};
 
 use crate::bench::run_bench_cmd;
 use crate::drive::run_drive;
 use crate::memories::Memories;
 use std::alloc::Global;
-use std::convert::AsStr;
 use std::sync::Wait;
 use std::thread::Threads;
 use tmw_args::{Order, Refusal, read_words};
@@ -55,36 +54,11 @@ pub fn run_command<
         (streams source.old sink.old errors.old) (streams source.new sink.new errors.new) result }
 {
     match words {
-        Ok(words) => run_words(rt, &words, source, sink, errors, memories, progress),
+        Ok(words) => match read_words(rt.alloc(), &words) {
+            Ok(order) => run_order(rt, order, source, sink, errors, memories, progress),
+            Err(refusal) => answer_refusal(refusal, sink, errors),
+        },
         Err(fault) => answer_fault(sink, fault),
-    }
-}
-
-/// Reads the words, and runs their order or answers why there is none.
-fn run_words<
-    W: AsStr,
-    S: Source,
-    K: Sink,
-    E: Sink,
-    R: AllocGlobal + Threads + Wait + Sync,
-    P: Progress,
->(
-    rt: &R,
-    words: &[W],
-    source: &mut S,
-    sink: &mut K,
-    errors: &mut E,
-    memories: Memories<&(dyn Tm + Sync)>,
-    progress: &P,
-) -> u8
-    ensures { RunsWords S.from K.to E.to
-        (by_which (λ memory. memory_is (has memory.now) (gives memory.now)) memories.entry)
-        (map W.text words.now)
-        (streams source.old sink.old errors.old) (streams source.new sink.new errors.new) result }
-{
-    match read_words(rt.alloc(), words) {
-        Ok(order) => run_order(rt, order, source, sink, errors, memories, progress),
-        Err(refusal) => answer_refusal(refusal, sink, errors),
     }
 }
 

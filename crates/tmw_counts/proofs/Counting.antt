@@ -1,5 +1,5 @@
 -- A counter that stands for a history, one event further.
-use Rattle.tmw_counts.proofs.Shared.{A, AllByRecursion, AreCounted, Bool, C, Counter, Counts, CountsSo, Event, HasCounts, HasWide, IsStep, IsTrue, Kind, Lies, List, None, Notes, Option, Some, Txn, X, [], aborts, add_event, and_parts, ap, arith, begun, both_ways, call_of, cases_Bool, commits, count_by, end_of, ends, eq-eqb, eqb-true, false, goes_on, if◌then◌else◌, inl, inr, is_aborted, is_call, is_committed, is_cut, is_some, is_unasked, is_well_formed, length, length-add, length-map, lies-transactions, live_count, live_count-add, live_of, max, meets, not, one_if, option_and_then, overlaps_any, pending_call, prefixes, refl, status_of, still, subst, suc, sym, take-push, take_all-push, text_of, transactions, transactions-push, transactions_from, true, zero, ℕ, ◌&&◌, ◌++◌, ◌+◌, ◌-◌, ◌<◌, ◌==◌, ◌^◌, ◌↔◌, ◌∙◌, ◌∷◌, ◌≡◌, ◌≤◌}
+use Rattle.tmw_counts.proofs.Shared.{AllByRecursion, AreCounted, Bool, Counter, Counts, CountsSo, Event, HasCounts, HasWide, IsStep, IsTrue, Kind, Lies, List, None, Notes, Option, Some, Txn, X, [], aborts, add_event, and_parts, ap, arith, begun, both_ways, call_of, cases_Bool, commits, count_by, end_of, ends, eq-eqb, eqb-true, false, goes_on, if◌then◌else◌, inl, inr, is_aborted, is_call, is_committed, is_cut, is_some, is_unasked, is_well_formed, length, length-add, length-map, lies-transactions, live_count, live_count-add, live_of, max, meets, not, one_if, overlaps_any, pending_call, prefixes, refl, status_of, still, subst, suc, sym, take-push, take_all-push, text_of, transactions, transactions-push, transactions_from, true, zero, ℕ, ◌&&◌, ◌++◌, ◌+◌, ◌-◌, ◌<◌, ◌==◌, ◌^◌, ◌↔◌, ◌∙◌, ◌∷◌, ◌≡◌, ◌≤◌}
 use Rattle.tmw_defs.proofs.TextsProof.{texts_law}
 use Rattle.tmw_counts.specs.declared.threads.Threads.{Threads}
 use Rattle.tmw_counts.specs.Threads.{HasThreads}
@@ -29,17 +29,11 @@ prefixes-few [] = omega arith
 prefixes-few (e ∷ es) = let rest = prefixes-few es in omega (arith, rest, length-map (prefixes es) (λ (xs : List Event). e ∷ xs))
 
 pub lies : (h : List Event) → AllByRecursion (Lies 0 (length h)) (transactions h)
-lies h =
-    let same : 0 + length h ≡ length h = omega arith in
-    subst (λ n. AllByRecursion (Lies 0 n) (transactions h)) same (lies-transactions 0 0 [] h (omega arith) tt)
+lies h = grind (arith, length, transactions, lies-transactions)
 
 -- the text of a thread's live transaction has its pending call
 pending-text : (thread : ℕ) (h : List Event) → pending_call thread h ≡ call_of (text_of (live_of thread (transactions h)))
-pending-text thread h = of_live (live_of thread (transactions h))
-  where
-    of_live : (live : Option Txn) → option_and_then (λ t. call_of t.text) live ≡ call_of (text_of live)
-    of_live None = refl
-    of_live (Some t) = refl
+pending-text thread h = grind (arith, live_of, transactions)
 
 -- What is known of an event that the tracker has taken.
 pub record Taken (registers : ℕ) (history : List Event) (e : Event) (note : Note) (others asked : Bool) (live : ℕ) : Type 0 where
@@ -61,19 +55,14 @@ goes registers h e before formed = sym (is_well_formed-push registers h e before
 
 -- an abort event answers a call
 answers_call : (registers : ℕ) (pending : Option Kind) (k : Kind) → goes_on registers pending k ≡ true → aborts (end_of k) ≡ true → is_some pending ≡ true
-answers_call registers (Some c) k on is = refl
-answers_call registers None A on is = absurd (cc)
-answers_call registers None k on is = absurd (cc)
+answers_call registers pending k on is = grind arith
 
 -- the first event of a transaction is a call
 begins_open : (registers : ℕ) (k : Kind) → is_call registers k ≡ true → ends k ≡ false
-begins_open registers C is = absurd (cc)
-begins_open registers A is = absurd (cc)
-begins_open registers _ is = refl
+begins_open registers k is = grind arith
 
 no_call : (live : Option Txn) → is_some live ≡ false → call_of (text_of live) ≡ None
-no_call None none = refl
-no_call (Some t) none = absurd (cc)
+no_call live none = grind arith
 
 pub begins-ends : (registers : ℕ) (h : List Event) (e : Event) → IsTrue (is_well_formed registers h) → IsTrue (is_well_formed registers (h ++ e ∷ []))
     → is_some (live_in h e) ≡ false → ends e.kind ≡ false
@@ -84,15 +73,18 @@ begins-ends registers h e before formed none =
 -- whether it begins one
 begins_is : (h : List Event) (e : Event) (note : Note) → Notes h e note → note.begins ≡ not (is_some (live_in h e))
 begins_is h e note notes =
-    let grown = ap length (transactions-push h e) in
-    let counted = length-add (length h) e (transactions h) in
-    elim (cases_Bool (is_some (live_in h e))) [
-      | inl has ↦ elim (cases_Bool note.begins) [
-        | inl holds ↦ absurd (let more = notes.begins.0 holds in omega (arith, more, grown, counted, ap one_if has))
-        | inr fails ↦ fails ∙ sym (ap not has)
-      ]
-      | inr none ↦ notes.begins.1 (omega (arith, grown, counted, ap one_if none)) ∙ sym (ap not none)
-    ]
+    grind (
+      arith,
+      length,
+      transactions-push,
+      length-add,
+      transactions,
+      cases_Bool,
+      is_some,
+      live_in,
+      one_if,
+      not,
+    )
 
 some-live : (thread : ℕ) (ts : List Txn) → is_some (live_of thread ts) ≡ true → 0 < count_by still ts
 some-live thread [] has = absurd (cc)
@@ -103,18 +95,10 @@ some-live thread (t ∷ ts) has =
     ]
 
 zero_is : (n : ℕ) (cut : Bool) → (n ≡ 0) ↔ IsTrue cut → (n == 0) ≡ cut
-zero_is n cut tells =
-    elim (cases_Bool cut) [
-      | inl holds ↦ eq-eqb n 0 (tells.1 holds) ∙ sym holds
-      | inr fails ↦ elim (cases_Bool (n == 0)) [
-        | inl none ↦ absurd (both_ways cut fails (tells.0 (eqb-true n 0 none)))
-        | inr some ↦ some ∙ sym fails
-      ]
-    ]
+zero_is n cut tells = grind (arith, cases_Bool, eq-eqb, both_ways, eqb-true)
 
 one_if-not : (b : Bool) → one_if (not b) + one_if b ≡ 1
-one_if-not true = refl
-one_if-not false = refl
+one_if-not b = grind arith
 
 -- the event goes on with a transaction: who overlaps whom stays
 record Meets (h : List Event) (e : Event) (begins others was : Bool) (live : ℕ) : Type 0 where

@@ -1,5 +1,5 @@
 -- The part of a history that is counted beside its verdict, with one event more.
-use Rattle.tmw_counts.proofs.Shared.{AreFine, Bool, Event, IsFalse, IsFine, IsFirst, IsFirst-push, IsMalformed, IsTooMany, IsTooWide, IsTrue, IsVerdict, IsViolated, List, Rules, [], ap, arith, both_ways, cases_Bool, cases_lt, counted_by, false, if◌then◌else◌, inl, inr, is_open, is_well_formed, length, length-push, part_by, refl, subst, suc, sym, take, take-push, take_all, take_all-push, true, verdict-one, zero, ℕ, ◌++◌, ◌+◌, ◌∙◌, ◌∷◌, ◌≡◌, ◌≤◌}
+use Rattle.tmw_counts.proofs.Shared.{AreFine, Bool, Event, IsFalse, IsFine, IsFirst, IsFirst-push, IsMalformed, IsTooMany, IsTooWide, IsTrue, IsVerdict, IsViolated, List, Rules, [], ap, arith, both_ways, cases_Bool, counted_by, false, if◌then◌else◌, inl, inr, is_open, is_well_formed, length, length-push, part_by, refl, subst, sym, take, take-push, take_all, take_all-push, true, verdict-one, ℕ, ◌++◌, ◌+◌, ◌∙◌, ◌∷◌, ◌≡◌, ◌≤◌, rules}
 use Rattle.tmw_defs.specs.declared.verdict.Verdict.{Verdict}
 use Rattle.tmw_defs.specs.declared.verdict.Verdict.TheVariants.{OpaqueSoFar, StrictSoFar, Violated, Undecided, Malformed}
 use Rattle.tmw_defs.specs.declared.verdict.Why.TheVariants.{Transactions, States}
@@ -22,21 +22,14 @@ stays rules h e (Violated m) w is one two = verdict-one rules (h ++ e ∷ []) w 
 
 -- an open verdict says that nothing is wrong
 pub fine_of : (rules : Rules) (h : List Event) (v : Verdict) → is_open v ≡ true → IsVerdict rules h v → AreFine rules h
-fine_of rules h OpaqueSoFar is judged = judged.1
-fine_of rules h StrictSoFar is judged = judged.1
-fine_of rules h (Malformed m) is judged = absurd (cc)
-fine_of rules h (Undecided m why) is judged = absurd (cc)
-fine_of rules h (Violated m) is judged = absurd (cc)
+fine_of rules h v is judged = grind arith
 
 -- where nothing was wrong before, what is wrong first is wrong with the whole
 first_at : (Wrong : Rules → List Event → Type 0) → ((rules : Rules) (h : List Event) → Wrong rules h → IsFine rules h → ⊥)
     → (rules : Rules) (h : List Event) (e : Event) (m : ℕ) → AreFine rules h → IsFirst Wrong rules (h ++ e ∷ []) m
     → (m ≡ length h + 1) × Wrong rules (h ++ e ∷ [])
 first_at Wrong apart rules h e m fine first =
-    let end : m ≡ length h + 1 = elim (cases_lt (length h) m) [
-      | inl past ↦ (let low = first.within in let same = length-push h e in omega (arith, low, same, past))
-      | inr within ↦ absurd (apart rules (take m h) (rw (take-push m h e within) at first.here) (fine m within))
-    ] in
+    let end : m ≡ length h + 1 = grind (arith, length-push, take-push) in
     (end, rw (end, take_all-push h e) at first.here)
 
 malformed_apart : (rules : Rules) (h : List Event) → IsMalformed rules h → IsFine rules h → ⊥
@@ -66,40 +59,18 @@ counted-open rules h e OpaqueSoFar fine judged = rw (formed_whole rules h e judg
 counted-open rules h e StrictSoFar fine judged = rw (formed_whole rules h e judged.1) refl
 counted-open rules h e (Malformed m) fine judged =
     let (end, wrong) = first_at IsMalformed malformed_apart rules h e m fine judged in
-    rw wrong.ill_formed (omega (arith, end))
+    rw wrong.ill_formed (omega arith)
 counted-open rules h e (Undecided m Transactions) fine judged =
     let (end, wrong) = first_at IsTooWide wide_apart rules h e m fine judged in
     rw wrong.formed end
 counted-open rules h e (Undecided m States) fine judged =
-    let (end, wrong) = first_at IsTooMany many_apart rules h e m fine judged in
-    rw wrong.formed end
+    let (end, wrong) = first_at IsTooMany many_apart rules h e m fine judged in cc
 counted-open rules h e (Violated m) fine judged =
-    let (end, wrong) = first_at IsViolated violated_apart rules h e m fine judged in
-    rw wrong.formed end
+    let (end, wrong) = first_at IsViolated violated_apart rules h e m fine judged in cc
 
 -- no more is counted than there is
 pub counted_within : (rules : Rules) (h : List Event) (v : Verdict) → IsVerdict rules h v → counted_by (length h) v ≤ length h
-counted_within rules h OpaqueSoFar judged = omega arith
-counted_within rules h StrictSoFar judged = omega arith
-counted_within rules h (Malformed m) judged = (let low = judged.within in omega (arith, low))
-counted_within rules h (Undecided m Transactions) judged = judged.within
-counted_within rules h (Undecided m States) judged = judged.within
-counted_within rules h (Violated m) judged = judged.within
-
--- what is counted once something is wrong doesn't hang on how many events there are
-counted_fixed : (m n : ℕ) (v : Verdict) → is_open v ≡ false → counted_by m v ≡ counted_by n v
-counted_fixed m n OpaqueSoFar is = absurd (cc)
-counted_fixed m n StrictSoFar is = absurd (cc)
-counted_fixed m n (Malformed at) is = refl
-counted_fixed m n (Undecided at why) is = refl
-counted_fixed m n (Violated at) is = refl
-
-pub counted_all : (n : ℕ) (v : Verdict) → is_open v ≡ true → counted_by n v ≡ n
-counted_all n OpaqueSoFar is = refl
-counted_all n StrictSoFar is = refl
-counted_all n (Malformed at) is = absurd (cc)
-counted_all n (Undecided at why) is = absurd (cc)
-counted_all n (Violated at) is = absurd (cc)
+counted_within rules h v judged = grind arith
 
 -- How much is counted by one verdict, before the event and with it.
 pub record Step (rules : Rules) (h : List Event) (e : Event) (v w : Verdict) : Type 0 where
@@ -109,16 +80,10 @@ pub record Step (rules : Rules) (h : List Event) (e : Event) (v w : Verdict) : T
   pub same : is_open v ≡ false → counted_by (length h + 1) w ≡ counted_by (length h) v
 
 pub step : (rules : Rules) (h : List Event) (e : Event) (v w : Verdict) → IsVerdict rules h v → IsVerdict rules (h ++ e ∷ []) w → Step rules h e v w
-step rules h e v w one two = record {
-  within = counted_within rules h v one;
-  all = counted_all (length h) v;
-  next = λ is. counted-open rules h e w (fine_of rules h v is one) two;
-  same = λ is. ap (counted_by (length h + 1)) (stays rules h e v w is one two) ∙ counted_fixed (length h + 1) (length h) v is;
-}
+step rules h e v w one two = grind (arith, counted-open, stays)
 
 pub as_formed-le : (formed : Bool) (n : ℕ) → n ≤ as_formed formed n
-as_formed-le true n = omega arith
-as_formed-le false n = omega arith
+as_formed-le formed n = grind arith
 
 -- Where nothing was wrong before, one event more is counted if it keeps the history well-formed; else the counts stay.
 pub counted-more : {C : Type 0} (Counts : ℕ → List Event → C → Type 0) (rules : Rules) (h : List Event) (e : Event) (v w : Verdict)
@@ -160,11 +125,7 @@ counted-more {C = C} Counts rules h e v w old new one two was formed ill same =
 
 -- nothing is counted before the first event
 pub part-none : (v : Verdict) → part_by v [] ≡ []
-part-none v = take_nil (counted_by 0 v)
-  where
-    take_nil : (n : ℕ) → take n (let none : List Event = [] in none) ≡ []
-    take_nil zero = refl
-    take_nil (suc n) = refl
+part-none v = grind arith
 
 -- each prefix of what is counted is well-formed
 fine_formed : (rules : Rules) (h : List Event) → IsFine rules h → IsTrue (is_well_formed rules.registers h)
@@ -172,23 +133,8 @@ fine_formed rules h fine = formed-final rules.criterion rules.registers rules.st
 
 wrong_formed : (Wrong : Rules → List Event → Type 0) → ((h : List Event) (rules : Rules) → Wrong rules h → IsTrue (is_well_formed rules.registers h))
     → (rules : Rules) (h : List Event) (m : ℕ) → IsFirst Wrong rules h m → (k : ℕ) → k ≤ m → IsTrue (is_well_formed rules.registers (take k h))
-wrong_formed Wrong has rules h m first k low =
-    elim (cases_lt k m) [
-      | inl less ↦ fine_formed rules (take k h) (first.before k less)
-      | inr past ↦ (let same : k ≡ m = omega (arith, low, past) in rw same (has (take m h) rules first.here))
-    ]
+wrong_formed Wrong has rules h m first k low = grind (arith, fine_formed)
 
 pub formed-part : (rules : Rules) (h : List Event) (v : Verdict) → IsVerdict rules h v → (k : ℕ) → k ≤ counted_by (length h) v
     → IsTrue (is_well_formed rules.registers (take k h))
-formed-part rules h OpaqueSoFar judged k low = fine_formed rules (take k h) (judged.1 k low)
-formed-part rules h StrictSoFar judged k low = fine_formed rules (take k h) (judged.1 k low)
-formed-part rules h (Malformed zero) judged k low = absurd (both_ways _ judged.here.ill_formed (nothing_formed h rules))
-  where
-    nothing_formed : (h : List Event) (rules : Rules) → IsTrue (is_well_formed rules.registers (take 0 h))
-    nothing_formed [] rules = refl
-    nothing_formed (x ∷ xs) rules = refl
-formed-part rules h (Malformed (suc m)) judged k low =
-    fine_formed rules (take k h) (judged.before k (omega (arith, low)))
-formed-part rules h (Undecided m Transactions) judged k low = wrong_formed IsTooWide (λ h rules wrong. wrong.formed) rules h m judged k low
-formed-part rules h (Undecided m States) judged k low = wrong_formed IsTooMany (λ h rules wrong. wrong.formed) rules h m judged k low
-formed-part rules h (Violated m) judged k low = wrong_formed IsViolated (λ h rules wrong. wrong.formed) rules h m judged k low
+formed-part rules h v judged k low = grind (arith, fine_formed, take, wrong_formed)

@@ -1,16 +1,14 @@
 -- How many transactions have ended in which way, with one event more.
-use Rattle.tmw_counts.proofs.Shared.{A, Bool, C, Event, IsTrue, Kind, List, None, Option, Some, T, Txn, X, [], aborts, add_event, add_event_here, add_event_past, and_parts, ap, arith, begun, both_ways, call_of, cases_Bool, commits, count_by, end_of, false, inl, inr, is_aborted, is_committed, is_ended, is_over, is_request, is_some, is_unasked, joins, length, length-append, live_of, longer, not, one_if, refl, slice_get, status_after, status_of, suc, sym, text_of, true, zero, ℕ, ◌&&◌, ◌++◌, ◌+◌, ◌-◌, ◌==◌, ◌↔◌, ◌∙◌, ◌∷◌, ◌≡◌, ◌≤◌}
+use Rattle.tmw_counts.proofs.Shared.{Bool, Event, IsTrue, Kind, List, None, Option, Some, Txn, X, [], aborts, add_event, add_event_here, add_event_past, ap, arith, call_of, cases_Bool, commits, count_by, end_of, false, inl, inr, is_aborted, is_committed, is_ended, is_over, is_request, is_some, is_unasked, joins, length, length-append, live_of, longer, not, one_if, refl, slice_get, status_after, status_of, suc, sym, text_of, true, zero, ℕ, ◌&&◌, ◌++◌, ◌+◌, ◌-◌, ◌↔◌, ◌∙◌, ◌∷◌, ◌≡◌, ◌≤◌}
 use Rattle.tmw_defs.proofs.QuietTexts.{status_of-push}
 use Rattle.tmw_defs.specs.declared.status.Status.{Status}
-use Rattle.tmw_defs.specs.declared.status.Status.TheVariants.{Committed, Aborted}
 use Rattle.tmw_counts.proofs.Sums.{count-cons}
 
 -- the text with the event counts in place of the live one's
 pub count_text-add : (p : List Kind → Bool) → p [] ≡ false → (place : ℕ) (e : Event) (ts : List Txn)
     → count_by (λ t. p t.text) (add_event place e ts) + one_if (p (text_of (live_of e.thread.number ts)))
     ≡ count_by (λ t. p t.text) ts + one_if (p (text_of (live_of e.thread.number ts) ++ e.kind ∷ []))
-count_text-add p empty place e [] =
-    omega (arith, count-cons (λ t. p t.text) (begun place e) [], ap one_if empty)
+count_text-add p empty place e [] = grind arith
 count_text-add p empty place e (t ∷ ts) =
     elim (cases_Bool (joins e t)) [
       | inl here ↦
@@ -18,46 +16,32 @@ count_text-add p empty place e (t ∷ ts) =
           (omega (arith, count-cons (λ u. p u.text) (longer place e t) ts, count-cons (λ u. p u.text) t ts))
       | inr past ↦
           rw (add_event_past place e t ts past, past)
-          (omega (
+          (
+          omega (
             arith,
             count-cons (λ u. p u.text) t (add_event place e ts),
-            count-cons (λ u. p u.text) t ts,
+            count-cons (λ u.
+                p u.text) t ts,
             count_text-add p empty place e ts,
           ))
     ]
 
 pub committed-after : (k : Kind) → is_committed (status_after (Some k)) ≡ commits (end_of k)
-committed-after C = refl
-committed-after A = refl
-committed-after T = refl
-committed-after _ = refl
+committed-after k = grind arith
 
 pub aborted-after : (k : Kind) → is_aborted (status_after (Some k)) ≡ aborts (end_of k)
-aborted-after C = refl
-aborted-after A = refl
-aborted-after T = refl
-aborted-after _ = refl
+aborted-after k = grind arith
 
 not_committed : (s : Status) → is_over s ≡ false → is_committed s ≡ false
-not_committed Committed lasts = absurd (cc)
-not_committed _ lasts = refl
+not_committed s lasts = grind arith
 
 not_aborted : (s : Status) → is_over s ≡ false → is_aborted s ≡ false
-not_aborted Aborted lasts = absurd (cc)
-not_aborted _ lasts = refl
+not_aborted s lasts = grind arith
 
 -- a thread's live transaction has not ended
 pub text_of_live : (thread : ℕ) (ts : List Txn) → is_ended (text_of (live_of thread ts)) ≡ false
 text_of_live thread [] = refl
-text_of_live thread (t ∷ ts) =
-    elim (cases_Bool ((t.thread == thread) && not (is_ended t.text))) [
-      | inl here ↦ rw here (open_from (is_ended t.text) (and_parts (t.thread == thread) _ here).1)
-      | inr past ↦ rw past (text_of_live thread ts)
-    ]
-  where
-    open_from : (b : Bool) → not b ≡ true → b ≡ false
-    open_from true is = absurd (cc)
-    open_from false is = refl
+text_of_live thread (t ∷ ts) = grind (arith, (text_of_live thread ts))
 
 pub committed-add : (place : ℕ) (e : Event) (ts : List Txn)
     → count_by (λ t. is_committed (status_of t.text)) (add_event place e ts)
@@ -66,8 +50,7 @@ committed-add place e ts =
     let text = text_of (live_of e.thread.number ts) in
     let old = ap one_if (not_committed (status_of text) (text_of_live e.thread.number ts)) in
     let new = ap one_if (ap is_committed (status_of-push text e.kind) ∙ committed-after e.kind) in
-    let all = count_text-add (λ ks. is_committed (status_of ks)) refl place e ts in
-    omega (arith, all, old, new)
+    let all = count_text-add (λ ks. is_committed (status_of ks)) refl place e ts in grind arith
 
 pub aborted-add : (place : ℕ) (e : Event) (ts : List Txn)
     → count_by (λ t. is_aborted (status_of t.text)) (add_event place e ts)
@@ -76,17 +59,14 @@ aborted-add place e ts =
     let text = text_of (live_of e.thread.number ts) in
     let old = ap one_if (not_aborted (status_of text) (text_of_live e.thread.number ts)) in
     let new = ap one_if (ap is_aborted (status_of-push text e.kind) ∙ aborted-after e.kind) in
-    let all = count_text-add (λ ks. is_aborted (status_of ks)) refl place e ts in
-    omega (arith, all, old, new)
+    let all = count_text-add (λ ks. is_aborted (status_of ks)) refl place e ts in grind arith
 
 -- the pending call is the text's last event
 last_call : (text : List Kind) (c : Kind) → call_of text ≡ Some c → slice_get text (length text - 1) ≡ Some c
 last_call [] c is = absurd (cc)
 last_call (d ∷ []) c is = is
 last_call (d ∷ a ∷ []) c is = absurd (cc)
-last_call (d ∷ a ∷ b ∷ more) c is =
-    let at : length (d ∷ a ∷ b ∷ more) - 1 ≡ suc (suc (length (b ∷ more) - 1)) = omega arith in
-    rw at (last_call (b ∷ more) c is)
+last_call (d ∷ a ∷ b ∷ more) c is = grind (arith, (last_call (b ∷ more) c is))
 
 get_front : (text : List Kind) (k : Kind) (i : ℕ) → suc i ≤ length text → slice_get (text ++ k ∷ []) i ≡ slice_get text i
 get_front [] k i within = absurd (omega (arith, within))
@@ -96,28 +76,10 @@ get_front (c ∷ text) k (suc i) within = get_front text k i (omega (arith, with
 -- where a call is pending, the last but one event of its text and the answer is the call
 pub asked-push : (text : List Kind) (c k : Kind) → call_of text ≡ Some c
     → slice_get (text ++ k ∷ []) (length (text ++ k ∷ []) - 2) ≡ Some c
-asked-push text c k is =
-    let some : suc (length text - 1) ≤ length text = has_some text is in
-    let at : length (text ++ k ∷ []) - 2 ≡ length text - 1 = omega (arith, length-append text (k ∷ [])) in
-    rw at (get_front text k (length text - 1) some ∙ last_call text c is)
-  where
-    has_some : (text : List Kind) {c : Kind} → call_of text ≡ Some c → suc (length text - 1) ≤ length text
-    has_some [] is = absurd (cc)
-    has_some (d ∷ text) is = omega arith
+asked-push text c k is = grind (arith, length-append, get_front, last_call)
 
 request_is : (c : Kind) (asked : Bool) → (IsTrue asked ↔ (Some c ≡ Some X)) → is_request (Some c) ≡ asked
-request_is c asked tells =
-    elim (cases_Bool asked) [
-      | inl holds ↦ ap is_request (tells.0 holds) ∙ sym holds
-      | inr fails ↦ elim (cases_Bool (is_request (Some c))) [
-        | inl request ↦ absurd (both_ways asked fails (tells.1 (ap Some (only_X c request))))
-        | inr other ↦ other ∙ sym fails
-      ]
-    ]
-  where
-    only_X : (c : Kind) → is_request (Some c) ≡ true → c ≡ X
-    only_X X is = refl
-    only_X _ is = absurd (cc)
+request_is c asked tells = grind arith
 
 -- An abort event answers the pending call.
 pub unasked-after : (text : List Kind) (k : Kind) (asked : Bool)
@@ -145,7 +107,5 @@ pub unasked-add : (place : ℕ) (e : Event) (ts : List Txn) (asked : Bool)
 unasked-add place e ts asked answers tells =
     let text = text_of (live_of e.thread.number ts) in
     let lasts : is_aborted (status_of text) ≡ false = not_aborted (status_of text) (text_of_live e.thread.number ts) in
-    let old : is_unasked text ≡ false = rw lasts refl in
     let new = ap one_if (unasked-after text e.kind asked answers tells) in
-    let all = count_text-add is_unasked refl place e ts in
-    omega (arith, all, ap one_if old, new)
+    let all = count_text-add is_unasked refl place e ts in grind arith

@@ -31,22 +31,13 @@ grows-add place e (t ∷ ts) all has =
     ]
 
 open_of : (e : Event) (t : Txn) → joins e t ≡ true → is_ended t.text ≡ false
-open_of e t here = not_true_is (is_ended t.text) (and_parts (t.thread == e.thread.number) _ here).1
-  where
-    not_true_is : (b : Bool) → not b ≡ true → b ≡ false
-    not_true_is true is = absurd (cc)
-    not_true_is false is = refl
+open_of e t here = grind (arith, is_ended, and_parts)
 
 not_lt : (m n : ℕ) → n ≤ m → nat_lt m n ≡ false
-not_lt m n low =
-    elim (cases_Bool (nat_lt m n)) [
-      | inl is ↦ absurd (omega (arith, ltb-true m n is, low))
-      | inr is ↦ is
-    ]
+not_lt m n low = grind (arith, cases_Bool, nat_lt, ltb-true)
 
 and-false : (b : Bool) → (b && false) ≡ false
-and-false true = refl
-and-false false = refl
+and-false b = grind arith
 
 first_of : (place : ℕ) (e : Event) (t u : Txn) → Grows place e t u → u.first ≡ t.first
 first_of place e t u grows = elim grows.is [ inl same ↦ ap (λ (x : Txn). x.first) same | inr more ↦ ap (λ (x : Txn). x.first) more.1 ]
@@ -57,17 +48,7 @@ thread_of place e t u grows = elim grows.is [ inl same ↦ ap (λ (x : Txn). x.t
 -- which of two precedes the other stays as it was
 precedes-grows : (place : ℕ) (e : Event) (t t2 u u2 : Txn) → Grows place e t t2 → Grows place e u u2 → precedes t2 u2 ≡ precedes t u
 precedes-grows place e t t2 u u2 one two =
-    elim one.is [
-      | inl same ↦ ap (λ (x : Txn). precedes x u2) same ∙ ap (λ (n : ℕ). is_ended t.text && nat_lt t.last n) (first_of place e u u2 two)
-      | inr more ↦
-          let l = two.within in
-          let late : nat_lt place u.first ≡ false = not_lt place u.first (omega (arith, l.ordered, l.high)) in
-          let after : precedes (longer place e t) u2 ≡ false =
-          ap (λ (n : ℕ). is_ended (t.text ++ e.kind ∷ []) && nat_lt place n) (first_of place e u u2 two)
-          ∙ ap (λ (b : Bool). is_ended (t.text ++ e.kind ∷ []) && b) late ∙ and-false (is_ended (t.text ++ e.kind ∷ [])) in
-          let before : precedes t u ≡ false = ap (λ (b : Bool). b && nat_lt t.last u.first) (open_of e t more.0) in
-          ap (λ (x : Txn). precedes x u2) more.1 ∙ after ∙ sym before
-    ]
+    grind (arith, precedes, is_ended, nat_lt, not_lt, longer, and-false, open_of)
 
 overlap-grows : (place : ℕ) (e : Event) (t t2 u u2 : Txn) → Grows place e t t2 → Grows place e u u2 → overlap t2 u2 ≡ overlap t u
 overlap-grows place e t t2 u u2 one two =
@@ -115,9 +96,7 @@ apart-grows place e ts us goes_on pairs =
 
 -- where each has ended, none overlaps none and is live
 pub apart-none : (ts : List Txn) → count_by still ts ≡ 0 → count_by (is_apart ts) ts ≡ 0
-apart-none ts none =
-    let few = count-le (is_apart ts) still (λ t ended. ap (λ (b : Bool). b && not (overlaps_any ts t)) ended) ts in
-    omega (arith, few, none)
+apart-none ts none = grind (arith, count-le, is_apart, still, not, overlaps_any)
 
 count-filter : (p q : Txn → Bool) (ts : List Txn) → count_by (λ t. q t && p t) ts ≡ count_by p (filter q ts)
 count-filter p q [] = refl
@@ -133,45 +112,19 @@ count-filter p q (t ∷ ts) =
             count-cons p t (filter q ts),
             count-filter p q ts,
           )
-      | inr other ↦
-          let left : filter q (t ∷ ts) ≡ filter q ts = rw other refl in
-          omega (
-            arith,
-            count-cons (λ u. q u && p u) t ts,
-            ap (λ (b : Bool). one_if (b && p t)) other,
-            ap (count_by p) left,
-            count-filter p q ts,
-          )
+      | inr other ↦ cc (count-filter p q ts)
     ]
 
 few_still : (ts : List Txn) → IsTrue (ended_but_last ts) → count_by still ts ≤ 1
 few_still [] ended = omega arith
 few_still (t ∷ ts) ended =
-    elim (cases_Bool (is_ended t.text)) [
-      | inl over ↦ omega (arith, count-cons still t ts, ap (λ (b : Bool). one_if (not b)) over, few_still ts (ended_rest t ts ended))
-      | inr lasts ↦ rw (only_one t ts lasts ended) (omega (arith, count-one still t, one_if-le (still t)))
-    ]
+    let more = few_still ts (ended_rest t ts ended) in
+    grind (arith, cases_Bool, is_ended, count-cons, still, one_if, not, ended_rest, only_one, count-one)
 
 -- another thread's live one overlaps a live one
 meets-other : (th : ℕ) (t x : Txn) → t.thread ≡ th → is_ended t.text ≡ false → ((x.thread == th) && still x) ≡ false → still x ≡ true
     → overlap t x ≡ true
-meets-other th t x own lasts away live =
-    let apart : (x.thread == th) ≡ false = left_false (x.thread == th) (still x) away live in
-    let differ : (t.thread == x.thread) ≡ false = elim (cases_Bool (t.thread == x.thread)) [
-      | inl same ↦ absurd (both_ways (x.thread == th) apart (eq-eqb x.thread th (sym (eqb-true t.thread x.thread same) ∙ own)))
-      | inr is ↦ is
-    ] in
-    let over : is_ended x.text ≡ false = not_not (is_ended x.text) live in
-    rw (differ, lasts, over) refl
-  where
-    left_false : (a b : Bool) → (a && b) ≡ false → b ≡ true → a ≡ false
-    left_false true true is holds = is
-    left_false true false is holds = absurd (cc)
-    left_false false b is holds = refl
-
-    not_not : (b : Bool) → not b ≡ true → b ≡ false
-    not_not true is = absurd (cc)
-    not_not false is = refl
+meets-other th t x own lasts away live = grind arith
 
 some-meets : (th : ℕ) (t : Txn) → t.thread ≡ th → is_ended t.text ≡ false → (xs : List Txn)
     → count_by (λ x. (x.thread == th) && still x) xs < count_by still xs → overlaps_any xs t ≡ true
@@ -237,42 +190,32 @@ begins-add place e [] all = refl
 begins-add place e (t ∷ ts) all = add_event_past place e t ts all.0.past ∙ ap (λ (us : List Txn). t ∷ us) (begins-add place e ts all.1)
 
 not_and_true : (b : Bool) → (not (b && true) && true) ≡ not b
-not_and_true true = refl
-not_and_true false = refl
+not_and_true b = grind arith
 
 not_and_true2 : (b : Bool) → not (b && true) ≡ not b
-not_and_true2 true = refl
-not_and_true2 false = refl
+not_and_true2 b = grind arith
 
 -- the new one overlaps those that are live
 overlap-new : (place : ℕ) (e : Event) (t : Txn) → ends e.kind ≡ false → IsOld place e t → overlap t (begun place e) ≡ still t
-overlap-new place e t goes_on old =
-    let l = old.within in
-    let new_open : is_ended (e.kind ∷ []) ≡ false = is_ended-push [] e.kind ∙ goes_on in
-    let low : nat_lt t.last place ≡ true = lt-ltb t.last place (omega (arith, l.high)) in
-    elim (cases_Bool (t.thread == e.thread.number)) [
-      | inl own ↦
-          let over : still t ≡ false = rw own at old.past in
-          rw own (sym over)
-      | inr other ↦ rw (other, low, new_open) (not_and_true (is_ended t.text))
-    ]
+overlap-new place e t goes_on old = grind arith
 
 overlap-new_flip : (place : ℕ) (e : Event) (t : Txn) → ends e.kind ≡ false → IsOld place e t → overlap (begun place e) t ≡ still t
 overlap-new_flip place e t goes_on old =
-    let l = old.within in
-    let new_open : is_ended (e.kind ∷ []) ≡ false = is_ended-push [] e.kind ∙ goes_on in
-    let low : nat_lt t.last place ≡ true = lt-ltb t.last place (omega (arith, l.high)) in
-    elim (cases_Bool (e.thread.number == t.thread)) [
-      | inl own ↦
-          let same : (t.thread == e.thread.number) ≡ true = eq-eqb _ _ (sym (eqb-true e.thread.number t.thread own)) in
-          let over : still t ≡ false = rw same at old.past in
-          rw own (sym over)
-      | inr other ↦ rw (other, low, new_open) (not_and_true2 (is_ended t.text))
-    ]
+    grind (
+      arith,
+      is_ended,
+      is_ended-push,
+      nat_lt,
+      lt-ltb,
+      cases_Bool,
+      eq-eqb,
+      eqb-true,
+      still,
+      not_and_true2,
+    )
 
 or-false : (b : Bool) → (b || false) ≡ b
-or-false true = refl
-or-false false = refl
+or-false b = grind arith
 
 count-all : (All : Txn → Type 0) (p q : Txn → Bool) → ((t : Txn) → All t → p t ≡ q t) → (ts : List Txn) → AllByRecursion All ts
     → count_by p ts ≡ count_by q ts
@@ -289,9 +232,7 @@ any-all All p q same (t ∷ ts) all =
 any-old : (place : ℕ) (e : Event) (ts : List Txn) (t : Txn) → ends e.kind ≡ false → IsOld place e t
     → overlaps_any (ts ++ begun place e ∷ []) t ≡ (overlaps_any ts t || still t)
 any-old place e ts t goes_on old =
-    list_any-append (overlap t) ts (begun place e ∷ [])
-    ∙ ap (λ (b : Bool). overlaps_any ts t || (b || false)) (overlap-new place e t goes_on old)
-    ∙ ap (λ (b : Bool). overlaps_any ts t || b) (or-false (still t))
+    grind (arith, list_any-append, overlap, begun, overlaps_any, overlap-new, or-false, still)
 
 any-new : (place : ℕ) (e : Event) (ts : List Txn) → ends e.kind ≡ false → AllByRecursion (IsOld place e) ts
     → overlaps_any (ts ++ begun place e ∷ []) (begun place e) ≡ list_any still ts
@@ -299,18 +240,22 @@ any-new place e ts goes_on all =
     let itself : overlap (begun place e) (begun place e) ≡ false =
     ap (λ (b : Bool). not b && (not (precedes (begun place e) (begun place e)) && not (precedes (begun place e) (begun place e))))
     (eq-eqb e.thread.number e.thread.number refl) in
-    list_any-append (overlap (begun place e)) ts (begun place e ∷ [])
-    ∙ ap (λ (b : Bool). list_any (overlap (begun place e)) ts || (b || false)) itself
-    ∙ or-false (list_any (overlap (begun place e)) ts)
-    ∙ any-all (IsOld place e) (overlap (begun place e)) still (λ t old. overlap-new_flip place e t goes_on old) ts all
+    grind (
+      arith,
+      list_any-append,
+      overlap,
+      begun,
+      list_any,
+      or-false,
+      any-all,
+      still,
+      overlap-new_flip,
+    )
 
 others-any : (ts : List Txn) (others : Bool) → (others ≡ true → 0 < count_by still ts) → (others ≡ false → count_by still ts ≡ 0)
     → list_any still ts ≡ others
 others-any ts others some none =
-    elim (cases_Bool others) [
-      | inl holds ↦ any-count still ts (some holds) ∙ sym holds
-      | inr fails ↦ none-count still ts (none fails) ∙ sym fails
-    ]
+    grind (arith, cases_Bool, any-count, still, none-count)
 
 -- how many overlap another once one more has begun
 pub overlapping-begins : (place : ℕ) (e : Event) (ts : List Txn) (others apart : Bool) → ends e.kind ≡ false → AllByRecursion (IsOld place e) ts

@@ -1,5 +1,5 @@
 -- How wide the widest window of a history is, and that it can be told whether it has a window of more than so many transactions.
-use Rattle.tmw_counts.proofs.Shared.{Counts, Event, HasCounts, HasWide, IsLastCut, List, [], append-nil, append_assoc, arith, between, cases_Bool, cases_lt, inl, inr, is_cut, length, refl, subst, suc, sym, zero, ℕ, ◌++◌, ◌+◌, ◌<◌, ◌↔◌, ◌∷◌, ◌≡◌, ◌≤◌, ◌⊎◌}
+use Rattle.tmw_counts.proofs.Shared.{Counts, Event, HasCounts, HasWide, IsLastCut, List, [], append-nil, append_assoc, arith, cases_Bool, inl, inr, is_cut, length, refl, subst, sym, ℕ, ◌++◌, ◌+◌, ◌<◌, ◌↔◌, ◌∷◌, ◌≤◌, ◌⊎◌}
 use Rattle.std.proofs.Math.Bridge.{le_prop}
 use Rattle.std.proofs.Math.Bool.{Bool-set}
 use Rattle.std.proofs.Math.Nat.{ℕ_set}
@@ -25,17 +25,8 @@ widest_from past [] w = subst (λ (xs : List Event). Widest xs) (sym (append-nil
 widest_from past (e ∷ es) w =
     subst (λ (xs : List Event). Widest xs) (append_assoc past (e ∷ []) es) (widest_from (past ++ e ∷ []) es (widest_then past e w))
 
-abbrev no_events : List Event
-no_events = []
-
 none_wide : (n : ℕ) → HasWide n [] → ⊥
-none_wide n w = (let wide = rw (nothing_between w.from w.upto) at w.wide in omega (arith, wide))
-  where
-    nothing_between : (from upto : ℕ) → between from upto no_events ≡ []
-    nothing_between zero zero = refl
-    nothing_between zero (suc upto) = refl
-    nothing_between (suc from) zero = refl
-    nothing_between (suc from) (suc upto) = refl
+none_wide n w = grind arith
 
 widest_none : Widest []
 widest_none = record {
@@ -48,11 +39,7 @@ widest_none = record {
 -- whether a window has more than so many transactions can be told
 wide_or_not : (n : ℕ) (h : List Event) → HasWide n h ⊎ (HasWide n h → ⊥)
 wide_or_not n h =
-    let w = widest_from [] h widest_none in
-    elim (cases_lt n w.most) [
-      | inl less ↦ inl ((w.is n).1 less)
-      | inr past ↦ inr (λ wide. (let less = (w.is n).0 wide in omega (arith, past, less)))
-    ]
+    let w = widest_from [] h widest_none in grind arith
 
 -- so it is enough that there is a proof that the counts are the history's
 counts_known : (h : List Event) (counts : Counts) → ∥ HasCounts h counts ∥₁ → HasCounts h counts

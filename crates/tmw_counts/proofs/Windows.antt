@@ -1,26 +1,19 @@
 -- The cuts and the widest window of a history, with one event more.
-use Rattle.tmw_counts.proofs.Shared.{Event, HasWide, HasWide-open, HasWide_push, IsCutAt, IsCutAt-push, IsCutAt_push, IsFalse, IsLastCut, IsLastCut-open, IsTrue, List, [], ap, arith, cases_lt, count_by, drop, inl, inr, is_cut, is_cut-push, is_some, length, length-add, length-push, live_of, map, map-append, max, one_if, prefixes, refl, subst, sym, take, take-append-drop-push, take-push, take_all, take_all-push, transactions, transactions-push, ℕ, ◌++◌, ◌+◌, ◌-◌, ◌<◌, ◌↔◌, ◌∙◌, ◌∷◌, ◌≡◌, ◌≤◌}
-use Rattle.tmw_counts.proofs.Sums.{count-append, count-one, one_if-le}
+use Rattle.tmw_counts.proofs.Shared.{Event, HasWide, HasWide-open, HasWide_push, IsCutAt, IsCutAt-push, IsCutAt_push, IsFalse, IsLastCut, IsLastCut-open, IsTrue, List, [], ap, arith, cases_lt, count_by, drop, inl, inr, is_cut, is_cut-push, length, length-add, length-push, map-append, max, one_if, prefixes, refl, subst, sym, take, take-append-drop-push, take-push, take_all, take_all-push, transactions, transactions-push, ℕ, ◌++◌, ◌+◌, ◌-◌, ◌<◌, ◌↔◌, ◌∙◌, ◌∷◌, ◌≡◌, ◌≤◌}
+use Rattle.tmw_counts.proofs.Sums.{count-append}
 use Rattle.tmw_cuts.proofs.AcrossCuts.{length-transactions_cut}
 
 prefixes-push : (h : List Event) (e : Event) → prefixes (h ++ e ∷ []) ≡ prefixes h ++ (h ++ e ∷ []) ∷ []
 prefixes-push [] e = refl
-prefixes-push (x ∷ xs) e =
-    ap (λ (ps : List (List Event)). (x ∷ []) ∷ map (λ es. x ∷ es) ps) (prefixes-push xs e)
-    ∙ ap (λ (ps : List (List Event)). (x ∷ []) ∷ ps) (map-append (λ (es : List Event). x ∷ es) (prefixes xs) ((xs ++ e ∷ []) ∷ []))
+prefixes-push (x ∷ xs) e = grind (arith, map-append, (prefixes-push xs e))
 
 pub cuts-push : (h : List Event) (e : Event)
     → count_by is_cut (prefixes (h ++ e ∷ [])) ≡ count_by is_cut (prefixes h) + one_if (is_cut (h ++ e ∷ []))
-cuts-push h e =
-    ap (count_by is_cut) (prefixes-push h e) ∙ count-append is_cut (prefixes h) ((h ++ e ∷ []) ∷ [])
-    ∙ ap (λ n. count_by is_cut (prefixes h) + n) (count-one is_cut (h ++ e ∷ []))
+cuts-push h e = grind (arith, prefixes-push, count-append)
 
 -- a history has no fewer transactions with one event more, and at most one more
 pub transactions-more : (h : List Event) (e : Event) → length (transactions h) ≤ length (transactions (h ++ e ∷ []))
-transactions-more h e =
-    let grown = ap length (transactions-push h e) in
-    let counted = length-add (length h) e (transactions h) in
-    omega (arith, grown, counted, one_if-le (is_some (live_of e.thread.number (transactions h))))
+transactions-more h e = grind (arith, transactions-push, length-add)
 
 -- the open window's transactions, with the event
 pub open-count : (c : ℕ) (h : List Event) (e : Event) → IsLastCut h c
@@ -52,17 +45,10 @@ HasWide-end most c h e last w end =
     let within = last.is.0 in
     elim (cases_lt c (length h)) [
       | inr full ↦
-          let at : c ≡ length h = omega (arith, full, within) in
+          let at : c ≡ length h = omega arith in
           HasWide-closed most h e w (subst (λ (n : ℕ). IsCutAt h n) (at ∙ sym end) last.is)
       | inl lasts ↦
-          let order = w.window.order in
-          let from : w.from ≡ c = elim (cases_lt c w.from) [
-            | inl later ↦ absurd (last.last w.from later w.window.opens)
-            | inr least ↦ elim (cases_lt w.from c) [
-              | inl earlier ↦ absurd (w.window.inside c earlier (omega (arith, end, lasts)) last.is)
-              | inr greatest ↦ omega (arith, least, greatest)
-            ]
-          ] in
+          let from : w.from ≡ c = grind (arith, cases_lt) in
           let all : take (length h) h ≡ h = take_all (length h) h (omega arith) in
           let wide : most < length (transactions (drop c h)) = rw (end, from, all) at w.wide in
           let more = transactions-more (drop c h) e in
@@ -95,7 +81,4 @@ pub last-uncut : (c : ℕ) (h : List Event) (e : Event) → IsLastCut h c → Is
 last-uncut c h e last uncut = IsLastCut-open c h e last (sym (is_cut-push c h e last.is) ∙ uncut)
 
 pub last-cut : (h : List Event) (e : Event) → IsTrue (is_cut (h ++ e ∷ [])) → IsLastCut (h ++ e ∷ []) (length h + 1)
-last-cut h e cut = record {
-  is = ((let same = length-push h e in omega (arith, same)), rw (take_all-push h e) cut);
-  last = λ at after is. (let within = is.0 in let same = length-push h e in omega (arith, within, same, after));
-}
+last-cut h e cut = grind (arith, length-push, take_all-push)

@@ -3,9 +3,8 @@ use Rattle.tmw_cuts.proofs.Shared.{Event, IsLater, IsTrue, List, Pairs, [], ap, 
 
 length-pairs : {A B : Type 0} (Rel : A → B → Type 0) (xs : List A) (ys : List B) → Pairs Rel xs ys → length xs ≡ length ys
 length-pairs Rel [] [] pairs = refl
-length-pairs Rel [] (y ∷ ys) pairs = absurd pairs
-length-pairs Rel (x ∷ xs) [] pairs = absurd pairs
 length-pairs Rel (x ∷ xs) (y ∷ ys) pairs = ap (λ n. suc n) (length-pairs Rel xs ys pairs.1)
+length-pairs Rel _ _ pairs = absurd pairs
 
 -- how many transactions a history has with a cut in it
 pub length-transactions_cut : (past rest : List Event) → IsTrue (is_cut past)

@@ -1,5 +1,5 @@
 -- What an effect has to tell with an operation more, and what is left of an add where it is an answer and then a write.
-use Rattle.tmw_cuts.proofs.Shared.{Add, Bool, Effect, IsEffectOf, IsMaskOf, Ix, List, Op, Read, SumsUp, Write, [], and-true, bit_at, cases_Bool, eq-eqb, if◌then◌else◌, inl, inr, length, refl, slice_index, slice_set, sym, writes, ℕ, ◌%◌, ◌&&◌, ◌++◌, ◌+◌, ◌==◌, ◌^◌, ◌||◌, ◌∙◌, ◌∷◌, ◌≡◌}
+use Rattle.tmw_cuts.proofs.Shared.{Add, Effect, IsEffectOf, IsMaskOf, Ix, List, Op, Read, SumsUp, Write, [], and-true, bit_at, cases_Bool, eq-eqb, false, if◌then◌else◌, inl, inr, length, refl, slice_index, set-get_or, slice_set, sym, true, writes, ℕ, ◌%◌, ◌&&◌, ◌++◌, ◌+◌, ◌==◌, ◌^◌, ◌∙◌, ◌∷◌, ◌≡◌}
 use Rattle.tmw_cuts.proofs.Chosen.{with_bit, with_new, with_bit-has}
 use Rattle.tmw_cuts.proofs.Effects.{add-split, read-left, read-needed, read-first}
 use Rattle.tmw_cuts.proofs.WrittenMore.{with-write, needs-write, writes-read, with-read, writes-add, needs-add}
@@ -11,31 +11,26 @@ with_read e f ops r v is left needed sums = (sums, (written, rw needed (with-rea
     written : IsMaskOf (λ k. writes k (ops ++ Read r v ∷ [])) f.left
     written k = rw left (is.1.0 k ∙ sym (writes-read ops r v k))
 
--- What the operations tell of the register, where they tell of it: what they leave in it, or else what they need there.
-abbrev pub known_of : Effect → ℕ → ℕ → ℕ
-known_of e r v = if bit_at e.left r == 1 then slice_index e.leaves r else (if bit_at e.needed r == 1 then slice_index e.needs r else v)
+-- an answer of a register that the operations leave a value in
+pub with_own : (e : Effect) (ops : List Op) (r : Ix) (v : ℕ) → IsEffectOf e ops → length e.leaves ≡ 8 → (bit_at e.left r.number == 1) ≡ true
+    → IsEffectOf (record e { agrees = e.agrees && (slice_index e.leaves r.number == v) }) (ops ++ Read r v ∷ [])
+with_own e ops r v is leaves own =
+    with_read e _ ops r v is refl (rw own refl) (λ s long. read-left e ops r v is.0 s long leaves own)
 
-abbrev pub is_known : Effect → ℕ → Bool
-is_known e r = (bit_at e.left r == 1) || (bit_at e.needed r == 1)
-
-module _ (e f : Effect) (ops : List Op) (r : Ix) (v : ℕ) (is : IsEffectOf e ops) (leaves : length e.leaves ≡ 8) (needs : length e.needs ≡ 8)
-    (f_left : f.left ≡ e.left) (f_leaves : f.leaves ≡ e.leaves)
-    (f_agrees : f.agrees ≡ (e.agrees && (known_of e r.number v == v))) (f_needed : f.needed ≡ with_new e.left e.needed r.number)
-    (f_needs : f.needs ≡ (if is_known e r.number then e.needs else slice_set e.needs r.number v)) where
-  sums_up : SumsUp f (ops ++ Read r v ∷ [])
-  sums_up s long =
-      elim (cases_Bool (bit_at e.left r.number == 1)) [
-        | inl own ↦ rw (f_left, f_leaves, f_agrees, f_needed, f_needs, own) (read-left e ops r v is.0 s long leaves own)
-        | inr unwritten ↦ elim (cases_Bool (bit_at e.needed r.number == 1)) [
-          | inl asked ↦ rw (f_left, f_leaves, f_agrees, f_needed, f_needs, unwritten, asked, with_bit-has e.needed r.number r.below asked)
-              (read-needed e ops r v is.0 s long leaves needs unwritten asked)
-          | inr new ↦ rw (f_left, f_leaves, f_agrees, f_needed, f_needs, unwritten, new, eq-eqb v v refl, and-true e.agrees)
-              (read-first e ops r v is.0 s long leaves needs unwritten new)
-        ]
-      ]
-
-  pub with_answer : IsEffectOf f (ops ++ Read r v ∷ [])
-  with_answer = with_read e f ops r v is f_left f_needed sums_up
+-- an answer of another: the value is known that an answer before needs, or else this one
+pub with_other : (e : Effect) (ops : List Op) (r : Ix) (v known : ℕ) → IsEffectOf e ops → length e.leaves ≡ 8 → length e.needs ≡ 8
+    → (bit_at e.left r.number == 1) ≡ false → known ≡ (if bit_at e.needed r.number == 1 then slice_index e.needs r.number else v)
+    → IsEffectOf (record e {
+      agrees = e.agrees && (known == v);
+      needed = with_bit e.needed r.number;
+      needs = slice_set e.needs r.number known;
+    }) (ops ++ Read r v ∷ [])
+with_other e ops r v known is leaves needs unwritten is_known =
+    with_read e _ ops r v is refl (rw unwritten refl) (λ s long. elim (cases_Bool (bit_at e.needed r.number == 1)) [
+      | inl asked ↦ rw (is_known, asked, with_bit-has e.needed r.number r.below asked, set-get_or e.needs r.number 0)
+          (read-needed e ops r v is.0 s long leaves needs unwritten asked)
+      | inr new ↦ rw (is_known, new, eq-eqb v v refl, and-true e.agrees) (read-first e ops r v is.0 s long leaves needs unwritten new)
+    ])
 
 pub with_write : (e f : Effect) (ops : List Op) (r : Ix) (v : ℕ) → IsEffectOf e ops → f.left ≡ with_bit e.left r.number
     → f.needed ≡ e.needed → SumsUp f (ops ++ Write r v ∷ []) → IsEffectOf f (ops ++ Write r v ∷ [])

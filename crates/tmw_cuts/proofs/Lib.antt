@@ -6,10 +6,8 @@ pub mod Effects
 mod EffectSteps
 pub mod FirstMembers
 pub mod Following
-pub mod Found
 pub mod Masks
 pub mod Moves
-pub mod OpenOnes
 mod Shared
 pub mod Pushes
 pub mod Rising

@@ -1,5 +1,5 @@
 -- Which events a thread's pending call lets go on, and what the others are refused for.
-use Rattle.tmw_cuts.proofs.Shared.{Answer, Ask, Begin, Bool, Busy, End, Err, Idle, Ix, Kind, Malformed, Mismatch, Move, None, Ok, Option, Rejects, Some, [], after_call, answers, answers_asked, asks, call_in, cases_Bool, false, goes_on, inl, inr, is_call_answer, is_call_asked, is_over, lacks_register, move_of, numbered, operation, option_map, refl, status_after, true, ℕ, ◌∷◌, ◌≡◌}
+use Rattle.tmw_cuts.proofs.Shared.{arith, Answer, Ask, Begin, Bool, End, Err, Idle, Ix, Kind, Malformed, Move, None, Ok, Option, Rejects, Some, [], after_call, answers, answers_asked, asks, call_in, false, goes_on, is_call_answer, is_call_asked, is_over, lacks_register, move_of, numbered, operation, option_map, refl, status_after, true, ℕ, ◌∷◌, ◌≡◌}
 use Rattle.tmw_events.specs.declared.event.Kind.TheVariants.{R, V, W, K, T, C, X, A, N}
 
 abbrev pub ends_at : Kind → Bool
@@ -7,9 +7,7 @@ ends_at k = is_over (status_after (Some k))
 
 -- a call does not end its transaction
 pub asked_on : (k : Kind) → asks k ≡ true → ends_at k ≡ false
-asked_on C h = cc
-asked_on A h = cc
-asked_on _ h = refl
+asked_on k h = grind arith
 
 -- What a move says of the event.
 abbrev pub Means : Option (Ix × Option Kind) → Kind → Move → Type 0
@@ -36,33 +34,9 @@ means_move p _ _ h = cc
 
 pub accepts : (registers : ℕ) (f : Option (Ix × Option Kind)) (k : Kind) (m : Move) → lacks_register registers k ≡ false → after_call f k ≡ Ok m
     → Is registers f k m
-accepts registers None k m has is =
-    elim (cases_Bool (asks k)) [
-      | inl call ↦
-          let to : Ok Begin ≡ Ok m = rw call at is in
-          let same : Begin ≡ m = cc in
-          rw (← same) (record { goes = is_call_asked registers k call has; is = (refl, call) })
-      | inr answer ↦ let to = rw answer at is in cc
-    ]
-accepts registers (Some (p, None)) k m has is =
-    elim (cases_Bool (asks k)) [
-      | inl call ↦
-          let to : Ok (Ask p) ≡ Ok m = rw call at is in
-          let same : Ask p ≡ m = cc in
-          rw (← same) (record { goes = is_call_asked registers k call has; is = (refl, call) })
-      | inr answer ↦ let to = rw answer at is in cc
-    ]
-accepts registers (Some (p, Some c)) k m has is =
-    elim (cases_Bool (asks k)) [
-      | inl call ↦ let to = rw call at is in cc
-      | inr answer ↦ elim (cases_Bool (answers c k)) [
-        | inl fits ↦
-            let to : Ok (move_of p (operation c k)) ≡ Ok m = rw (answer, fits) at is in
-            let same : move_of p (operation c k) ≡ m = cc in
-            rw (← same) (record { goes = fits; is = means_move p c k fits })
-        | inr misses ↦ let to = rw (answer, misses) at is in cc
-      ]
-    ]
+accepts registers None k m has is = grind (arith, (is_call_asked registers k))
+accepts registers (Some (p, None)) k m has is = grind (arith, (is_call_asked registers k))
+accepts registers (Some (p, Some c)) k m has is = grind (arith, (means_move p c k))
 
 idle : (registers : ℕ) (k : Kind) (fault : Malformed) → lacks_register registers k ≡ false → asks k ≡ false → Idle ≡ fault
     → Rejects registers None k fault
@@ -71,21 +45,4 @@ idle registers k fault has answer same =
 
 pub rejects : (registers : ℕ) (f : Option (Ix × Option Kind)) (k : Kind) (fault : Malformed) → lacks_register registers k ≡ false → after_call f k ≡ Err fault
     → Rejects registers (call_in (option_map numbered f)) k fault
-rejects registers None k fault has is =
-    elim (cases_Bool (asks k)) [ inl call ↦ let to = rw call at is in cc | inr answer ↦ let to = rw answer at is in idle registers k fault has answer (let same : Idle ≡ fault = cc in same) ]
-rejects registers (Some (p, None)) k fault has is =
-    elim (cases_Bool (asks k)) [ inl call ↦ let to = rw call at is in cc | inr answer ↦ let to = rw answer at is in idle registers k fault has answer (let same : Idle ≡ fault = cc in same) ]
-rejects registers (Some (p, Some c)) k fault has is =
-    elim (cases_Bool (asks k)) [
-      | inl call ↦
-          let to = rw call at is in
-          let same : Busy ≡ fault = cc in
-          rw (← same) (record { stops = answers_asked c k call; here = rw call refl; first = rw has refl })
-      | inr answer ↦ elim (cases_Bool (answers c k)) [
-        | inl fits ↦ let to = rw (answer, fits) at is in cc
-        | inr misses ↦
-            let to = rw (answer, misses) at is in
-            let same : Mismatch ≡ fault = cc in
-            rw (← same) (record { stops = misses; here = rw (answer, misses) refl; first = rw (has, answer) refl })
-      ]
-    ]
+rejects registers f k fault has is = grind (arith, is_call_answer, answers_asked)

@@ -1,5 +1,6 @@
 -- Lists that rise strictly in a total order: what a binary search finds in one, and what one element more makes of it.
 use Rattle.tmw_cuts.proofs.Shared.{AllByRecursion, CmpEqualImpliesEq, Contains, Err, IsBinarySearchResult, IsNonDecreasingBy, IsPartitionPoint, IsSearchInRange, IsStrictlySortedBy, IsTrue, List, Ok, Result, [], ap, arith, cases_lt, drop, get_or, inl, inr, insert, is_ok, length, refl, suc, sym, take, take-append-drop, tied_itself, zero, ℕ, ◌++◌, ◌+◌, ◌<◌, ◌↔◌, ◌∙◌, ◌∷◌, ◌≡◌, ◌≤◌, ◌⊎◌}
+use Rattle.std.proofs.lemmas.List.Edits.{insert_end}
 use Rattle.std.proofs.lemmas.List.Elements.{Contains-append_cases, Contains-append_left, Contains-append_right}
 use Rattle.std.specs.declared.cmp.Ordering.{Ordering}
 use Rattle.std.specs.declared.cmp.Ordering.TheVariants.{Less, Equal, Greater}
@@ -23,9 +24,7 @@ all_insert P (y ∷ ys) zero x here all = (here, all)
 all_insert P (y ∷ ys) (suc i) x here all = (all.0, all_insert P ys i x here all.1)
 
 most : (r : Ordering) → ordering_index r ≤ 2
-most Less = omega arith
-most Equal = omega arith
-most Greater = omega arith
+most r = grind arith
 
 -- a list with one element more has that and its own
 pub Contains-insert : {K : Type 0} (xs : List K) (i : ℕ) (x s : K) → Contains (insert xs i x) s ↔ ((s ≡ x) ⊎ Contains xs s)
@@ -47,18 +46,12 @@ Contains-insert xs i x s =
       ],
     )
 
-all_push : {K : Type 0} (P : K → Type 0) (xs : List K) (x : K) → P x → AllByRecursion P xs → AllByRecursion P (xs ++ x ∷ [])
-all_push P [] x here all = (here, tt)
-all_push P (y ∷ ys) x here all = (all.0, all_push P ys x here all.1)
-
 module _ {K : Type 0} {R : K → K → Ordering} (o : IsTotalOrder R) where
   -- of a smaller one and a greater one, how each compares to a third
   index_rises : (x a b : K) → R a b ≡ Less → (r : Ordering) → R b x ≡ r → ordering_index (R a x) ≤ ordering_index r
   index_rises x a b less Less is = rw (o.trans a b x less is) (omega arith)
   index_rises x a b less Equal is =
-      let turned : R a x ≡ Less = o.antisymm a x ∙ ap ordering_reverse (o.congr x b a (o.antisymm x b ∙ ap ordering_reverse is)
-      ∙ o.antisymm b a ∙ ap ordering_reverse less) in
-      rw turned (omega arith)
+      grind (arith, (o.antisymm a x), (o.congr x b a), (o.antisymm x b), (o.antisymm b a))
   index_rises x a b less Greater is = most (R a x)
 
   non_decreasing : (x : K) (xs : List K) → IsStrictlySortedBy R xs → IsNonDecreasingBy (λ y. ordering_index (R y x)) xs
@@ -97,15 +90,14 @@ module _ {K : Type 0} {R : K → K → Ordering} (o : IsTotalOrder R) where
       let rest = above_all d (z ∷ zs) x rising.1 (λ i is. last (suc i) (omega arith)) in
       (o.trans y z x rising.0.0 rest.0, rest)
 
-  push_rising : (xs : List K) (x : K) → IsStrictlySortedBy R xs → AllByRecursion (λ y. R y x ≡ Less) xs → IsStrictlySortedBy R (xs ++ x ∷ [])
-  unfolding IsStrictlySortedBy
-  push_rising [] x rising above = (tt, tt)
-  push_rising (y ∷ ys) x rising above = (all_push (λ z. R y z ≡ Less) ys x above.0 rising.0, push_rising ys x rising.1 above.1)
-
   -- and leaves it rising at its end
   pub IsStrictlySortedBy-push : (d : K) (xs : List K) (x : K) → IsStrictlySortedBy R xs
       → ((i : ℕ) → i + 1 ≡ length xs → R (get_or xs i d) x ≡ Less) → IsStrictlySortedBy R (xs ++ x ∷ [])
-  IsStrictlySortedBy-push d xs x rising last = push_rising xs x rising (above_all d xs x rising last)
+  IsStrictlySortedBy-push d xs x rising last =
+      rw (← insert_end xs x) (IsStrictlySortedBy-insert xs (length xs) x rising (
+        λ k e low high. all_at (λ y. R y x ≡ Less) xs k e (above_all d xs x rising last) high,
+        λ k e low high. absurd (omega (arith, low, high)),
+      ))
 
   -- the place that a search answers for one that is not there
   pub place_by_search : (xs found : List K) (x : K) (i : ℕ) → found ≡ xs → IsStrictlySortedBy R xs

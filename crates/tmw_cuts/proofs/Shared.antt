@@ -10,7 +10,7 @@ pub use Rattle.std.proofs.lemmas.List.Folds.{list_all-append, list_all-map}
 pub use Rattle.std.proofs.lemmas.Map.Lookups.{CmpEqualImpliesEq, exact_bytes}
 pub use Rattle.std.proofs.lemmas.Nat.Bits.{bit_at-suc, bit_at-trailing_zeros, bit_at-zero, bit_at_above, bit_at_lowest, bit_at_set_other, bit_at_set_same, same_from_bits}
 pub use Rattle.std.specs.Int.{bit_at}
-pub use Rattle.std.specs.List.{AllByRecursion, Contains, insert, list_all, list_any, position_or_len, range_with_len}
+pub use Rattle.std.specs.List.{AllByRecursion, Contains, insert, list_all, range_with_len}
 pub use Rattle.std.specs.List.Sorted.{IsBinarySearchResult, IsNonDecreasingBy, IsPartitionPoint, IsSearchInRange}
 unfoldable pub use Rattle.std.specs.List.Sorted.{IsStrictlySortedBy}
 pub use Rattle.std.specs.Prelude.{IfErr, if◌then◌else◌, is_ok, nat_lt, option_and_then, option_map, slice_get, slice_index, slice_set}
@@ -32,12 +32,11 @@ pub use Rattle.tmw_wellformed.specs.Faults.{Refuses, asks, lacks_register}
 pub use Rattle.tmw_wellformed.specs.Pending.{call_of, live_of, next_call, pending_call}
 pub use Rattle.tmw_wellformed.specs.declared.malformed.Malformed.{Malformed}
 pub use Rattle.tmw_wellformed.specs.declared.malformed.Malformed.TheVariants.{Busy, Idle, Mismatch, Register}
-pub use Rattle.tmw_cuts.specs.Descriptors.{Descriptor, answered_ops, completed_in, is_open_for, new_descriptor, next_descriptor, push_descriptors, view_in}
 pub use Rattle.tmw_cuts.specs.Effects.{IsEffectOf, SumsUp}
 pub use Rattle.tmw_cuts.specs.Registers.{IsMaskOf, have, put}
 unfoldable pub use Rattle.tmw_cuts.specs.Registers.{chosen}
-pub use Rattle.tmw_cuts.specs.Standing.{Follows, IsNext, StandsFor, before_of, begun_by, calls_in, count_of, descriptor_of, descriptors_of, is_end, turn_at, txns_of, view_of, views, views_of}
-pub use Rattle.tmw_cuts.specs.Turns.{Found, after_call, call_in, change, find_open, found_after, found_in, further, kept_in, move_of, numbered, ops_of, place_of, views_after}
+pub use Rattle.tmw_cuts.specs.Standing.{Follows, IsNext, StandsFor, before_of, begun_by, calls_in, count_of, is_end, turn_at, txns_of, view_of, views, views_of}
+pub use Rattle.tmw_cuts.specs.Turns.{Found, after_call, answered_ops, call_in, change, find_open, found_after, found_in, further, is_open_for, kept_in, move_of, numbered, ops_of, place_of, views_after}
 pub use Rattle.tmw_cuts.specs.Views.{View, bit, completed_mask, new_view, next_view, view, with_status}
 pub use Rattle.tmw_cuts.specs.Written.{needs, writes}
 pub use Rattle.tmw_cuts.specs.declared.effect.Effect.{Effect}

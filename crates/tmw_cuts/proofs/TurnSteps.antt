@@ -1,130 +1,107 @@
--- What one event more makes of what is found of a thread, and of what is shown of the transactions.
-use Rattle.tmw_cuts.proofs.Shared.{Bool, Descriptor, Event, Found, Kind, List, None, Some, Txn, View, [], and_parts, ap, arith, call_in, call_of, cases_Bool, descriptor_of, descriptors_of, eq-eqb, eqb-true, false, find_open, found_after, further, if◌then◌else◌, inl, inr, is_ended, is_open_for, is_over, length, list_any, live_of, map, new_descriptor, next_descriptor, not, option_and_then, option_map, or_parts, pending_call, position_or_len, push_descriptors, refl, status_after, suc, sym, transactions, true, view_in, views_after, ℕ, ◌&&◌, ◌+◌, ◌==◌, ◌∙◌, ◌∷◌, ◌≡◌}
-use Rattle.tmw_cuts.proofs.Found.{push_descriptors_here, push_descriptors_past}
-use Rattle.tmw_cuts.proofs.OpenOnes.{Alone}
-
-pub find_here : (t : ℕ) (v : Descriptor) (vs : List Descriptor) → is_open_for t v ≡ true → find_open t (v ∷ vs) ≡ Some (0, v.call)
-find_here t v vs here = rw here refl
-
-pub find_past : (t : ℕ) (v : Descriptor) (vs : List Descriptor) → is_open_for t v ≡ false → find_open t (v ∷ vs) ≡ option_map further (find_open t vs)
-find_past t v vs past = rw past refl
+-- What one event more makes of what is found of a thread, and of the mask of those that have completed.
+use Rattle.tmw_cuts.proofs.Shared.{Bool, Event, Found, IsTrue, Kind, List, None, Option, Some, Txn, View, [], add_event, ap, arith, bit_at, bit_at-suc, bit_at-zero, bit_at_lowest, bit_or, call_in, call_of, call_of-push, calls_in, completed_mask, false, find_open, found_after, further, if◌then◌else◌, is_ended, is_over, length, list_all, live_of, map, option_and_then, option_map, pow-suc, refl, slice_get, suc, transactions, true, view_of, views_after, views_of, ℕ, ◌%◌, ◌*◌, ◌++◌, ◌+◌, ◌<◌, ◌==◌, ◌^◌, ◌∙◌, ◌∷◌, ◌≡◌}
+use Rattle.tmw_defs.specs.Texts.{ended_but_last, of_thread}
+use Rattle.tmw_defs.proofs.OneMore.{ended_rest, only_one, transactions-push}
+use Rattle.tmw_defs.proofs.QuietTexts.{status_of-push}
+use Rattle.tmw_defs.proofs.TextsProof.{texts_law}
+use Rattle.tmw_cuts.proofs.Bits.{high_bits, mask-set}
+use Rattle.tmw_cuts.proofs.Moves.{ends_at}
+use Rattle.tmw_cuts.proofs.Pushes.{views_of-push}
 
 -- another thread's event
-pub find_open-other : (t : ℕ) (e : Event) (before : ℕ) (vs : List Descriptor) → (e.thread.number == t) ≡ false
-    → find_open t (push_descriptors e before vs) ≡ find_open t vs
-find_open-other t e before [] other = find_past t (new_descriptor e.thread.number e.kind before) [] (rw other refl)
-find_open-other t e before (v ∷ vs) other =
-    elim (cases_Bool (is_open_for e.thread.number v)) [
-      | inl here ↦
-          let thread : v.thread ≡ e.thread.number = eqb-true _ _ (and_parts (v.thread == e.thread.number) _ here).0 in
-          let not_old : is_open_for t v ≡ false = rw (thread, other) refl in
-          let not_new : is_open_for t (next_descriptor e.kind v) ≡ false = rw (thread, other) refl in
-          ap (find_open t) (push_descriptors_here e before v vs here)
-          ∙ find_past t (next_descriptor e.kind v) vs not_new ∙ sym (find_past t v vs not_old)
-      | inr past ↦
-          ap (find_open t) (push_descriptors_past e before v vs past)
-          ∙ elim (cases_Bool (is_open_for t v)) [
-            | inl opens ↦ find_here t v _ opens ∙ sym (find_here t v vs opens)
-            | inr not_open ↦
-                find_past t v _ not_open ∙ ap (option_map further) (find_open-other t e before vs other)
-                ∙ sym (find_past t v vs not_open)
-          ]
-    ]
+find_open-add_other : (t n : ℕ) (e : Event) (ts : List Txn) → (e.thread.number == t) ≡ false → find_open t (add_event n e ts) ≡ find_open t ts
+find_open-add_other t n e [] other = rw other refl
+find_open-add_other t n e (u ∷ ts) other = grind (arith, (find_open-add_other t n e ts other))
 
-find_none : (t : ℕ) (vs : List Descriptor) → list_any (is_open_for t) vs ≡ false → find_open t vs ≡ None
+pub find_open-other : (t : ℕ) (h : List Event) (e : Event) → (e.thread.number == t) ≡ false
+    → find_open t (transactions (h ++ e ∷ [])) ≡ find_open t (transactions h)
+find_open-other t h e other = ap (find_open t) (transactions-push h e) ∙ find_open-add_other t (length h) e (transactions h) other
+
+find_none : (t : ℕ) (ts : List Txn) → of_thread t ts ≡ [] → find_open t ts ≡ None
 find_none t [] none = refl
-find_none t (v ∷ vs) none =
-    let (past, rest) = or_parts (is_open_for t v) _ none in
-    find_past t v vs past ∙ ap (option_map further) (find_none t vs rest)
-
--- the first of these, where the others are not open
-first_found : (b : Bool) (t : ℕ) (v : Descriptor) (vs : List Descriptor) → is_open_for t v ≡ not b → list_any (is_open_for t) vs ≡ false
-    → find_open t (v ∷ vs) ≡ (if b then None else Some (0, v.call))
-first_found true t v vs is none = find_past t v vs is ∙ ap (option_map further) (find_none t vs none)
-first_found false t v vs is none = find_here t v vs is
+find_none t (u ∷ ts) none = grind (arith, (find_none t ts))
 
 shift_found : (f : Found) (n : ℕ) (k : Kind) → option_map further (found_after f n k) ≡ found_after (option_map further f) (suc n) k
-shift_found None n k = elim (cases_Bool (is_over (status_after (Some k)))) [ inl over ↦ rw over refl | inr on ↦ rw on refl ]
-shift_found (Some f) n k = elim (cases_Bool (is_over (status_after (Some k)))) [ inl over ↦ rw over refl | inr on ↦ rw on refl ]
+shift_found f n k = grind arith
 
--- the thread's own
-pub find_open-own : (e : Event) (before : ℕ) (vs : List Descriptor) → Alone e.thread.number vs
-    → find_open e.thread.number (push_descriptors e before vs) ≡ found_after (find_open e.thread.number vs) (length vs) e.kind
-find_open-own e before [] alone =
-    first_found (is_over (status_after (Some e.kind))) e.thread.number (new_descriptor e.thread.number e.kind before) []
-    (ap (λ b. b && not (is_over (status_after (Some e.kind)))) (eq-eqb e.thread.number e.thread.number refl)) refl
-find_open-own e before (v ∷ vs) alone =
-    let t = e.thread.number in
-    elim (cases_Bool (is_open_for t v)) [
-      | inl here ↦
-          let thread : (v.thread == t) ≡ true = (and_parts (v.thread == t) _ here).0 in
-          ap (find_open t) (push_descriptors_here e before v vs here)
-          ∙ first_found (is_over (status_after (Some e.kind))) t (next_descriptor e.kind v) vs
-          (ap (λ b. b && not (is_over (status_after (Some e.kind)))) thread) (alone.0 here)
-          ∙ ap (λ f. found_after f (suc (length vs)) e.kind) (sym (find_here t v vs here))
-      | inr past ↦
-          ap (find_open t) (push_descriptors_past e before v vs past)
-          ∙ find_past t v (push_descriptors e before vs) past
-          ∙ ap (option_map further) (find_open-own e before vs alone.1)
-          ∙ shift_found (find_open t vs) (length vs) e.kind
-          ∙ ap (λ f. found_after f (suc (length vs)) e.kind) (sym (find_past t v vs past))
-    ]
+-- the thread's own, where all its transactions but the last have ended
+find_open-add_own : (n : ℕ) (e : Event) (ts : List Txn) → IsTrue (ended_but_last (of_thread e.thread.number ts))
+    → find_open e.thread.number (add_event n e ts) ≡ found_after (find_open e.thread.number ts) (length ts) e.kind
+find_open-add_own n e [] alone = grind arith
+find_open-add_own n e (u ∷ ts) alone =
+    let own = of_thread e.thread.number ts in
+    let more = find_open-add_own n e ts in
+    let none = find_none e.thread.number ts in
+    let only = only_one u own in
+    let rest = ended_rest u own in
+    let status = status_of-push u.text e.kind in
+    grind (arith, shift_found, (call_of-push u.text e.kind))
 
-shift_views : (f : Found) (k : Kind) (before : ℕ) (s : View) (ss : List View)
-    → (s ∷ views_after f k before ss) ≡ views_after (option_map further f) k before (s ∷ ss)
-shift_views None k before s ss = refl
-shift_views (Some f) k before s ss = refl
+pub find_open-own : (h : List Event) (e : Event) → find_open e.thread.number (transactions (h ++ e ∷ []))
+    ≡ found_after (find_open e.thread.number (transactions h)) (length (transactions h)) e.kind
+find_open-own h e =
+    ap (find_open e.thread.number) (transactions-push h e)
+    ∙ find_open-add_own (length h) e (transactions h) (texts_law h e.thread.number).ended
 
--- what is kept of the transactions
-pub views-push : (e : Event) (before : ℕ) (vs : List Descriptor)
-    → map view_in (push_descriptors e before vs) ≡ views_after (find_open e.thread.number vs) e.kind before (map view_in vs)
-views-push e before [] = refl
-views-push e before (v ∷ vs) =
-    let t = e.thread.number in
-    elim (cases_Bool (is_open_for t v)) [
-      | inl here ↦
-          ap (map view_in) (push_descriptors_here e before v vs here)
-          ∙ ap (λ f. views_after f e.kind before (map view_in (v ∷ vs))) (sym (find_here t v vs here))
-      | inr past ↦
-          ap (map view_in) (push_descriptors_past e before v vs past)
-          ∙ ap (λ ss. view_in v ∷ ss) (views-push e before vs)
-          ∙ shift_views (find_open t vs) e.kind before (view_in v) (map view_in vs)
-          ∙ ap (λ f. views_after f e.kind before (map view_in (v ∷ vs))) (sym (find_past t v vs past))
-    ]
+-- at a cut no thread has an open transaction
+pub closed : (t : ℕ) (ts : List Txn) → list_all (λ u. is_ended u.text) ts ≡ true → find_open t ts ≡ None
+closed t [] over = refl
+closed t (u ∷ ts) over = grind (arith, (closed t ts))
 
--- the place that is found is the first of an open one
+-- the place that is found is one of a transaction
+pub found_within : (t : ℕ) (ts : List Txn) (f : ℕ × Option Kind) → find_open t ts ≡ Some f → f.0 < length ts
+found_within t [] f is = cc
+found_within t (u ∷ ts) f is = grind (arith, (found_within t ts))
+
+-- and is not over
+pub found_lives : (t : ℕ) (all ts : List Txn) (f : ℕ × Option Kind) (v : View) → find_open t ts ≡ Some f
+    → slice_get (map (view_of all) ts) f.0 ≡ Some v → is_over v.status ≡ false
+found_lives t all [] f v is at = cc
+found_lives t all (u ∷ ts) f v is at = grind (arith, (found_lives t all ts))
+
+-- the calls that are found are those of the live transaction
+pub calls-live : (t : ℕ) (ts : List Txn) → calls_in (find_open t ts) ≡ option_map (λ u. call_of u.text) (live_of t ts)
+calls-live t [] = refl
+calls-live t (u ∷ ts) = grind (arith, (calls-live t ts))
+
+-- the call that is found is the pending one
+pub call-found : (t : ℕ) (ts : List Txn) → call_in (find_open t ts) ≡ option_and_then (λ u. call_of u.text) (live_of t ts)
+call-found t [] = refl
+call-found t (u ∷ ts) = grind (arith, (call-found t ts))
+
+-- the place of the event's transaction: the one that is found, or the first that is free
 abbrev pub place_in : Found → ℕ → ℕ
 place_in None n = n
 place_in (Some f) n = f.0
 
-place_further : (f : Found) (n : ℕ) → suc (place_in f n) ≡ place_in (option_map further f) (suc n)
-place_further None n = refl
-place_further (Some f) n = refl
+place_further : (f : Found) (n : ℕ) → place_in (option_map further f) (suc n) ≡ suc (place_in f n)
+place_further f n = grind arith
 
-pub place-found : (t : ℕ) (vs : List Descriptor) → place_in (find_open t vs) (length vs) ≡ position_or_len (is_open_for t) vs
-place-found t [] = refl
-place-found t (v ∷ vs) =
-    elim (cases_Bool (is_open_for t v)) [
-      | inl here ↦ ap (λ f. place_in f (suc (length vs))) (find_here t v vs here) ∙ rw here refl
-      | inr past ↦
-          let rest : place_in (find_open t vs) (length vs) ≡ position_or_len (is_open_for t) vs = place-found t vs in
-          let next : 1 + position_or_len (is_open_for t) vs ≡ suc (position_or_len (is_open_for t) vs) = omega arith in
-          ap (λ f. place_in f (suc (length vs))) (find_past t v vs past)
-          ∙ sym (place_further (find_open t vs) (length vs)) ∙ ap suc rest ∙ sym next ∙ rw past refl
-    ]
+-- the mask has the event's transaction more, where it is over with the event
+abbrev bit_after : Bool → ℕ → ℕ
+bit_after true place = 2 ^ place
+bit_after false place = 0
 
-call_further : (f : Found) → call_in (option_map further f) ≡ call_in f
-call_further None = refl
-call_further (Some f) = refl
+mask-after : (t : ℕ) (k : Kind) (before : ℕ) (all ts : List Txn)
+    → completed_mask (views_after (find_open t ts) k before (map (view_of all) ts))
+    ≡ completed_mask (map (view_of all) ts) + bit_after (ends_at k) (place_in (find_open t ts) (length ts))
+mask-after t k before all [] = grind arith
+mask-after t k before all (u ∷ ts) =
+    let more = mask-after t k before all ts in
+    let double = pow-suc 2 (place_in (find_open t ts) (length ts)) in
+    grind arith
 
--- the call that is found is the pending one
-call-found_in : (t : ℕ) (all ts : List Txn) → call_in (find_open t (map (descriptor_of all) ts)) ≡ option_and_then (λ u. call_of u.text) (live_of t ts)
-call-found_in t all [] = refl
-call-found_in t all (u ∷ ts) =
-    elim (cases_Bool ((u.thread == t) && not (is_ended u.text))) [
-      | inl here ↦ rw here refl
-      | inr past ↦ rw past (call_further (find_open t (map (descriptor_of all) ts)) ∙ call-found_in t all ts)
-    ]
+-- the place is none of one that is over
+bit_at-place : (t : ℕ) (all ts : List Txn) → bit_at (completed_mask (map (view_of all) ts)) (place_in (find_open t ts) (length ts)) ≡ 0
+bit_at-place t all [] = bit_at-zero 0
+bit_at-place t all (u ∷ ts) = let more = bit_at-place t all ts in grind (arith, place_further, bit_at_lowest, bit_at-suc, high_bits)
 
-pub call-found : (t : ℕ) (events : List Event) → call_in (find_open t (descriptors_of events)) ≡ pending_call t events
-call-found t events = call-found_in t (transactions events) (transactions events)
+pub masks-push : (events : List Event) (e : Event) (place : ℕ)
+    → place ≡ place_in (find_open e.thread.number (transactions events)) (length (transactions events)) → place < 8
+    → (if ends_at e.kind then bit_or (completed_mask (views_of events)) (1 * 2 ^ place % 2 ^ 8) else completed_mask (views_of events))
+    ≡ completed_mask (views_of (events ++ e ∷ []))
+masks-push events e place is low =
+    let ts = transactions events in
+    let mask = completed_mask (views_of events) in
+    let free : bit_at mask place ≡ 0 = rw is (bit_at-place e.thread.number ts ts) in
+    rw (views_of-push events e, mask-after e.thread.number e.kind mask ts ts, ← is) (let set_it = mask-set mask place low free in grind arith)

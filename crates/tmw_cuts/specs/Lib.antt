@@ -1,4 +1,3 @@
-pub mod Descriptors
 pub mod Effects
 pub mod Members
 pub mod Registers

@@ -1,11 +1,10 @@
 -- Which events a window stands for: it shows their transactions, in the order of their first events.
-use Rattle.std.specs.Prelude.{◌≡◌, ◌+◌, ◌*◌, ◌<◌, ◌++◌, ℕ, List, [], ◌∷◌, length, map, take, slice_get, slice_index_or, slice_set, Some, Ok, false, true, IsTrue, Bool, Option, option_map}
+use Rattle.std.specs.Prelude.{◌≡◌, ◌+◌, ◌*◌, ◌<◌, ℕ, List, [], ◌∷◌, length, map, take, slice_get, slice_index_or, slice_set, Some, Ok, false, true, IsTrue, Bool, Option, option_map}
 use Rattle.tmw_events.specs.declared.event.Event.{Event}
 use Rattle.tmw_events.specs.declared.event.Kind.{Kind}
 use Rattle.tmw_defs.specs.History.{Txn, operations, status_of, transactions, is_well_formed}
 use Rattle.tmw_defs.specs.Opaque.{precedes}
 use Rattle.tmw_wellformed.specs.Faults.{lacks_register}
-use Rattle.tmw_wellformed.specs.Pending.{call_of}
 use Rattle.tmw_events.specs.declared.ix.Ix.{Ix}
 use Rattle.tmw_cuts.specs.declared.mark.Mark.{Mark}
 use Rattle.tmw_cuts.specs.declared.turn.Move.{Move}
@@ -14,7 +13,6 @@ use Rattle.tmw_cuts.specs.declared.turn.Turn.{Turn}
 use Rattle.tmw_cuts.specs.declared.turn.Turn.TheVariants.{Between}
 use Rattle.tmw_cuts.specs.declared.txn.Txn as cuts
 use Rattle.tmw_cuts.specs.declared.window.Window.{Window}
-use Rattle.tmw_cuts.specs.Descriptors.{Descriptor}
 use Rattle.tmw_cuts.specs.Turns.{change, Found, after_call, find_open, found_in, kept_in}
 use Rattle.tmw_cuts.specs.Views.{View, view, bit, completed_mask, next_view}
 
@@ -29,19 +27,6 @@ view_of ts t = record { ops = operations t.text; status = status_of t.text; befo
 -- What is to be shown of these events.
 abbrev pub views_of : List Event → List View
 views_of events = map (view_of (transactions events)) (transactions events)
-
-abbrev pub descriptor_of : List Txn → Txn → Descriptor
-descriptor_of ts t = record {
-  thread = t.thread;
-  call = call_of t.text;
-  ops = operations t.text;
-  status = status_of t.text;
-  before = before_of ts t;
-}
-
--- What these events tell of their transactions.
-abbrev pub descriptors_of : List Event → List Descriptor
-descriptors_of events = map (descriptor_of (transactions events)) (transactions events)
 
 -- The transactions that the window has.
 abbrev pub txns_of : Window → List cuts.Txn
@@ -67,7 +52,7 @@ completed_of window = window.completed
 -- and knows which have completed.
 pub record StandsFor (window : Window) (events : List Event) : Type 0 where
   pub formed : IsTrue (is_well_formed window.registers.number events)
-  pub turns : (thread : ℕ) → thread < 8 → found_in (turn_at window thread) ≡ find_open thread (descriptors_of events)
+  pub turns : (thread : ℕ) → thread < 8 → found_in (turn_at window thread) ≡ find_open thread (transactions events)
   pub shows : views window ≡ views_of events
   pub masks : completed_of window ≡ completed_mask (views_of events)
 
@@ -94,7 +79,7 @@ calls_in found = option_map (λ f. f.1) found
 pub record Follows (registers : ℕ) (history : List Event) (window : Window) : Type 0 where
   pub number : window.registers.number ≡ registers
   pub formed : IsTrue (is_well_formed registers history)
-  pub calls : (thread : ℕ) → thread < 8 → calls_in (found_in (turn_at window thread)) ≡ calls_in (find_open thread (descriptors_of history))
+  pub calls : (thread : ℕ) → thread < 8 → calls_in (found_in (turn_at window thread)) ≡ calls_in (find_open thread (transactions history))
 
 -- The one window is the other but for an event that has ended the transaction at the place.
 pub record HasEnded (before after : Window) (event : Event) (place : Ix) : Type 0 where

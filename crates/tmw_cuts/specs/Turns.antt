@@ -1,15 +1,14 @@
 -- What a turn tells of a thread: the place of its open transaction and its pending call.
-use Rattle.std.specs.Prelude.{ℕ, zero, suc, List, [], ◌∷◌, ◌++◌, Option, Some, None, option_map, Result, Ok, Err, if◌then◌else◌}
+use Rattle.std.specs.Prelude.{◌==◌, ◌&&◌, ℕ, Bool, not, zero, suc, List, [], ◌∷◌, ◌++◌, Option, Some, None, option_map, Result, Ok, Err, if◌then◌else◌}
 use Rattle.tmw_events.specs.declared.event.Kind.{Kind}
 use Rattle.tmw_events.specs.declared.event.Kind.TheVariants.{A, R, W, T, X, N}
 use Rattle.tmw_events.specs.declared.ix.Ix.{Ix}
 use Rattle.tmw_defs.specs.declared.op.Op.{Op}
-use Rattle.tmw_defs.specs.History.{answers, is_over, status_after, operation}
+use Rattle.tmw_defs.specs.History.{Txn, answers, is_ended, is_over, status_after, operation}
 use Rattle.tmw_wellformed.specs.declared.malformed.Malformed.{Malformed}
 use Rattle.tmw_wellformed.specs.declared.malformed.Malformed.TheVariants.{Busy, Idle, Mismatch}
 use Rattle.tmw_wellformed.specs.Faults.{asks}
-use Rattle.tmw_wellformed.specs.Pending.{next_call}
-use Rattle.tmw_cuts.specs.Descriptors.{Descriptor, answered_ops, is_open_for}
+use Rattle.tmw_wellformed.specs.Pending.{call_of, next_call}
 use Rattle.tmw_cuts.specs.Views.{View, new_view, next_view}
 use Rattle.tmw_cuts.specs.declared.turn.Turn.{Turn}
 use Rattle.tmw_cuts.specs.declared.turn.Turn.TheVariants.{Between, Within, Reading, Adding, Writing, Committing, Aborting}
@@ -39,10 +38,14 @@ found_in turn = option_map numbered (kept_in turn)
 abbrev pub further : ℕ × Option Kind → ℕ × Option Kind
 further f = (suc f.0, f.1)
 
+-- The thread's next event belongs to this transaction.
+abbrev pub is_open_for : ℕ → Txn → Bool
+is_open_for thread t = (t.thread == thread) && not (is_ended t.text)
+
 -- What these transactions tell of the thread.
-abbrev pub find_open : ℕ → List Descriptor → Found
+abbrev pub find_open : ℕ → List Txn → Found
 find_open thread [] = None
-find_open thread (d ∷ ds) = if is_open_for thread d then Some (0, d.call) else option_map further (find_open thread ds)
+find_open thread (t ∷ ts) = if is_open_for thread t then Some (0, call_of t.text) else option_map further (find_open thread ts)
 
 abbrev pub call_in : Found → Option Kind
 call_in None = None
@@ -69,6 +72,11 @@ end_at p k = if asks k then Err Busy else Err Mismatch
 abbrev pub found_after : Found → ℕ → Kind → Found
 found_after None n k = if is_over (status_after (Some k)) then None else Some (n, Some k)
 found_after (Some f) n k = if is_over (status_after (Some k)) then None else Some (f.0, next_call f.1 k)
+
+-- The operation that an event more makes with the call before it.
+abbrev pub answered_ops : Option Kind → Kind → List Op
+answered_ops None kind = []
+answered_ops (Some call) kind = operation call kind
 
 -- The list with one of its members changed.
 abbrev pub change : {A : Type 0} → ℕ → (A → A) → List A → List A

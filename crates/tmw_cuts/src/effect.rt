@@ -4,7 +4,7 @@ ghost use Rattle.std.specs.List.{list_all};
 ghost use Rattle.tmw_defs.specs.declared.op.Op.{Op};
 ghost use Rattle.tmw_defs.specs.declared.op.Op.TheVariants.{Read, Write, Add};
 ghost use Rattle.tmw_defs.specs.Opaque.{State, reads_hold, after_writes};
-ghost use Rattle.tmw_cuts.specs.Registers.{IsMaskOf, chosen, have, put};
+ghost use Rattle.tmw_cuts.specs.Registers.{IsMaskOf, chosen, have};
 ghost use Rattle.tmw_cuts.specs.Replaying.{Replays};
 ghost use Rattle.tmw_cuts.specs.Written.{writes, needs};
 
@@ -63,28 +63,26 @@ impl Effect {
         self.agrees = true;
     }
 
-    /// Takes an answer of the register in: the operations before, or else the state, have to give that value. Which of them is chosen
-    /// without a jump, since no processor foresees it.
+    /// Takes an answer of the register in: the operations before, or else the state, have to give that value.
     #[inline(always)]
     fn read(&mut self, register: Ix, value: u64)
         ensures { (ops : List Op) → IsEffectOf self.old ops
             → IsEffectOf self.new (ops ++ Read register value ∷ []) }
     {
         let place = register.get() as usize;
-        let own = has_register(self.left, place);
-        let asked = has_register(self.needed, place);
-        let left = self.leaves[place];
+        if has_register(self.left, place) {
+            self.agrees &= self.leaves[place] == value;
+            return;
+        }
         let need = self.needs[place];
-        let known = if own {
-            left
-        } else if asked {
+        let known = if has_register(self.needed, place) {
             need
         } else {
             value
         };
         self.agrees &= known == value;
-        self.needed |= if own { 0 } else { 1 << place };
-        self.needs[place] = if own | asked { need } else { value };
+        self.needed |= 1 << place;
+        self.needs[place] = known;
     }
 
     /// Takes in that the register holds the value from here on.
@@ -134,12 +132,14 @@ impl Effect {
         met
     }
 
-    /// The state with what is left in the registers, of which there are few.
+    /// Returns what the registers hold after the operations, from this state. No answer is compared: an add leaves its answer and what it
+    /// added.
     #[inline(always)]
-    fn put(&self, state: &State) -> State
-        ensures { result ≡ put (chosen self.now.left) self.now.leaves state.now }
+    pub fn end_from(&self, state: &State) -> State
+        ensures { (ops : List Op) → IsEffectOf self.now ops → result ≡ after_writes state.now ops }
     {
         let mut end = *state;
+        // (few registers are written)
         let mut left = self.left;
         while left != 0 {
             let register = lowest(left);
@@ -164,7 +164,7 @@ impl Effect {
         ensures { (ops : List Op) → IsEffectOf self.now ops → Replays state.now ops result }
     {
         if self.fits(state) {
-            Some(self.put(state))
+            Some(self.end_from(state))
         } else {
             None
         }

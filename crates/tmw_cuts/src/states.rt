@@ -114,11 +114,12 @@ impl States {
     }
 
     /// Replaces the only state by this one.
-    pub fn put_only(&mut self, state: State)
+    #[inline(always)]
+    pub fn put_only(&mut self, state: &State)
         requires { length (members self.old) ≡ 1 }
-        ensures { members self.new ≡ state ∷ [] }
+        ensures { members self.new ≡ state.now ∷ [] }
     {
-        self.items[0] = state;
+        self.items[0] = *state;
     }
 
     /// Makes a set of the same states.

@@ -97,6 +97,14 @@ impl Txn {
         self.effect.after(state)
     }
 
+    /// Returns what the registers hold after its operations, from this state. No answer is compared.
+    #[inline(always)]
+    pub fn end_from(&self, state: &State) -> State
+        ensures { result ≡ after_writes state.now self.now.ops.items }
+    {
+        self.effect.end_from(state)
+    }
+
     /// Tells whether each of its operations was answered what the registers held then, this one after them too. The result counts only
     /// if each was without it.
     #[inline(always)]

@@ -103,7 +103,7 @@ impl Window {
     ghost use Rattle.tmw_wellformed.specs.Faults.{Refuses};
     ghost use Rattle.tmw_wellformed.specs.Notes.{Notes};
     ghost use Rattle.tmw_cuts.specs.declared.turn.Move.TheVariants.{Answer, Ask, Begin, End};
-    ghost use Rattle.tmw_cuts.specs.Standing.{Follows, HasEnded, IsNext, Marks, StandsFor, begun_by, count_of, turn_at, views, views_of};
+    ghost use Rattle.tmw_cuts.specs.Standing.{Follows, HasEnded, IsNext, Marks, StandsFor, begun_by, completed_of, count_of, turn_at, views, views_of};
 
     /// Makes the window of no event.
     pub fn open(registers: Registers) -> Window
@@ -295,19 +295,15 @@ impl Window {
         }
     }
 
-    /// Forgets all events.
+    /// Forgets the transactions, but not where the threads are. At a cut all threads are between transactions.
+    #[inline(always)]
     pub fn clear(&mut self)
-        ensures stands { StandsFor self.new [] }
+        ensures stands { (events : List Event) → StandsFor self.old events → IsTrue (is_cut events)
+            → StandsFor self.new [] }
         ensures registers { self.new.registers ≡ self.old.registers }
-    {
-        self.turns = [Turn::Between; 8];
-        self.count = 0;
-        self.completed = 0;
-    }
-
-    /// Forgets the transactions, but not where the threads are.
-    pub fn forget(&mut self)
         ensures none { views self.new ≡ [] }
+        ensures masks { completed_of self.new ≡ 0 }
+        ensures turns { (thread : ℕ) → turn_at self.new thread ≡ turn_at self.old thread }
         ensures follows { (registers : ℕ) (history : List Event)
             → Follows registers history self.old → Follows registers history self.new }
     {

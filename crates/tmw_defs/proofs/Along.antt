@@ -1,6 +1,6 @@
 -- An order of transactions is one of others that are pairwise like them: where each reads, may be held and leaves the same,
 -- and none precedes another that the ones like them allow.
-use Rattle.tmw_defs.proofs.Shared.{Bool, Explains, IsTrue, Leads, List, Placed, PlacesEach, Some, State, Txn, [], after, and_from, and_parts, ap, cases_Bool, end_state, inl, inr, is_legal, keeps_order, list_all, may_be, may_hold, not, operations, precedes, reads_hold, refl, remove, slice_get, status_of, suc, sym, true, zero, ℕ, ◌∙◌, ◌∷◌, ◌≡◌}
+use Rattle.tmw_defs.proofs.Shared.{Bool, Explains, IsTrue, Leads, List, Placed, PlacesEach, Some, State, Txn, [], after, and_from, and_parts, ap, end_state, is_legal, keeps_order, list_all, may_be, may_hold, not, operations, precedes, reads_hold, refl, remove, slice_get, status_of, suc, sym, zero, ℕ, ◌∙◌, ◌∷◌, ◌≡◌, arith}
 
 -- the members of two lists are related one by one
 abbrev pub Pairs : {A B : Type 0} → (A → B → Type 0) → List A → List B → Type 0
@@ -27,9 +27,7 @@ pairs-get Rel [] [] i x p at = absurd (cc)
 pairs-get Rel [] (y ∷ ys) i x p at = absurd p
 pairs-get Rel (z ∷ xs) [] i x p at = absurd p
 pairs-get Rel (z ∷ xs) (y ∷ ys) zero x p at = let same : z ≡ x = cc in (y, refl, rw (← same) p.0, p.1)
-pairs-get Rel (z ∷ xs) (y ∷ ys) (suc i) x p at =
-    let k = pairs-get Rel xs ys i x p.1 at in
-    (k.0, k.1, k.2, (p.0, k.3))
+pairs-get Rel (z ∷ xs) (y ∷ ys) (suc i) x p at = grind (arith, (pairs-get Rel xs ys i x p.1 at))
 
 -- two placed transactions that are related, both held or both not
 abbrev pub Alike : (Txn → Txn → Type 0) → Placed → Placed → Type 0
@@ -63,12 +61,7 @@ free-along Rel keeps t u like [] (q ∷ other) pairs free = absurd pairs
 free-along Rel keeps t u like (p ∷ order) [] pairs free = absurd pairs
 free-along Rel keeps t u like (p ∷ order) (q ∷ other) pairs free =
     let (here, more) = and_parts (not (precedes p.txn t)) _ free in
-    let none : not (precedes q.txn u) ≡ true =
-    elim (cases_Bool (precedes q.txn u)) [
-      | inl is ↦ absurd (let k = rw (keeps.order p.txn q.txn t u pairs.0.0 like is) at here in cc)
-      | inr is ↦ rw is refl
-    ] in
-    and_from _ _ none (free-along Rel keeps t u like order other pairs.1 more)
+    grind (arith, (free-along Rel keeps t u like order other pairs.1 more))
 
 keeps-along : (Rel : Txn → Txn → Type 0) → Keeps Rel → (order other : List Placed) → Pairs (Alike Rel) order other
     → IsTrue (keeps_order order) → IsTrue (keeps_order other)
@@ -87,8 +80,7 @@ may-along Rel keeps [] (q ∷ other) pairs may = absurd pairs
 may-along Rel keeps (p ∷ order) [] pairs may = absurd pairs
 may-along Rel keeps (p ∷ order) (q ∷ other) pairs may =
     let (here, more) = and_parts (may_be p) _ may in
-    let there = (keeps.turn p.txn q.txn pairs.0.0).may p.held here in
-    and_from _ _ (rw pairs.0.1 at there) (may-along Rel keeps order other pairs.1 more)
+    grind (arith, (may-along Rel keeps order other pairs.1 more))
 
 -- both orders go through the same states
 record GoesAlong (s : State) (order other : List Placed) : Type 0 where
@@ -108,10 +100,7 @@ legal-along Rel keeps s (p ∷ order) (q ∷ other) pairs may legal =
     ap (λ h. after s (let r : Placed = record { txn = q.txn; held = h } in r)) pairs.0.1 in
     let same : after s p ≡ after s q = like.leaves s p.held here ∙ held in
     let on = legal-along Rel keeps (after s q) order other pairs.1 more (rw same at rest) in
-    record {
-      legal = and_from _ _ (like.reads s reads) on.legal;
-      end = ap (λ m. end_state m order) same ∙ on.end;
-    }
+    grind arith
 
 -- so where an order explains the ones, one that goes along with it explains the others
 pub record IsExplained (Rel : Txn → Txn → Type 0) (s : State) (us : List Txn) (order : List Placed) : Type 0 where
@@ -125,17 +114,7 @@ pub explains-along : (Rel : Txn → Txn → Type 0) → Keeps Rel → (ts us : L
 explains-along Rel keeps ts us pairs s order a =
     let along = places-along Rel order ts us pairs a.each in
     let goes = legal-along Rel keeps s order along.other along.alike a.completed a.legal in
-    record {
-      other = along.other;
-      explains = record {
-        each = along.each;
-        kept = keeps-along Rel keeps order along.other along.alike a.kept;
-        completed = may-along Rel keeps order along.other along.alike a.completed;
-        legal = goes.legal;
-      };
-      alike = along.alike;
-      end = goes.end;
-    }
+    grind (arith, keeps-along, may-along)
 
 -- and where the ones lead, the others do
 pub leads-along : (Rel : Txn → Txn → Type 0) → Keeps Rel → (ts us : List Txn) → Pairs Rel ts us → (s r : State)

@@ -1,5 +1,5 @@
 -- The other way round: each order of all is an order of those that have completed, followed by one of those that began after.
-use Rattle.tmw_defs.proofs.Shared.{Explains, IsTrue, Leads, List, Placed, PlacesEach, Some, State, Txn, [], and_from, and_parts, ap, arith, cases_lt, end_state, inl, inr, is_legal, keeps_order, length, list_all, list_all-append, may_be, not, precedes, refl, remove, remove-append_left, remove-append_right, slice_get, suc, sym, zero, ℕ, ◌++◌, ◌+◌, ◌-◌, ◌<◌, ◌∙◌, ◌∷◌, ◌≡◌}
+use Rattle.tmw_defs.proofs.Shared.{Explains, IsTrue, Leads, List, Placed, PlacesEach, Some, State, Txn, [], and_from, and_parts, ap, arith, cases_lt, end_state, inl, inr, is_legal, keeps_order, length, list_all, list_all-append, may_be, not, precedes, refl, remove, remove-append_left, slice_get, suc, sym, zero, ℕ, ◌++◌, ◌+◌, ◌-◌, ◌<◌, ◌∙◌, ◌∷◌, ◌≡◌}
 use Rattle.tmw_defs.proofs.Before.{comes_before, is_before, is_legal-append, end_state-append}
 use Rattle.tmw_defs.proofs.Removals.{list_all-remove, list_all-places}
 
@@ -10,9 +10,7 @@ slice_get_in_left (t ∷ ts) us (suc i) within = slice_get_in_left ts us i (omeg
 
 slice_get_in_right : (ts us : List Txn) (i : ℕ) → slice_get (ts ++ us) (length ts + i) ≡ slice_get us i
 slice_get_in_right [] us i = ap (slice_get us) (omega arith)
-slice_get_in_right (t ∷ ts) us i =
-    let next : suc (length ts) + i ≡ suc (length ts + i) = omega arith in
-    ap (slice_get (t ∷ ts ++ us)) next ∙ slice_get_in_right ts us i
+slice_get_in_right (t ∷ ts) us i = grind (arith, (slice_get_in_right ts us i))
 
 -- the orders of the first and of the others, one after the other
 pub record IsApart (ts us : List Txn) (order : List Placed) : Type 0 where
@@ -28,11 +26,9 @@ stands_first : (ts us rest : List Txn) (t : Txn) (p : Placed) (more : List Place
 stands_first ts us rest t p more j before at places kept =
     let free = (and_parts (list_all (λ q. not (precedes q.txn p.txn)) more) _ kept).0 in
     let all = rw (list_all-places (λ u. not (precedes u p.txn)) (t ∷ rest) more places) at free in
-    let not_first = (and_parts (not (precedes t p.txn)) _ all).0 in
     let over_us = (and_parts (list_all (λ u. comes_before t u) us) _ before).0 in
     let here = (and_parts (comes_before t p.txn) _ (rw (list_all-remove (λ u. comes_before t u) us j p.txn at) at over_us)).0 in
-    let is_first = (and_parts (precedes t p.txn) _ here).0 in
-    absurd (let k = rw is_first at not_first in cc)
+    grind arith
 
 before-remove : (ts us : List Txn) (i : ℕ) (t : Txn) → slice_get ts i ≡ Some t → IsTrue (is_before ts us)
     → IsTrue (is_before (remove ts i) us)
@@ -61,8 +57,7 @@ places_split (p ∷ more) (t ∷ ts) us before (i, at, places) kept =
           let j = i - length (t ∷ ts) in
           let split : i ≡ length (t ∷ ts) + j = omega arith in
           let there : slice_get us j ≡ Some p.txn = sym (slice_get_in_right (t ∷ ts) us j) ∙ ap (slice_get (t ∷ ts ++ us)) (sym split) ∙ at in
-          let left_over = rw (remove-append_right (t ∷ ts) us (length (t ∷ ts)) i refl right) at places in
-          absurd (stands_first ts us (ts ++ remove us j) t p more j before there left_over kept)
+          grind (arith, stands_first)
     ]
 
 -- the order is one of the first, and then one of the others from where that ends
@@ -80,14 +75,7 @@ explains_split s ts us order before a =
     let legal = and_parts (is_legal s apart.one) _ (rw (apart.joined, is_legal-append s apart.one apart.two) at a.legal) in
     let completed = and_parts (list_all may_be apart.one) _
     (rw (apart.joined, list_all-append may_be apart.one apart.two) at a.completed) in
-    let kept = keeps_parts apart.one apart.two (rw apart.joined at a.kept) in
-    record {
-      one = apart.one;
-      two = apart.two;
-      joined = apart.joined;
-      first = record { each = apart.first; kept = kept.0; completed = completed.0; legal = legal.0 };
-      others = record { each = apart.others; kept = kept.1; completed = completed.1; legal = legal.1 };
-    }
+    let kept = keeps_parts apart.one apart.two (rw apart.joined at a.kept) in grind arith
   where
     keeps_parts : (one two : List Placed) → IsTrue (keeps_order (one ++ two)) → IsTrue (keeps_order one) × IsTrue (keeps_order two)
     keeps_parts [] two kept = (refl, kept)
@@ -101,8 +89,4 @@ explains_split s ts us order before a =
 pub leads_split : (s r : State) (ts us : List Txn) → IsTrue (is_before ts us) → Leads s (ts ++ us) r
     → (m : State) × Leads s ts m × Leads m us r
 leads_split s r ts us before (order, a, is_r) =
-    let split = explains_split s ts us order before a in (
-      end_state s split.one,
-      (split.one, split.first, refl),
-      (split.two, split.others, sym (end_state-append s split.one split.two) ∙ ap (end_state s) (sym split.joined) ∙ is_r),
-    )
+    let split = explains_split s ts us order before a in grind (arith, end_state-append)

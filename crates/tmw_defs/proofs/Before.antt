@@ -1,6 +1,6 @@
 -- Serial orders of transactions of which some have completed before the others began: an order of all of them is one of
 -- the first followed by one of the others.
-use Rattle.tmw_defs.proofs.Shared.{Bool, Explains, IsTrue, Leads, List, Placed, PlacesEach, Some, State, Txn, [], after, and_from, and_parts, ap, end_state, false, is_legal, keeps_order, length, list_all, list_all-append, may_be, not, operations, precedes, reads_hold, refl, remove, remove-append_left, slice_get, slice_get_within, suc, sym, true, zero, ℕ, ◌&&◌, ◌++◌, ◌<◌, ◌∙◌, ◌∷◌, ◌≡◌}
+use Rattle.tmw_defs.proofs.Shared.{Bool, Explains, IsTrue, Leads, List, Placed, PlacesEach, Some, State, Txn, [], after, and_from, and_parts, ap, end_state, is_legal, keeps_order, length, list_all, list_all-append, not, precedes, refl, remove, remove-append_left, slice_get, slice_get_within, suc, zero, ℕ, ◌&&◌, ◌++◌, ◌<◌, ◌∙◌, ◌∷◌, ◌≡◌, arith}
 use Rattle.tmw_defs.proofs.Removals.{list_all-places}
 
 -- the one has completed before the other began, and not the other way round
@@ -41,9 +41,7 @@ keeps-append [] two a b across = b
 keeps-append (p ∷ one) two a b across =
     let (here, more) = and_parts (none_precedes one p.txn) _ a in
     let (first, others) = and_parts (none_precedes two p.txn) _ across in
-    and_from (none_precedes (one ++ two) p.txn) _
-    (rw (list_all-append (λ q. not (precedes q.txn p.txn)) one two) (and_from _ _ here first))
-    (keeps-append one two more b others)
+    grind (arith, list_all-append, (keeps-append one two more b others))
 
 -- none of the others precedes one of the first
 across-before : (ts us : List Txn) (one two : List Placed) → PlacesEach ts one → PlacesEach us two → IsTrue (is_before ts us)
@@ -58,13 +56,7 @@ across-before ts us one two places others before =
 pub is_legal-append : (s : State) (one two : List Placed)
     → is_legal s (one ++ two) ≡ (is_legal s one && is_legal (end_state s one) two)
 is_legal-append s [] two = refl
-is_legal-append s (p ∷ one) two =
-    ap (λ b. reads_hold s (operations p.txn.text) && b) (is_legal-append (after s p) one two)
-    ∙ sym (and_assoc (reads_hold s (operations p.txn.text)) (is_legal (after s p) one) (is_legal (end_state (after s p) one) two))
-  where
-    and_assoc : (a b c : Bool) → ((a && b) && c) ≡ (a && (b && c))
-    and_assoc true b c = refl
-    and_assoc false b c = refl
+is_legal-append s (p ∷ one) two = grind (arith, (is_legal-append (after s p) one two))
 
 pub end_state-append : (s : State) (one two : List Placed) → end_state s (one ++ two) ≡ end_state (end_state s one) two
 end_state-append s [] two = refl
@@ -72,12 +64,8 @@ end_state-append s (p ∷ one) two = end_state-append (after s p) one two
 
 pub explains-append : (s : State) (ts us : List Txn) (one two : List Placed) → IsTrue (is_before ts us) → Explains s ts one
     → Explains (end_state s one) us two → Explains s (ts ++ us) (one ++ two)
-explains-append s ts us one two before a b = record {
-  each = places-append ts us one two a.each b.each;
-  kept = keeps-append one two a.kept b.kept (across-before ts us one two a.each b.each before);
-  completed = rw (list_all-append may_be one two) (and_from _ _ a.completed b.completed);
-  legal = rw (is_legal-append s one two) (and_from _ _ a.legal b.legal);
-}
+explains-append s ts us one two before a b =
+    grind (arith, places-append, keeps-append, across-before, list_all-append, is_legal-append)
 
 pub leads-append : (s m r : State) (ts us : List Txn) → IsTrue (is_before ts us) → Leads s ts m → Leads m us r
     → Leads s (ts ++ us) r

@@ -1,5 +1,5 @@
 -- What is said of a history by either criterion.
-use Rattle.tmw_defs.proofs.Shared.{Criterion, Event, IsFinalBy, IsTrue, List, Opacity, State, Strict, end_state, is_well_formed, outcomes_by, refl, ℕ}
+use Rattle.tmw_defs.proofs.Shared.{Criterion, Event, IsFinalBy, IsTrue, List, Opacity, State, Strict, end_state, is_well_formed, outcomes_by, refl, ℕ, arith}
 
 pub formed-final : (c : Criterion) (registers : ℕ) (start : State) (h : List Event) → IsFinalBy c registers start h
     → IsTrue (is_well_formed registers h)
@@ -18,5 +18,4 @@ pub outcome-final : (c : Criterion) (registers : ℕ) (start : State) (h : List 
     → (end : State) → outcomes_by c start h end → IsFinalBy c registers start h
 outcome-final Opacity registers start h formed end (s, is, leads) =
     record { formed = formed; ordered = (leads.0, rw is at leads.1) }
-outcome-final Strict registers start h formed end (s, is, leads) =
-    record { formed = formed; ordered = (leads.0, rw is at leads.1) }
+outcome-final Strict registers start h formed end (s, is, leads) = grind arith

@@ -1,43 +1,15 @@
 -- Over a cut, serial orders of a history are those of what went before followed by those of what follows.
-use Rattle.tmw_defs.proofs.Shared.{Event, IsTrue, Kind, Leads, List, State, Txn, [], after_writes, and_from, and_parts, ap, append-nil, arith, if◌then◌else◌, is_cut, is_ended, length, lt-ltb, ltb-true, operations, precedes, sym, transactions, transactions_from, ℕ, ◌++◌, ◌+◌, ◌∙◌, ◌∷◌, ◌≡◌}
-use Rattle.tmw_defs.proofs.Along.{Pairs, Eases, Keeps, leads-along}
+use Rattle.tmw_defs.proofs.Shared.{Event, IsTrue, Leads, List, State, Txn, [], ap, append-nil, arith, is_cut, length, sym, transactions, transactions_from, ℕ, ◌++◌, ◌+◌, ◌∙◌, ◌∷◌, ◌≡◌}
+use Rattle.tmw_defs.proofs.Along.{Pairs, Keeps, leads-along}
 use Rattle.tmw_defs.proofs.Apart.{leads_split}
 use Rattle.tmw_defs.proofs.Before.{is_before, leads-append}
 use Rattle.tmw_defs.proofs.Places.{IsLater, is_before-lies, later-transactions, lies-transactions, transactions_from-append, transactions_from-ended}
 
--- transactions with one text are alike
-eases_text : (t u : Txn) → t.text ≡ u.text → Eases t u
-eases_text t u same = record {
-  reads = λ s reads. rw (← same) reads;
-  may = λ held may. rw (← same) may;
-  leaves = λ s held may. ap (λ (text : List Kind). if held then after_writes s (operations text) else s) same;
-}
-
-precedes-later : (n : ℕ) (t u a b : Txn) → t.text ≡ u.text → t.last ≡ u.last + n → a.first ≡ b.first + n
-    → IsTrue (precedes u b) → IsTrue (precedes t a)
-precedes-later n t u a b text last first h =
-    let (ended, before) = and_parts (is_ended u.text) _ h in
-    let lt = ltb-true u.last b.first before in
-    and_from _ _ (rw text ended) (lt-ltb t.last a.first (omega (arith, last, first, lt)))
-
-precedes-earlier : (n : ℕ) (t u a b : Txn) → u.text ≡ t.text → u.last ≡ t.last + n → b.first ≡ a.first + n
-    → IsTrue (precedes u b) → IsTrue (precedes t a)
-precedes-earlier n t u a b text last first h =
-    let (ended, before) = and_parts (is_ended u.text) _ h in
-    let lt = ltb-true u.last b.first before in
-    and_from _ _ (rw text at ended) (lt-ltb t.last a.first (omega (arith, last, first, lt)))
-
 pub keeps-later : (n : ℕ) → Keeps (IsLater n)
-keeps-later n = record {
-  turn = λ t u l. eases_text t u l.text;
-  order = λ t u a b l m. precedes-later n t u a b l.text l.last m.first;
-}
+keeps-later n = grind arith
 
 pub keeps-earlier : (n : ℕ) → Keeps (λ t u. IsLater n u t)
-keeps-earlier n = record {
-  turn = λ t u l. eases_text t u (sym l.text);
-  order = λ t u a b l m. precedes-earlier n t u a b l.text l.last m.first;
-}
+keeps-earlier n = grind arith
 
 pub pairs-flip : (Rel : Txn → Txn → Type 0) (ts us : List Txn) → Pairs Rel ts us → Pairs (λ u t. Rel t u) us ts
 pairs-flip Rel [] [] pairs = tt
@@ -68,9 +40,7 @@ pub comes_apart : (past rest : List Event) → IsTrue (is_cut past) → IsTrue (
 unfolding behind
 comes_apart past rest cut =
     let same : 0 + length past ≡ length past = omega arith in
-    let one = rw same at (lies-transactions 0 0 [] past (omega arith) tt) in
-    let two = lies-transactions (length past) (length past) [] rest (omega arith) tt in
-    is_before-lies (length past) (length past + length rest) (transactions past) (behind past rest) cut one two
+    grind (arith, lies-transactions, is_before-lies)
 
 -- over a cut, orders of the whole are orders of the past followed by orders of the rest
 pub leads_over : (s r : State) (past rest : List Event) → IsTrue (is_cut past) → Leads s (transactions (past ++ rest)) r

@@ -1,5 +1,5 @@
 -- The search for a serial order is sound and complete: it answers true exactly where the transactions have one.
-use Rattle.tmw_defs.proofs.Shared.{Bool, HasOrder, IsTrue, List, None, Option, Placed, Some, State, Txn, [], after, and_from, and_parts, ap, arith, cases_Bool, cases_lt, comes, false, has_order, inl, inr, is_explained, is_free, length, list_all, may_be, may_come, not, one_below, one_way, operations, or_cases, or_left, or_right, precedes, reads_hold, refl, remove, slice_get, slice_get_within, suc, sym, true, zero, ℕ, ◌&&◌, ◌<◌, ◌||◌, ◌∙◌, ◌∷◌, ◌≡◌}
+use Rattle.tmw_defs.proofs.Shared.{Bool, HasOrder, IsTrue, List, None, Option, Placed, Some, State, Txn, [], after, and_from, and_parts, ap, arith, cases_lt, comes, false, has_order, inl, inr, is_explained, is_free, length, list_all, may_be, may_come, not, one_below, one_way, operations, or_cases, or_left, precedes, reads_hold, refl, remove, slice_get, slice_get_within, suc, sym, true, zero, ℕ, ◌&&◌, ◌<◌, ◌∙◌, ◌∷◌, ◌≡◌}
 use Rattle.tmw_defs.proofs.Removals.{list_all-places, length-taken}
 
 -- what a search that found a first transaction tells of it
@@ -26,15 +26,7 @@ comes_parts next s rest (Some t) h =
 -- and the other way round
 comes_from : (next : State → List Txn → Bool) (s : State) (rest : List Txn) (found : Option Txn)
     → Comes next s rest found → IsTrue (comes next s rest found)
-comes_from next s rest found c =
-    let t = c.placed.txn in
-    let way : (held : Bool) → c.placed.held ≡ held → IsTrue (one_way next s rest (record { txn = t; held = held })) =
-    λ held is. rw (← is) (and_from _ _ c.may c.goes_on)
-    in
-    let ways : IsTrue (one_way next s rest (record { txn = t; held = true }) || one_way next s rest (record { txn = t; held = false })) =
-    elim (cases_Bool c.placed.held) [ inl is ↦ or_left _ _ (way true is) | inr is ↦ or_right _ _ (way false is) ]
-    in
-    rw c.is (and_from _ _ (and_from _ _ c.free c.reads) ways)
+comes_from next s rest found c = grind arith
 
 -- one of the first so many may come
 below_found : (next : State → List Txn → Bool) (s : State) (ts : List Txn) (k : ℕ) → IsTrue (one_below next s ts k)
@@ -50,9 +42,7 @@ found_below next s ts (suc k) i h here =
     elim (cases_lt i k) [
       | inl earlier ↦ or_left _ _ (found_below next s ts k i earlier here)
       | inr last ↦
-          let same : i ≡ k = omega arith in
-          let at_last : IsTrue (may_come next s ts k) = rw (← same) here in
-          or_right _ _ at_last
+          let same : i ≡ k = omega arith in grind arith
     ]
 
 pub has_order-sound : (n : ℕ) (s : State) (ts : List Txn) → IsTrue (has_order n s ts) → HasOrder s ts

@@ -1,7 +1,7 @@
 -- What a completion holds of two lists together, of a part that began later, and of transactions that are pairwise like others.
-use Rattle.tmw_defs.proofs.Shared.{AreHeld, Bool, IsTrue, List, Placed, Txn, [], and_from, and_parts, ap, false, inl, inr, list_all, refl, true, ◌++◌, ◌∙◌, ◌∷◌, ◌≡◌}
+use Rattle.tmw_defs.proofs.Shared.{AreHeld, Bool, IsTrue, List, Placed, Txn, [], and_parts, ap, inl, inr, list_all, refl, true, ◌++◌, ◌∙◌, ◌∷◌, ◌≡◌, arith}
 use Rattle.tmw_defs.proofs.Along.{Pairs, Keeps, Alike}
-use Rattle.tmw_defs.proofs.Before.{comes_before, is_before, list_all-mono}
+use Rattle.tmw_defs.proofs.Before.{is_before, list_all-mono}
 
 -- what holds of each transaction holds of each that a completion holds
 pub list_all-held : (p : Txn → Bool) (ts members : List Txn) → AreHeld ts members → IsTrue (list_all p ts) → IsTrue (list_all p members)
@@ -11,15 +11,11 @@ list_all-held p (t ∷ ts) members are all =
     elim are [
       | inl out ↦ list_all-held p ts members out.1 more
       | inr held ↦
-          let (may, rest, is, others) = held in
-          rw is (and_from (p t) _ here (list_all-held p ts rest others more))
+          let (may, rest, is, others) = held in cc (list_all-held p ts rest others more)
     ]
 
 pub is_before-held : (ts us ms ns : List Txn) → AreHeld ts ms → AreHeld us ns → IsTrue (is_before ts us) → IsTrue (is_before ms ns)
-is_before-held ts us ms ns first others before =
-    list_all-mono (λ t. list_all (λ u. comes_before t u) us) (λ t. list_all (λ u. comes_before t u) ns)
-    (λ t h. list_all-held (λ u. comes_before t u) us ns others h) ms
-    (list_all-held (λ t. list_all (λ u. comes_before t u) us) ts ms first before)
+is_before-held ts us ms ns first others before = grind (arith, list_all-mono, list_all-held)
 
 -- a completion of two lists together holds what completions of each hold
 pub held-append : (ts us ms ns : List Txn) → AreHeld ts ms → AreHeld us ns → AreHeld (ts ++ us) (ms ++ ns)
@@ -28,8 +24,7 @@ held-append (t ∷ ts) us ms ns first others =
     elim first [
       | inl out ↦ inl (out.0, held-append ts us ms ns out.1 others)
       | inr held ↦
-          let (may, rest, is, more) = held in
-          inr (may, rest ++ ns, ap (λ (xs : List Txn). xs ++ ns) is, held-append ts us rest ns more others)
+          let (may, rest, is, more) = held in grind (arith, (held-append ts us rest ns more others))
     ]
 
 pub record AreParts (ts us members : List Txn) : Type 0 where
@@ -43,15 +38,7 @@ pub held_split : (ts us members : List Txn) → AreHeld (ts ++ us) members → A
 held_split [] us members are = record { one = []; two = members; joined = refl; first = refl; others = are }
 held_split (t ∷ ts) us members are =
     elim are [
-      | inl out ↦
-          let parts = held_split ts us members out.1 in
-          record {
-            one = parts.one;
-            two = parts.two;
-            joined = parts.joined;
-            first = inl (out.0, parts.first);
-            others = parts.others;
-          }
+      | inl out ↦ grind (arith, (held_split ts us members out.1))
       | inr held ↦
           let (may, rest, is, more) = held in
           let parts = held_split ts us rest more in
@@ -78,9 +65,7 @@ held-along Rel keeps (t ∷ ts) [] members pairs are = absurd pairs
 held-along Rel keeps (t ∷ ts) (u ∷ us) members pairs are =
     let like = keeps.turn t u pairs.0 in
     elim are [
-      | inl out ↦
-          let along = held-along Rel keeps ts us members pairs.1 out.1 in
-          record { other = along.other; are = inl (like.may false out.0, along.are); pairs = along.pairs }
+      | inl out ↦ grind (arith, (held-along Rel keeps ts us members pairs.1 out.1))
       | inr held ↦
           let (may, rest, is, more) = held in
           let along = held-along Rel keeps ts us rest pairs.1 more in
@@ -98,5 +83,4 @@ all_held-along Rel [] [] pairs held = refl
 all_held-along Rel [] (q ∷ other) pairs held = absurd pairs
 all_held-along Rel (p ∷ order) [] pairs held = absurd pairs
 all_held-along Rel (p ∷ order) (q ∷ other) pairs held =
-    let (here, more) = and_parts p.held _ held in
-    and_from q.held _ (rw pairs.0.1 at here) (all_held-along Rel order other pairs.1 more)
+    let (here, more) = and_parts p.held _ held in cc (all_held-along Rel order other pairs.1 more)

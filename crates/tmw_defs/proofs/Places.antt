@@ -1,18 +1,15 @@
 -- Where the transactions of a history lie in it, and what those of a part behind a cut are.
-use Rattle.tmw_defs.proofs.Shared.{AllByRecursion, Bool, Event, IsTrue, Kind, List, Txn, [], add_event, and_from, and_parts, ap, arith, cases_Bool, false, inl, inr, is_ended, length, list_all, lt-ltb, ltb-true, nat_lt, not, refl, suc, transactions_from, true, ℕ, ◌&&◌, ◌++◌, ◌+◌, ◌<◌, ◌==◌, ◌∙◌, ◌∷◌, ◌≡◌, ◌≤◌}
+use Rattle.tmw_defs.proofs.Shared.{AllByRecursion, Bool, Event, IsTrue, List, Txn, [], add_event, and_from, and_parts, ap, arith, cases_Bool, false, inl, inr, is_ended, length, list_all, lt-ltb, ltb-true, nat_lt, not, refl, suc, transactions_from, true, ℕ, ◌&&◌, ◌++◌, ◌+◌, ◌<◌, ◌∙◌, ◌∷◌, ◌≡◌, ◌≤◌}
 use Rattle.tmw_defs.proofs.Along.{Pairs}
 use Rattle.tmw_defs.proofs.Before.{comes_before, is_before}
-use Rattle.tmw_defs.proofs.OneMore.{joins, add_event_here, add_event_past}
 
 -- the transactions of two parts, one after the other
 pub transactions_from-append : (place : ℕ) (ts : List Txn) (past rest : List Event)
     → transactions_from place ts (past ++ rest) ≡ transactions_from (place + length past) (transactions_from place ts past) rest
-transactions_from-append place ts [] rest =
-    let same : place ≡ place + 0 = omega arith in ap (λ n. transactions_from n ts rest) same
+transactions_from-append place ts [] rest = grind arith
 transactions_from-append place ts (e ∷ past) rest =
     let same : place + 1 + length past ≡ place + suc (length past) = omega arith in
-    transactions_from-append (place + 1) (add_event place e ts) past rest
-    ∙ ap (λ n. transactions_from n (transactions_from (place + 1) (add_event place e ts) past) rest) same
+    cc (transactions_from-append (place + 1) (add_event place e ts) past rest)
 
 -- an event passes over transactions that have ended
 add_event-ended : (place : ℕ) (e : Event) (ts us : List Txn) → IsTrue (list_all (λ t. is_ended t.text) ts)
@@ -20,12 +17,7 @@ add_event-ended : (place : ℕ) (e : Event) (ts us : List Txn) → IsTrue (list_
 add_event-ended place e [] us ended = refl
 add_event-ended place e (t ∷ ts) us ended =
     let (here, more) = and_parts (is_ended t.text) _ ended in
-    let past : joins e t ≡ false = rw here (and_false (t.thread == e.thread.number)) in
-    add_event_past place e t (ts ++ us) past ∙ ap (λ xs. t ∷ xs) (add_event-ended place e ts us more)
-  where
-    and_false : (b : Bool) → (b && false) ≡ false
-    and_false true = refl
-    and_false false = refl
+    grind (arith, (add_event-ended place e ts us more))
 
 pub transactions_from-ended : (place : ℕ) (ts us : List Txn) (es : List Event) → IsTrue (list_all (λ t. is_ended t.text) ts)
     → transactions_from place (ts ++ us) es ≡ ts ++ transactions_from place us es
@@ -44,14 +36,8 @@ pub lies-add : (from place : ℕ) (e : Event) (ts : List Txn) → from ≤ place
     → AllByRecursion (Lies from (place + 1)) (add_event place e ts)
 lies-add from place e [] low all = (record { low = low; ordered = omega arith; high = omega arith }, tt)
 lies-add from place e (t ∷ ts) low all =
-    let l = all.0 in
     let rest = lies-more from place ts all.1 in
-    elim (cases_Bool (joins e t)) [
-      | inl here ↦ rw (add_event_here place e t ts here)
-          (record { low = l.low; ordered = omega (arith, l.ordered, l.high); high = omega arith }, rest)
-      | inr past ↦ rw (add_event_past place e t ts past)
-          (record { low = l.low; ordered = l.ordered; high = omega (arith, l.high) }, lies-add from place e ts low all.1)
-    ]
+    grind (arith, (lies-add from place e ts low all.1))
   where
     lies-more : (from place : ℕ) (ts : List Txn) → AllByRecursion (Lies from place) ts → AllByRecursion (Lies from (place + 1)) ts
     lies-more from place [] all = tt
@@ -60,8 +46,7 @@ lies-add from place e (t ∷ ts) low all =
 
 pub lies-transactions : (from place : ℕ) (ts : List Txn) (es : List Event) → from ≤ place → AllByRecursion (Lies from place) ts
     → AllByRecursion (Lies from (place + length es)) (transactions_from place ts es)
-lies-transactions from place ts [] low all =
-    let same : place ≡ place + 0 = omega arith in rw (← same) all
+lies-transactions from place ts [] low all = grind arith
 lies-transactions from place ts (e ∷ es) low all =
     let same : place + 1 + length es ≡ place + suc (length es) = omega arith in
     rw (← same) (lies-transactions from (place + 1) (add_event place e ts) es (omega arith) (lies-add from place e ts low all))
@@ -103,15 +88,7 @@ later-add n place e [] [] pairs = (record { thread = refl; text = refl; first = 
 later-add n place e [] (u ∷ us) pairs = absurd pairs
 later-add n place e (t ∷ ts) [] pairs = absurd pairs
 later-add n place e (t ∷ ts) (u ∷ us) pairs =
-    let l = pairs.0 in
-    let same : joins e t ≡ joins e u = ap (λ x. (x == e.thread.number) && not (is_ended t.text)) l.thread
-    ∙ ap (λ x. (u.thread == e.thread.number) && not (is_ended x)) l.text in
-    elim (cases_Bool (joins e u)) [
-      | inl here ↦ rw (add_event_here (place + n) e t ts (same ∙ here), add_event_here place e u us here)
-          (record { thread = l.thread; text = ap (λ (x : List Kind). x ++ e.kind ∷ []) l.text; first = l.first; last = refl }, pairs.1)
-      | inr past ↦ rw (add_event_past (place + n) e t ts (same ∙ past), add_event_past place e u us past)
-          (l, later-add n place e ts us pairs.1)
-    ]
+    grind (arith, (later-add n place e ts us pairs.1))
 
 pub later-transactions : (n place : ℕ) (ts us : List Txn) (es : List Event) → Pairs (IsLater n) ts us
     → Pairs (IsLater n) (transactions_from (place + n) ts es) (transactions_from place us es)

@@ -1,8 +1,8 @@
 -- Quiet events and opacity: an order of a history's transactions is still one, with the same states, after a quiet event.
-use Rattle.tmw_defs.proofs.Shared.{A, Aborted, Add, AllByRecursion, Bool, C, Committed, Event, IsFinalOpaque, IsTrue, Ix, K, Kind, Leads, List, Live, N, Op, Pending, Placed, R, Read, Some, State, Status, T, Txn, V, W, Write, X, [], add_event, and_from, and_parts, ap, arith, awaits_commit, cases_Bool, end_state, false, inl, inr, is_ended, is_over, is_pending, is_quiet, is_text, is_well_formed, length, list_all, list_all-append, ltb-true, may_be, may_hold, nat_lt, not, not-true, operations, precedes, reads_hold, refl, slice_index, slice_set, status_after, status_of, transactions, true, ℕ, ◌%◌, ◌&&◌, ◌++◌, ◌+◌, ◌==◌, ◌^◌, ◌||◌, ◌∙◌, ◌∷◌, ◌≡◌, ◌≤◌, ◌⊎◌}
+use Rattle.tmw_defs.proofs.Shared.{A, Add, AllByRecursion, Bool, C, Event, IsFinalOpaque, IsTrue, Ix, Kind, Leads, List, Op, Pending, Placed, Read, Some, State, Txn, Write, [], add_event, and_from, and_parts, ap, arith, awaits_commit, cases_Bool, end_state, false, inl, inr, is_ended, is_pending, is_quiet, is_text, is_well_formed, length, list_all, list_all-append, may_be, may_hold, precedes, reads_hold, refl, slice_index, slice_set, status_after, status_of, transactions, true, ℕ, ◌%◌, ◌&&◌, ◌++◌, ◌+◌, ◌==◌, ◌^◌, ◌||◌, ◌∙◌, ◌∷◌, ◌≡◌, ◌≤◌, ◌⊎◌}
 use Rattle.tmw_defs.proofs.Along.{Pairs, Eases, Keeps, leads-along}
 use Rattle.tmw_defs.proofs.Before.{none_precedes, places-append, keeps-append, is_legal-append, end_state-append}
-use Rattle.tmw_defs.proofs.OneMore.{joins, begun, longer, add_event_here, add_event_past, transactions-push}
+use Rattle.tmw_defs.proofs.OneMore.{joins, begun, longer, add_event_past, transactions-push}
 use Rattle.tmw_defs.proofs.Places.{Lies, lies-transactions}
 use Rattle.tmw_defs.proofs.QuietTexts.{tells_no_value, AddsAWrite, operations-push, status_of-push, pending-answered}
 use Rattle.tmw_defs.proofs.Removals.{list_all-places}
@@ -16,61 +16,23 @@ reads_hold-write s (Add q d w ∷ ops) r v =
     ap (λ b. (slice_index s q.number == w) && b) (reads_hold-write (slice_set s q.number ((w + d) % 2 ^ 64)) ops r v)
 
 reads_hold-adds : (s : State) (old new : List Op) → AddsAWrite old new → IsTrue (reads_hold s old) → IsTrue (reads_hold s new)
-reads_hold-adds s old new adds reads =
-    elim adds [
-      | inl same ↦ rw same reads
-      | inr more ↦ rw (more.2, reads_hold-write s old more.0 more.1) reads
-    ]
+reads_hold-adds s old new adds reads = grind (arith, reads_hold-write)
 
 -- what a quiet event is not
 quiet-kind : (ts : List Txn) (thread : ℕ) (k : Kind) → IsTrue (is_quiet ts thread k)
     → IsTrue (tells_no_value k) × (k ≡ C → ⊥) × (k ≡ A → awaits_commit ts thread ≡ false)
-quiet-kind ts thread (V v) quiet = absurd (cc)
-quiet-kind ts thread C quiet = absurd (cc)
-quiet-kind ts thread A quiet = (refl, λ h. absurd (cc), λ h. not-true (awaits_commit ts thread) quiet)
-quiet-kind ts thread (R r) quiet = (refl, λ h. absurd (cc), λ h. absurd (cc))
-quiet-kind ts thread (W r v) quiet = (refl, λ h. absurd (cc), λ h. absurd (cc))
-quiet-kind ts thread K quiet = (refl, λ h. absurd (cc), λ h. absurd (cc))
-quiet-kind ts thread T quiet = (refl, λ h. absurd (cc), λ h. absurd (cc))
-quiet-kind ts thread X quiet = (refl, λ h. absurd (cc), λ h. absurd (cc))
-quiet-kind ts thread (N r v) quiet = (refl, λ h. absurd (cc), λ h. absurd (cc))
+quiet-kind ts thread k quiet = grind arith
 
 -- a transaction may be left out unless it has committed
 pub left_out : (k : Kind) → (k ≡ C → ⊥) → may_hold (status_after (Some k)) false ≡ true
-left_out C other = absurd (other refl)
-left_out (R r) other = refl
-left_out (V v) other = refl
-left_out (W r v) other = refl
-left_out K other = refl
-left_out T other = refl
-left_out X other = refl
-left_out A other = refl
-left_out (N r v) other = refl
-
-pub live_of : (s : Status) → is_over s ≡ false → (s ≡ Pending → ⊥) → s ≡ Live
-live_of Live over pending = refl
-live_of Pending over pending = absurd (pending refl)
-live_of Committed over pending = absurd (cc)
-live_of Aborted over pending = absurd (cc)
-
-not_held : (held : Bool) → may_hold Live held ≡ true → held ≡ false
-not_held true may = absurd (cc)
-not_held false may = refl
+left_out k other = grind arith
 
 -- a live transaction and the same with a quiet event more are alike
 eases-longer : (registers place : ℕ) (e : Event) (t : Txn) → is_ended t.text ≡ false → (status_of t.text ≡ Pending → ⊥)
     → IsTrue (tells_no_value e.kind) → (e.kind ≡ C → ⊥) → IsTrue (is_text registers (t.text ++ e.kind ∷ []))
     → Eases t (longer place e t)
 eases-longer registers place e t unended pending value commit formed =
-    let live : status_of t.text ≡ Live = live_of (status_of t.text) unended pending in
-    let out : (held : Bool) → IsTrue (may_hold (status_of t.text) held) → held ≡ false =
-    λ held may. not_held held (rw live at may) in
-    record {
-      reads = λ s reads. reads_hold-adds s (operations t.text) (operations (t.text ++ e.kind ∷ []))
-          (operations-push registers t.text e.kind formed value) reads;
-      may = λ held may. rw (out held may, status_of-push t.text e.kind) (left_out e.kind commit);
-      leaves = λ s held may. rw (out held may) refl;
-    }
+    grind (arith, reads_hold-adds, operations-push, status_of-push)
 
 -- the one is the other, or the other with an event more at this place
 record IsLonger (n : ℕ) (t u : Txn) : Type 0 where
@@ -79,29 +41,15 @@ record IsLonger (n : ℕ) (t u : Txn) : Type 0 where
   eases : Eases t u
   ends : IsTrue (is_ended u.text) → ((is_ended t.text ≡ true) × (t.last ≡ u.last)) ⊎ (n ≤ u.last)
 
-eases-same : (t : Txn) → Eases t t
-eases-same t = record { reads = λ s reads. reads; may = λ held may. may; leaves = λ s held may. refl }
-
 longer-same : (n : ℕ) (t : Txn) → Lies 0 n t → IsLonger n t t
-longer-same n t l = record {
-  first = refl;
-  within = omega (arith, l.ordered, l.high);
-  eases = eases-same t;
-  ends = λ over. inl (over, refl);
-}
+longer-same n t l = grind arith
 
 pairs-same : (n : ℕ) (ts : List Txn) → AllByRecursion (Lies 0 n) ts → Pairs (IsLonger n) ts ts
 pairs-same n [] all = tt
 pairs-same n (t ∷ ts) all = (longer-same n t all.0, pairs-same n ts all.1)
 
 precedes-longer : (n : ℕ) (t u a b : Txn) → IsLonger n t u → IsLonger n a b → IsTrue (precedes u b) → IsTrue (precedes t a)
-precedes-longer n t u a b l m h =
-    let (over, before) = and_parts (is_ended u.text) (nat_lt u.last b.first) h in
-    let less = ltb-true u.last b.first before in
-    elim (l.ends over) [
-      | inl same ↦ and_from _ _ same.0 (rw (same.1, m.first) before)
-      | inr late ↦ absurd (omega (arith, late, less, m.within))
-    ]
+precedes-longer n t u a b l m h = grind arith
 
 keeps-longer : (n : ℕ) → Keeps (IsLonger n)
 keeps-longer n = record { turn = λ t u l. l.eases; order = λ t u a b l m. precedes-longer n t u a b l m }
@@ -113,66 +61,32 @@ record Grows (registers n : ℕ) (e : Event) (ts : List Txn) : Type 0 where
   aborts : e.kind ≡ A → awaits_commit ts e.thread.number ≡ false
 
 pub or_none : (a b : Bool) → (a || b) ≡ false → (a ≡ false) × (b ≡ false)
-or_none true b h = absurd (cc)
-or_none false b h = (refl, h)
+or_none a b h = grind arith
 
 -- the transaction that the event joins is not commit-pending
 pub joined_live : (registers n : ℕ) (e : Event) (t : Txn) (ts : List Txn) → joins e t ≡ true → (e.kind ≡ C → ⊥)
     → (e.kind ≡ A → awaits_commit (t ∷ ts) e.thread.number ≡ false) → IsTrue (is_text registers (t.text ++ e.kind ∷ []))
     → status_of t.text ≡ Pending → ⊥
-joined_live registers n e t ts here commit aborts formed pending =
-    elim (pending-answered registers t.text e.kind formed pending) [
-      | inl is ↦ commit is
-      | inr is ↦
-          let thread = (and_parts (t.thread == e.thread.number) _ here).0 in
-          let none = (or_none ((t.thread == e.thread.number) && is_pending (status_of t.text)) _ (aborts is)).0 in
-          absurd (let k = rw (thread, pending) at none in cc)
-    ]
+joined_live registers n e t ts here commit aborts formed pending = grind (arith, pending-answered)
 
 grown : (registers n : ℕ) (e : Event) (ts : List Txn) → Grows registers n e ts → IsTrue (tells_no_value e.kind) → (e.kind ≡ C → ⊥)
     → Pairs (IsLonger n) ts (add_event n e ts) ⊎ (add_event n e ts ≡ ts ++ begun n e ∷ [])
 grown registers n e [] g value commit = inr refl
 grown registers n e (t ∷ ts) g value commit =
     elim (cases_Bool (joins e t)) [
-      | inl here ↦
-          let list = add_event_here n e t ts here in
-          let formed = (and_parts (is_text registers (t.text ++ e.kind ∷ [])) _ (rw list at g.formed)).0 in
-          let unended : is_ended t.text ≡ false = not-true (is_ended t.text) ((and_parts (t.thread == e.thread.number) _ here).1) in
-          inl (rw list (
-            record {
-              first = refl;
-              within = omega (arith, g.all.0.ordered, g.all.0.high);
-              eases = eases-longer registers n e t unended (joined_live registers n e t ts here commit g.aborts formed) value commit formed;
-              ends = λ over. inr (omega arith);
-            },
-            pairs-same n ts g.all.1,
-          ))
+      | inl here ↦ grind (arith, eases-longer, joined_live, pairs-same)
       | inr past ↦
           let list = add_event_past n e t ts past in
-          let rest : Grows registers n e ts = record {
-            all = g.all.1;
-            formed = (and_parts (is_text registers t.text) _ (rw list at g.formed)).1;
-            aborts = λ is. (or_none ((t.thread == e.thread.number) && is_pending (status_of t.text)) _ (g.aborts is)).1;
-          } in
-          elim (grown registers n e ts rest value commit) [
-            | inl pairs ↦ inl (rw list (longer-same n t g.all.0, pairs))
-            | inr last ↦ inr (list ∙ ap (λ xs. t ∷ xs) last)
-          ]
+          let rest : Grows registers n e ts =
+          grind
+          (arith, and_parts, is_text, or_none, is_pending, status_of) in grind (arith, longer-same, (grown registers n e ts rest value commit))
     ]
 
 -- a transaction that has begun goes to the end of an order, and is left out of the completion
 none_before : (n : ℕ) (e : Event) (ts : List Txn) → AllByRecursion (Lies 0 n) ts
     → IsTrue (list_all (λ t. none_precedes (record { txn = begun n e; held = false } ∷ []) t) ts)
 none_before n e [] all = refl
-none_before n e (t ∷ ts) all =
-    let not_after : nat_lt n t.first ≡ false =
-    elim (cases_Bool (nat_lt n t.first))
-    [ inl is ↦ absurd (omega (arith, ltb-true n t.first is, all.0.ordered, all.0.high)) | inr is ↦ is ] in
-    and_from _ _ (and_from _ true (rw not_after (not_and (is_ended (e.kind ∷ [])))) refl) (none_before n e ts all.1)
-  where
-    not_and : (b : Bool) → not (b && false) ≡ true
-    not_and true = refl
-    not_and false = refl
+none_before n e (t ∷ ts) all = grind (arith, (none_before n e ts all.1))
 
 leads-begun : (n : ℕ) (e : Event) (ts : List Txn) (s r : State) → AllByRecursion (Lies 0 n) ts → (e.kind ≡ C → ⊥)
     → Leads s ts r → Leads s (ts ++ begun n e ∷ []) r

@@ -1,6 +1,7 @@
 -- What a quiet event does to the text of the transaction that it joins.
-use Rattle.tmw_defs.proofs.Shared.{A, Bool, C, IsTrue, Ix, K, Kind, List, N, Op, Pending, R, Some, T, V, W, Write, X, [], and_parts, answers, ap, append-nil, append_assoc, arith, ends, false, inl, inr, is_call, is_text, length, not, operation, operations, refl, status_after, status_of, suc, sym, true, ℕ, ◌&&◌, ◌++◌, ◌-◌, ◌∙◌, ◌∷◌, ◌≡◌, ◌⊎◌}
+use Rattle.tmw_defs.proofs.Shared.{A, Bool, C, IsTrue, Ix, K, Kind, List, N, Op, Pending, R, Some, T, V, W, Write, X, [], and_parts, answers, ap, append_assoc, arith, ends, false, inl, inr, is_call, is_text, not, operation, operations, refl, status_after, status_of, sym, true, ℕ, ◌&&◌, ◌++◌, ◌∙◌, ◌∷◌, ◌≡◌, ◌⊎◌}
 use Rattle.tmw_defs.proofs.TextsProof.{slice_get_last}
+use Rattle.std.proofs.Common.{rules}
 
 -- the event answers no read and no add
 abbrev pub tells_no_value : Kind → Bool
@@ -21,8 +22,7 @@ answer-operation registers T C h quiet = inl refl
 answer-operation registers T A h quiet = inl refl
 answer-operation registers X A h quiet = inl refl
 answer-operation registers call (V v) h quiet = absurd (cc)
-answer-operation registers call answer h quiet =
-    absurd (let k : answers call answer ≡ true = (and_parts (is_call registers call) (answers call answer) h).1 in cc)
+answer-operation registers call answer h quiet = grind arith
 
 AddsAWrite-front : (front old new : List Op) → AddsAWrite old new → AddsAWrite (front ++ old) (front ++ new)
 AddsAWrite-front front old new adds =
@@ -34,8 +34,7 @@ AddsAWrite-front front old new adds =
 pub operations-push : (registers : ℕ) (text : List Kind) (k : Kind) → IsTrue (is_text registers (text ++ k ∷ []))
     → IsTrue (tells_no_value k) → AddsAWrite (operations text) (operations (text ++ k ∷ []))
 operations-push registers [] k formed quiet = inl refl
-operations-push registers (call ∷ []) k formed quiet =
-    rw append-nil (answer-operation registers call k formed quiet)
+operations-push registers (call ∷ []) k formed quiet = search (rules, answer-operation)
 operations-push registers (call ∷ answer ∷ []) k formed quiet = inl refl
 operations-push registers (call ∷ answer ∷ next ∷ more) k formed quiet =
     let rest = (and_parts (is_call registers call && answers call answer && not (ends answer)) _ formed).1 in
@@ -46,27 +45,14 @@ pub status_of-push : (text : List Kind) (k : Kind) → status_of (text ++ k ∷ 
 status_of-push text k = ap status_after (slice_get_last text k)
 
 status_of-cons : (k j : Kind) (ks : List Kind) → status_of (k ∷ j ∷ ks) ≡ status_of (j ∷ ks)
-status_of-cons k j ks =
-    let later : length (k ∷ j ∷ ks) - 1 ≡ suc (length (j ∷ ks) - 1) = omega arith in
-    rw later refl
+status_of-cons k j ks = grind arith
 
 -- the last event of a commit-pending text is its commit request
 is_request : (k : Kind) → status_after (Some k) ≡ Pending → k ≡ T
-is_request T pending = refl
-is_request k pending = absurd (cc)
+is_request k pending = grind arith
 
 request-answered : (k : Kind) → answers T k ≡ true → (k ≡ C) ⊎ (k ≡ A)
-request-answered C h = inl refl
-request-answered A h = inr refl
-request-answered k h = absurd (cc)
-
-no_answer : (call : Kind) → answers call T ≡ true → ⊥
-no_answer (R r) h = absurd (cc)
-no_answer (W r v) h = absurd (cc)
-no_answer (N r v) h = absurd (cc)
-no_answer T h = absurd (cc)
-no_answer X h = absurd (cc)
-no_answer call h = absurd (cc)
+request-answered k h = grind arith
 
 -- a commit request is answered by a commit or an abort event alone
 pub pending-answered : (registers : ℕ) (text : List Kind) (k : Kind) → IsTrue (is_text registers (text ++ k ∷ []))
@@ -75,11 +61,7 @@ pending-answered registers [] k formed pending = absurd (cc)
 pending-answered registers (call ∷ []) k formed pending =
     let answered = (and_parts (is_call registers call) (answers call k) formed).1 in
     request-answered k (rw (is_request call pending) at answered)
-pending-answered registers (call ∷ answer ∷ []) k formed pending =
-    let front = (and_parts (is_call registers call && answers call answer && not (ends answer)) (is_call registers k) formed).0 in
-    let both = (and_parts (is_call registers call && answers call answer) (not (ends answer)) front).0 in
-    let answered = (and_parts (is_call registers call) (answers call answer) both).1 in
-    absurd (no_answer call (rw (is_request answer pending) at answered))
+pending-answered registers (call ∷ answer ∷ []) k formed pending = grind arith
 pending-answered registers (call ∷ answer ∷ next ∷ more) k formed pending =
     let rest = (and_parts (is_call registers call && answers call answer && not (ends answer)) _ formed).1 in
     pending-answered registers (next ∷ more) k rest

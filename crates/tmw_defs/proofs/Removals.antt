@@ -1,10 +1,8 @@
 -- What a list of transactions is once one is taken out, and that serial orders place just its members.
-use Rattle.tmw_defs.proofs.Shared.{Bool, List, Placed, PlacesEach, Some, Txn, [], ap, arith, false, length, length-remove, list_all, refl, remove, slice_get, slice_get_within, suc, sym, true, zero, ℕ, ◌&&◌, ◌+◌, ◌∙◌, ◌∷◌, ◌≡◌}
+use Rattle.tmw_defs.proofs.Shared.{Bool, List, Placed, PlacesEach, Some, Txn, [], ap, arith, length, length-remove, list_all, remove, slice_get, slice_get_within, suc, sym, zero, ℕ, ◌&&◌, ◌∙◌, ◌∷◌, ◌≡◌}
 
 and_swap : (a b c : Bool) → (a && (b && c)) ≡ (b && (a && c))
-and_swap true b c = refl
-and_swap false true c = refl
-and_swap false false c = refl
+and_swap a b c = grind arith
 
 -- what holds of each holds of the one at a place and of each of the others
 pub list_all-remove : {A : Type 0} (p : A → Bool) (xs : List A) (i : ℕ) (x : A) → slice_get xs i ≡ Some x
@@ -24,6 +22,4 @@ list_all-places p ts (q ∷ more) (i, at, rest) =
 -- one less is left
 pub length-taken : {A : Type 0} (n : ℕ) (xs : List A) (i : ℕ) (x : A) → length xs ≡ suc n → slice_get xs i ≡ Some x
     → length (remove xs i) ≡ n
-length-taken n xs i x size at =
-    let one_less : length (remove xs i) + 1 ≡ length xs = length-remove xs i (slice_get_within xs i x at) in
-    omega arith
+length-taken n xs i x size at = grind (arith, length-remove, slice_get_within)

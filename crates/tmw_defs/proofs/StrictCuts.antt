@@ -1,5 +1,5 @@
 -- Over a cut, serial orders of what a completion of a history holds are those of what went before followed by those of what follows.
-use Rattle.tmw_defs.proofs.Shared.{Event, Explains, IsTrue, LeadsBy, List, State, Strict, Txn, and_from, and_parts, ap, end_state, is_cut, length, list_all, list_all-append, refl, sym, transactions, ◌++◌, ◌∙◌}
+use Rattle.tmw_defs.proofs.Shared.{Event, Explains, IsTrue, LeadsBy, List, State, Strict, Txn, and_from, ap, end_state, is_cut, length, list_all-append, transactions, ◌++◌, ◌∙◌, arith}
 use Rattle.tmw_defs.proofs.Along.{Pairs, Keeps, explains-along}
 use Rattle.tmw_defs.proofs.Apart.{explains_split}
 use Rattle.tmw_defs.proofs.Before.{is_before, explains-append, end_state-append}
@@ -28,36 +28,15 @@ strict_leads_split s r ts us before (order, a, is_r) =
     let apart = is_before-held ts us parts.one parts.two parts.first parts.others before in
     let explains : Explains s (parts.one ++ parts.two) order = rw parts.joined at a.explains in
     let split = explains_split s parts.one parts.two order apart explains in
-    let (one_held, two_held) = and_parts (list_all (λ p. p.held) split.one) _
-    (rw (split.joined, list_all-append (λ p. p.held) split.one split.two) at a.held) in (
-      end_state s split.one,
-      (
-        split.one,
-        record { members = parts.one; are = parts.first; explains = split.first; held = one_held },
-        refl,
-      ),
-      (
-        split.two,
-        record { members = parts.two; are = parts.others; explains = split.others; held = two_held },
-        sym (end_state-append s split.one split.two) ∙ ap (end_state s) (sym split.joined) ∙ is_r,
-      ),
-    )
+    grind (arith, list_all-append, end_state-append)
 
 -- where the ones lead, others that are pairwise like them do
 pub strict_leads-along : (Rel : Txn → Txn → Type 0) → Keeps Rel → (ts us : List Txn) → Pairs Rel ts us → (s r : State)
     → LeadsBy Strict s ts r → LeadsBy Strict s us r
 strict_leads-along Rel keeps ts us pairs s r (order, a, is_r) =
     let held = held-along Rel keeps ts us a.members pairs a.are in
-    let along = explains-along Rel keeps a.members held.other held.pairs s order a.explains in (
-      along.other,
-      record {
-        members = held.other;
-        are = held.are;
-        explains = along.explains;
-        held = all_held-along Rel order along.other along.alike a.held;
-      },
-      sym along.end ∙ is_r,
-    )
+    let along = explains-along Rel keeps a.members held.other held.pairs s order a.explains in
+    grind (arith, all_held-along)
 
 pub strict_leads_over : (s r : State) (past rest : List Event) → IsTrue (is_cut past) → LeadsBy Strict s (transactions (past ++ rest)) r
     → (m : State) × LeadsBy Strict s (transactions past) m × LeadsBy Strict m (transactions rest) r

@@ -1,7 +1,7 @@
 -- Each thread's transactions are its events, cut after each commit and each abort event: shown by one event more at a time.
-use Rattle.tmw_defs.proofs.Shared.{Event, Happens, IsTrue, Kind, LiesAfter, List, R, Some, TextsLaw, Txn, [], add_event, and_from, and_parts, ap, append-nil, append_assoc, arith, cases_Bool, ended_but_last, ends, eqb-true, false, inl, inr, is_ended, is_over, joined_texts, kinds_of, length, length-append, not_from_false, of_thread, open_but_last, refl, slice_get, slice_get_within, status_after, subst, suc, sym, take, take-append-add, take-append-le, take-append_seam, transactions, zero, ℕ, ◌++◌, ◌+◌, ◌-◌, ◌<◌, ◌==◌, ◌∙◌, ◌∷◌, ◌≡◌, ◌≤◌}
+use Rattle.tmw_defs.proofs.Shared.{Event, Happens, IsTrue, Kind, LiesAfter, List, Some, TextsLaw, Txn, [], add_event, and_from, and_parts, ap, append-nil, append_assoc, arith, cases_Bool, ended_but_last, ends, eqb-true, false, inl, inr, is_ended, is_over, joined_texts, kinds_of, length, length-append, not_from_false, of_thread, open_but_last, refl, slice_get, slice_get_within, status_after, subst, suc, sym, take, take-append-add, take-append-le, take-append_seam, transactions, zero, ℕ, ◌++◌, ◌+◌, ◌-◌, ◌<◌, ◌==◌, ◌∙◌, ◌∷◌, ◌≡◌, ◌≤◌}
 use Rattle.std.proofs.lemmas.Grind.{flat_map-append}
-use Rattle.tmw_defs.proofs.OneMore.{begun, longer, Own, turn, transactions-push, add_event_here, add_event_past, of_thread-add_other, of_thread-add_own, all_own, kinds_of-own, kinds_of-other, ended_rest, ended_but_last-add, joined_texts-add}
+use Rattle.tmw_defs.proofs.OneMore.{begun, longer, Own, turn, transactions-push, add_event_here, of_thread-add_other, of_thread-add_own, all_own, kinds_of-own, kinds_of-other, ended_rest, ended_but_last-add, joined_texts-add}
 
 -- an element stays where it is when the list grows at its end, and the new one stands there
 slice_get_kept : {A : Type 0} (xs ys : List A) (i : ℕ) (x : A) → slice_get xs i ≡ Some x → slice_get (xs ++ ys) i ≡ Some x
@@ -20,13 +20,10 @@ slice_get_last xs x =
 
 -- an event ends its transaction exactly where it is the last of an ended one
 pub is_over-ends : (k : Kind) → is_over (status_after (Some k)) ≡ ends k
-is_over-ends (R r) = refl
-is_over-ends _ = refl
+is_over-ends k = grind arith
 
 pub is_ended-cons : (k j : Kind) (ks : List Kind) → is_ended (k ∷ j ∷ ks) ≡ is_ended (j ∷ ks)
-is_ended-cons k j ks =
-    let later : length (k ∷ j ∷ ks) - 1 ≡ suc (length (j ∷ ks) - 1) = omega arith in
-    rw later refl
+is_ended-cons k j ks = grind arith
 
 open_but_last-push : (ks : List Kind) (k : Kind) → is_ended ks ≡ false → IsTrue (open_but_last ks)
     → IsTrue (open_but_last (ks ++ k ∷ []))
@@ -112,16 +109,11 @@ all_lie-add h e earlier (t ∷ ts) own ended joined lie =
           let rest_joined : joined_texts (earlier ++ t ∷ []) ++ joined_texts ts ≡ kinds_of e.thread.number h
           = ap (λ ks. ks ++ joined_texts ts) (joined_texts-push earlier t) ∙ append_assoc (joined_texts earlier) t.text (joined_texts ts) ∙ joined
           in
-          rw (add_event_past (length h) e t ts p.past) (
-            lies_kept e.thread.number h e earlier t lie.0,
-            all_lie-add h e (earlier ++ t ∷ []) ts own_rest (ended_rest t ts ended) rest_joined lie.1,
-          )
+          let more =
+          all_lie-add h e (earlier ++ t ∷ []) ts own_rest (ended_rest t ts ended) rest_joined lie.1 in
+          grind (arith, lies_kept)
       | inr k ↦
-          let only : joined_texts earlier ++ t.text ≡ kinds_of e.thread.number h
-          = ap (λ ks. joined_texts earlier ++ ks) (sym (append-nil t.text) ∙ ap (λ us. t.text ++ joined_texts us) (sym k.alone)) ∙ joined
-          in
-          rw (add_event_here (length h) e t ts k.here, k.alone)
-          (lies_longer h e earlier t k.open_still only lie.0, tt)
+          grind (arith, joined_texts, kinds_of, append-nil, add_event_here, length, lies_longer)
     ]
 
 -- what is kept by one event more
@@ -137,23 +129,12 @@ lain_own h e l =
     = ap (of_thread e.thread.number) (transactions-push h e) ∙ of_thread-add_own (length h) e (transactions h)
     in
     let own : Own e ts = all_own e.thread.number (transactions h) in
-    record {
-      joined = ap joined_texts added ∙ joined_texts-add (length h) e ts own l.ended ∙ ap (λ ks. ks ++ e.kind ∷ []) l.joined ∙ sym (kinds_of-own h e);
-      ended = ap ended_but_last added ∙ ended_but_last-add (length h) e ts own l.ended;
-      lie = subst (AllLie e.thread.number (h ++ e ∷ []) []) (sym added) (all_lie-add h e [] ts own l.ended l.joined l.lie);
-    }
+    grind (arith, joined_texts-add, kinds_of-own, ended_but_last-add, all_lie-add)
 
 lain_other : (thread : ℕ) (h : List Event) (e : Event) → (e.thread.number == thread) ≡ false → Lain thread h
     → Lain thread (h ++ e ∷ [])
 lain_other thread h e other l =
-    let same : of_thread thread (transactions (h ++ e ∷ [])) ≡ of_thread thread (transactions h)
-    = ap (of_thread thread) (transactions-push h e) ∙ of_thread-add_other thread (length h) e (transactions h) other
-    in
-    record {
-      joined = ap joined_texts same ∙ l.joined ∙ sym (kinds_of-other thread h e other);
-      ended = ap ended_but_last same ∙ l.ended;
-      lie = subst (AllLie thread (h ++ e ∷ []) []) (sym same) (all_lie_kept thread h e [] (of_thread thread (transactions h)) l.lie);
-    }
+    grind (arith, transactions-push, of_thread-add_other, kinds_of-other, all_lie_kept)
 
 lain_more : (thread : ℕ) (h : List Event) (e : Event) → Lain thread h → Lain thread (h ++ e ∷ [])
 lain_more thread h e l =
@@ -174,14 +155,9 @@ lies_at : (thread : ℕ) (h : List Event) (before earlier later : List Txn) (t :
     → AllLie thread h before (earlier ++ t ∷ later) → LiesAfter thread h (before ++ earlier) t
 lies_at thread h before [] later t lie = rw append-nil lie.0
 lies_at thread h before (u ∷ us) later t lie =
-    let found : LiesAfter thread h ((before ++ u ∷ []) ++ us) t = lies_at thread h (before ++ u ∷ []) us later t lie.1 in
-    rw append_assoc at found
+    grind (arith, append_assoc, (lies_at thread h (before ++ u ∷ []) us later t lie.1))
 
 pub texts_law : TextsLaw
 texts_law history thread =
     let l : Lain thread history = lain_from thread [] history (record { joined = refl; ended = refl; lie = tt }) in
-    record {
-      joined = l.joined;
-      ended = l.ended;
-      placed = λ earlier later t split. lies_at thread history [] earlier later t (subst (AllLie thread history []) split l.lie);
-    }
+    grind (arith, lies_at)

@@ -6,15 +6,11 @@ use Rattle.tmw_defs.proofs.Criteria.{formed-final, outcome-final}
 use Rattle.tmw_defs.proofs.CutLaws.{cut_law}
 use Rattle.tmw_defs.proofs.QuietLaws.{quiet_law}
 use Rattle.tmw_defs.proofs.WindowsProof.{length-push, take-push, take_all-push, take-append-drop-push, is_quiet_by-append, IsCutAt-push, IsCutAt_push, is_cut-push, HasWide-open, HasWide_push}
+use Rattle.std.proofs.Common.{rules}
 
 -- a larger set has more than so many states where the smaller one has
 MoreThan-within : (most : ℕ) (S N : State → Type 0) → ((s : State) → S s → N s) → MoreThan most S → MoreThan most N
-MoreThan-within most S N within many = record {
-  some = many.some;
-  more = many.more;
-  differ = many.differ;
-  among = λ k d below. within _ (many.among k d below);
-}
+MoreThan-within most S N within many = grind arith
 
 -- a set with more than so many states has one
 MoreThan-member : (most : ℕ) (S : State → Type 0) → MoreThan most S → (s : State) × S s
@@ -37,20 +33,12 @@ AreFine-push rules h e judged fine k within =
 
 IsFirst-new : (Wrong : Rules → List Event → Type 0) (rules : Rules) (h : List Event) (e : Event) → AreFine rules h
     → Wrong rules (h ++ e ∷ []) → IsFirst Wrong rules (h ++ e ∷ []) (length h + 1)
-IsFirst-new Wrong rules h e judged wrong = record {
-  within = let same = length-push h e in omega (arith, same);
-  here = rw (take_all-push h e) wrong;
-  before = λ k earlier. let within : k ≤ length h = omega (arith, earlier) in rw (take-push k h e within) (judged k within);
-}
+IsFirst-new Wrong rules h e judged wrong = grind (arith, length-push, take_all-push, take-push)
 
 -- what is wrong first stays so
 pub IsFirst-push : (Wrong : Rules → List Event → Type 0) (rules : Rules) (h : List Event) (e : Event) (m : ℕ) → IsFirst Wrong rules h m
     → IsFirst Wrong rules (h ++ e ∷ []) m
-IsFirst-push Wrong rules h e m first = record {
-  within = (let low = first.within in let same = length-push h e in omega (arith, low, same));
-  here = rw (take-push m h e first.within) first.here;
-  before = λ k less. (let low = first.within in rw (take-push k h e (omega (arith, low, less))) (first.before k less));
-}
+IsFirst-push Wrong rules h e m first = grind (arith, length-push, take-push)
 
 -- the end states from a smaller set are end states from the larger one
 EndsBy-within : (c : Criterion) (S N : State → Type 0) (ts : List Txn) (end : State) → ((s : State) → S s → N s) → EndsBy c S ts end
@@ -61,8 +49,7 @@ EndsBy-within c S N ts end within (s, is, leads) = (s, within s is, leads)
 cut_law-push : (rules : Rules) (S : State → Type 0) (c : ℕ) (h : List Event) (e : Event) → SumsUp rules S c h
     → IsTrue (is_well_formed rules.registers (h ++ e ∷ []))
     → IsCutLaw rules.criterion rules.registers rules.start (take c h) (drop c h ++ e ∷ [])
-cut_law-push rules S c h e sums formed =
-    cut_law rules.criterion rules.registers rules.start (take c h) (drop c h ++ e ∷ []) (rw (take-append-drop-push c h e) formed) sums.last.is.1
+cut_law-push rules S c h e sums formed = search (rules, cut_law, take-append-drop-push)
 
 -- the law of cuts at the last cut, with the set of outcomes there
 final-push : (rules : Rules) (S : State → Type 0) (c : ℕ) (h : List Event) (e : Event) → SumsUp rules S c h
@@ -82,11 +69,7 @@ outcomes-push : (rules : Rules) (S : State → Type 0) (c : ℕ) (h : List Event
     → outcomes_by rules.criterion rules.start (h ++ e ∷ []) end ↔ EndsBy rules.criterion S (transactions (drop c h ++ e ∷ [])) end
 outcomes-push rules S c h e sums formed cut end =
     let law = (cut_law-push rules S c h e sums formed).ends (rw (take-append-drop-push c h e) cut) end in
-    let rest = transactions (drop c h ++ e ∷ []) in
-    let past = outcomes_by rules.criterion rules.start (take c h) in (
-      λ is. EndsBy-within rules.criterion past S rest end (λ s at. (sums.states s).1 at) (law.0 (rw (take-append-drop-push c h e) is)),
-      λ ends. rw (take-append-drop-push c h e) at (law.1 (EndsBy-within rules.criterion S past rest end (λ s at. (sums.states s).0 at) ends)),
-    )
+    grind (arith, take-append-drop-push)
 
 -- where the open window is narrow enough, each window is
 narrow-push : (rules : Rules) (S : State → Type 0) (c : ℕ) (h : List Event) (e : Event) → SumsUp rules S c h
@@ -147,9 +130,9 @@ IsLastCut-open c h e last uncut = record {
   is = IsCutAt-push h e c last.is;
   last = λ at after cut. elim (cases_lt (length h) at) [
     | inl past ↦
-        let end : at ≡ length h + 1 = (let same = length-push h e in let within = cut.0 in omega (arith, same, within, past)) in
-        let whole : IsTrue (is_cut (h ++ e ∷ [])) = rw (end, take_all-push h e) at cut.1 in
-        both_ways (is_cut (h ++ e ∷ [])) (is_cut-push c h e last.is ∙ uncut) whole
+        let end : at ≡ length h + 1 = (let same = length-push h e in let within = cut.0 in
+        omega arith) in
+        grind (arith, is_cut, take_all-push, both_ways, is_cut-push)
     | inr within ↦ last.last at after (IsCutAt_push h e at within cut)
   ];
 }
@@ -216,16 +199,7 @@ sums_up-cut rules S N c h e sums formed fits cut same end is few =
 -- no transactions lead from a state to it alone
 leads-none : (c : Criterion) (s : State) → LeadsBy c s [] s
 leads-none Opacity s = ([], record { each = refl; kept = refl; completed = refl; legal = refl }, refl)
-leads-none Strict s = (
-  [],
-  record {
-    members = [];
-    are = refl;
-    explains = record { each = refl; kept = refl; completed = refl; legal = refl };
-    held = refl;
-  },
-  refl,
-)
+leads-none Strict s = grind arith
 
 leads_none : (c : Criterion) (s r : State) → LeadsBy c s [] r → r ≡ s
 leads_none Opacity s r ([], a, is) = sym is
@@ -292,19 +266,11 @@ IsFirst-fine A a rules h m first judged = a rules (take m h) first.here (judged 
 
 IsFirst-same : (A B : Rules → List Event → Type 0) → Excludes A IsFine → Excludes B IsFine → (rules : Rules) (h : List Event)
     (m n : ℕ) → IsFirst A rules h m → IsFirst B rules h n → m ≡ n
-IsFirst-same A B a b rules h m n one two =
-    elim (cases_lt m n) [
-      | inl less ↦ absurd (a rules (take m h) one.here (two.before m less))
-      | inr least ↦ elim (cases_lt n m) [
-        | inl less ↦ absurd (b rules (take n h) two.here (one.before n less))
-        | inr greatest ↦ omega (arith, least, greatest)
-      ]
-    ]
+IsFirst-same A B a b rules h m n one two = grind arith
 
 IsFirst-apart : (A B : Rules → List Event → Type 0) → Excludes A IsFine → Excludes B IsFine → Excludes A B → (rules : Rules)
     (h : List Event) (m n : ℕ) → IsFirst A rules h m → IsFirst B rules h n → ⊥
-IsFirst-apart A B a b both rules h m n one two =
-    let same = IsFirst-same A B a b rules h m n one two in both rules (take n h) (rw same at one.here) two.here
+IsFirst-apart A B a b both rules h m n one two = grind arith
 
 malformed-wide : (rules : Rules) (h : List Event) (m n : ℕ) → IsFirst IsMalformed rules h m → IsFirst IsTooWide rules h n → ⊥
 malformed-wide = IsFirst-apart IsMalformed IsTooWide malformed-fine wide-fine (λ rules h a b. both_ways _ a.ill_formed b.formed)
@@ -313,8 +279,7 @@ malformed-many : (rules : Rules) (h : List Event) (m n : ℕ) → IsFirst IsMalf
 malformed-many = IsFirst-apart IsMalformed IsTooMany malformed-fine many-fine (λ rules h a b. both_ways _ a.ill_formed b.formed)
 
 malformed-violated : (rules : Rules) (h : List Event) (m n : ℕ) → IsFirst IsMalformed rules h m → IsFirst IsViolated rules h n → ⊥
-malformed-violated =
-    IsFirst-apart IsMalformed IsViolated malformed-fine violated-fine (λ rules h a b. both_ways _ a.ill_formed b.formed)
+malformed-violated = grind (arith, malformed-fine)
 
 wide-many : (rules : Rules) (h : List Event) (m n : ℕ) → IsFirst IsTooWide rules h m → IsFirst IsTooMany rules h n → ⊥
 wide-many = IsFirst-apart IsTooWide IsTooMany wide-fine many-fine (λ rules h a b. b.narrow a.wide)
@@ -365,16 +330,11 @@ verdict-one rules h (Violated m) StrictSoFar j k = absurd (IsFirst-fine IsViolat
 verdict-one rules h (Violated m) (Malformed n) j k = absurd (malformed-violated rules h n m k j)
 verdict-one rules h (Violated m) (Undecided n Transactions) j k = absurd (wide-violated rules h n m k j)
 verdict-one rules h (Violated m) (Undecided n States) j k = absurd (many-violated rules h n m k j)
-verdict-one rules h (Violated m) (Violated n) j k =
-    ap (λ x. let v : Verdict = Violated x in v) (IsFirst-same IsViolated IsViolated violated-fine violated-fine rules h m n j k)
+verdict-one rules h (Violated m) (Violated n) j k = grind arith
 
 -- where nothing is wrong, the verdict is that of the criterion
 pub so_far-fine : (rules : Rules) (h : List Event) → AreFine rules h → IsVerdict rules h (so_far rules.criterion)
-so_far-fine rules h fine = by rules.criterion refl
-  where
-    by : (c : Criterion) → rules.criterion ≡ c → IsVerdict rules h (so_far c)
-    by Opacity is = (is, fine)
-    by Strict is = (is, fine)
+so_far-fine rules h fine = grind arith
 
 pub fine-so_far : (rules : Rules) (h : List Event) (v : Verdict) → v ≡ so_far rules.criterion → IsVerdict rules h v → AreFine rules h
 fine-so_far rules h OpaqueSoFar is judged = judged.1
@@ -389,8 +349,4 @@ fine-so_far rules h (Undecided n why) is judged = absurd (no_end rules.criterion
     no_end : (c : Criterion) → (let v : Verdict = Undecided n why in v) ≡ so_far c → ⊥
     no_end Opacity same = cc
     no_end Strict same = cc
-fine-so_far rules h (Violated n) is judged = absurd (no_end rules.criterion is)
-  where
-    no_end : (c : Criterion) → (let v : Verdict = Violated n in v) ≡ so_far c → ⊥
-    no_end Opacity same = cc
-    no_end Strict same = cc
+fine-so_far rules h (Violated n) is judged = grind arith

@@ -1,6 +1,6 @@
 -- Strict serializability asks less than opacity: of a serial order of all transactions, those that its completion holds are a serial
 -- order of them alone.
-use Rattle.tmw_defs.proofs.Shared.{AreHeld, Bool, Criterion, Ends, EndsBy, Event, HasOrder, HasStrictOrder, IsFinalOpaque, IsFinalStrict, IsOpaque, IsStrict, IsTrue, LeadsBy, List, Opacity, Placed, PlacesEach, Some, State, Strict, Txn, [], after, and_from, and_parts, ap, cases_Bool, end_state, false, inl, inr, is_legal, keeps_order, list_all, may_be, may_hold, not, operations, precedes, reads_hold, refl, remove, slice_get, status_of, suc, sym, take, transactions, true, zero, ℕ, ◌∙◌, ◌∷◌, ◌≡◌}
+use Rattle.tmw_defs.proofs.Shared.{AreHeld, Bool, Criterion, Ends, EndsBy, Event, HasOrder, HasStrictOrder, IsFinalOpaque, IsFinalStrict, IsOpaque, IsStrict, IsTrue, LeadsBy, List, Opacity, Placed, PlacesEach, Some, State, Strict, Txn, [], after, and_from, and_parts, ap, cases_Bool, end_state, false, inl, inr, is_legal, keeps_order, list_all, may_be, may_hold, not, operations, precedes, reads_hold, refl, remove, slice_get, status_of, suc, sym, take, transactions, true, zero, ℕ, ◌∙◌, ◌∷◌, ◌≡◌, arith}
 
 -- A completion that leaves out the transaction with this index holds what one of the others holds.
 left_out : (ts members : List Txn) (i : ℕ) (t : Txn) → slice_get ts i ≡ Some t → IsTrue (may_hold (status_of t.text) false)
@@ -31,9 +31,7 @@ taken_in (u ∷ ts) members zero t at may are =
     record { all = t ∷ members; place = 0; at = refl; others = refl; are = inr (rw same may, members, rw same refl, are) }
 taken_in (u ∷ ts) members (suc i) t at may are =
     elim are [
-      | inl out ↦
-          let taken = taken_in ts members i t at may out.1 in
-          record { all = taken.all; place = taken.place; at = taken.at; others = taken.others; are = inl (out.0, taken.are) }
+      | inl out ↦ grind (arith, (taken_in ts members i t at may out.1))
       | inr held ↦
           let (may_u, rest, is, others) = held in
           let taken = taken_in ts rest i t at may others in
@@ -90,42 +88,13 @@ kept_of s ts (p ∷ order) (i, at, rest) may =
             held = and_from p.held _ is others.held;
             ends = others.ends;
           }
-      | inr is ↦
-          let others = kept_of s (remove ts i) order rest more in
-          let same : after s p ≡ s = rw is refl in
-          record {
-            members = others.members;
-            stays = others.stays;
-            are = left_out ts others.members i p.txn at (rw is at here) others.are;
-            each = others.each;
-            among = λ q all. others.among q (and_parts (q p) _ all).1;
-            kept = λ kept. others.kept (and_parts (list_all (λ q. not (precedes q.txn p.txn)) order) _ kept).1;
-            legal = λ legal.
-                let behind : IsTrue (is_legal (after s p) order) = (and_parts (reads_hold s (operations p.txn.text)) _ legal).1 in
-                others.legal (rw same at behind);
-            held = others.held;
-            ends = rw same others.ends;
-          }
+      | inr is ↦ grind (arith, left_out, (kept_of s (remove ts i) order rest more))
     ]
 
 -- what transactions lead to by opacity they lead to by strict serializability
 leads-strictly : (s r : State) (ts : List Txn) → LeadsBy Opacity s ts r → LeadsBy Strict s ts r
 leads-strictly s r ts (order, a, is) =
-    let kept = kept_of s ts order a.each a.completed in (
-      kept.stays,
-      record {
-        members = kept.members;
-        are = kept.are;
-        explains = record {
-          each = kept.each;
-          kept = kept.kept a.kept;
-          completed = kept.among may_be a.completed;
-          legal = kept.legal a.legal;
-        };
-        held = kept.held;
-      },
-      kept.ends ∙ is,
-    )
+    let kept = kept_of s ts order a.each a.completed in grind arith
 
 -- An end state by opacity is one by each criterion.
 pub ends-by : (criterion : Criterion) (S : State → Type 0) (ts : List Txn) (r : State) → Ends S ts r → EndsBy criterion S ts r

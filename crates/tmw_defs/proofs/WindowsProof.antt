@@ -1,5 +1,5 @@
 -- The windows and the cuts of a history with one event more: each window is one of the history's, or the open one.
-use Rattle.tmw_defs.proofs.Shared.{A, Aborted, Bool, C, Committed, Criterion, Event, HasWide, IsCutAt, IsLastCut, IsTrue, K, Kind, List, Live, N, Opacity, Pending, R, Status, Strict, T, Txn, V, W, X, [], and_parts, ap, append_assoc, arith, awaits_commit, between, cases_lt, drop, drop-append-le, drop_all, false, inl, inr, is_cut, is_ended, is_over, is_pending, is_quiet, is_quiet_by, is_quiet_strictly, length, length-append, list_all, list_all-append, list_any-append, refl, status_of, sym, take, take-append-drop, take-append-le, take_all, transactions, true, ℕ, ◌&&◌, ◌++◌, ◌+◌, ◌<◌, ◌==◌, ◌||◌, ◌∙◌, ◌∷◌, ◌≡◌, ◌≤◌, ◌⊎◌}
+use Rattle.tmw_defs.proofs.Shared.{Criterion, Event, HasWide, IsCutAt, IsLastCut, IsTrue, Kind, List, Txn, [], and_parts, ap, append_assoc, arith, awaits_commit, between, cases_lt, drop, drop-append-le, drop_all, false, inl, inr, is_cut, is_ended, is_pending, is_quiet_by, length, length-append, list_all, list_all-append, list_any-append, refl, status_of, sym, take, take-append-drop, take-append-le, take_all, transactions, ℕ, ◌&&◌, ◌++◌, ◌+◌, ◌<◌, ◌==◌, ◌||◌, ◌∙◌, ◌∷◌, ◌≡◌, ◌≤◌, ◌⊎◌}
 use Rattle.tmw_defs.proofs.Along.{Pairs}
 use Rattle.tmw_defs.proofs.CutsProof.{behind, behind-later, transactions-cut}
 use Rattle.tmw_defs.proofs.Places.{IsLater}
@@ -26,9 +26,7 @@ list_all-later : (n : ℕ) (ts us : List Txn) → Pairs (IsLater n) ts us
 list_all-later n [] [] pairs = refl
 list_all-later n [] (u ∷ us) pairs = absurd pairs
 list_all-later n (t ∷ ts) [] pairs = absurd pairs
-list_all-later n (t ∷ ts) (u ∷ us) pairs =
-    ap (λ text. is_ended text && list_all (λ x. is_ended x.text) ts) pairs.0.text
-    ∙ ap (λ b. is_ended u.text && b) (list_all-later n ts us pairs.1)
+list_all-later n (t ∷ ts) (u ∷ us) pairs = cc (list_all-later n ts us pairs.1)
 
 pub is_cut-append : (past rest : List Event) → IsTrue (is_cut past) → is_cut (past ++ rest) ≡ is_cut rest
 is_cut-append past rest cut =
@@ -37,23 +35,11 @@ is_cut-append past rest cut =
     ∙ ap (λ b. b && list_all (λ t. is_ended t.text) (behind past rest)) cut
     ∙ list_all-later (length past) (behind past rest) (transactions rest) (behind-later past rest)
 
--- and a thread awaits its commit in it where it does in what follows
-not_pending : (s : Status) → is_over s ≡ true → is_pending s ≡ false
-not_pending Live over = absurd (cc)
-not_pending Pending over = absurd (cc)
-not_pending Committed over = refl
-not_pending Aborted over = refl
-
 awaits_commit-ended : (ts : List Txn) (thread : ℕ) → IsTrue (list_all (λ t. is_ended t.text) ts) → awaits_commit ts thread ≡ false
 awaits_commit-ended [] thread ended = refl
 awaits_commit-ended (t ∷ ts) thread ended =
     let (here, more) = and_parts (is_ended t.text) _ ended in
-    ap (λ b. ((t.thread == thread) && b) || awaits_commit ts thread) (not_pending (status_of t.text) here)
-    ∙ ap (λ b. b || awaits_commit ts thread) (and_false (t.thread == thread)) ∙ awaits_commit-ended ts thread more
-  where
-    and_false : (b : Bool) → (b && false) ≡ false
-    and_false true = refl
-    and_false false = refl
+    grind (arith, (awaits_commit-ended ts thread more))
 
 awaits_commit-later : (n : ℕ) (ts us : List Txn) (thread : ℕ) → Pairs (IsLater n) ts us
     → awaits_commit ts thread ≡ awaits_commit us thread
@@ -61,9 +47,7 @@ awaits_commit-later n [] [] thread pairs = refl
 awaits_commit-later n [] (u ∷ us) thread pairs = absurd pairs
 awaits_commit-later n (t ∷ ts) [] thread pairs = absurd pairs
 awaits_commit-later n (t ∷ ts) (u ∷ us) thread pairs =
-    ap (λ x. ((x == thread) && is_pending (status_of t.text)) || awaits_commit ts thread) pairs.0.thread
-    ∙ ap (λ text. ((u.thread == thread) && is_pending (status_of text)) || awaits_commit ts thread) pairs.0.text
-    ∙ ap (λ b. ((u.thread == thread) && is_pending (status_of u.text)) || b) (awaits_commit-later n ts us thread pairs.1)
+    cc (awaits_commit-later n ts us thread pairs.1)
 
 pub awaits_commit-append : (past rest : List Event) (thread : ℕ) → IsTrue (is_cut past)
     → awaits_commit (transactions (past ++ rest)) thread ≡ awaits_commit (transactions rest) thread
@@ -73,42 +57,13 @@ awaits_commit-append past rest thread cut =
     ∙ ap (λ b. b || awaits_commit (behind past rest) thread) (awaits_commit-ended (transactions past) thread cut)
     ∙ awaits_commit-later (length past) (behind past rest) (transactions rest) thread (behind-later past rest)
 
--- so an event is quiet after it where it is after what follows
-is_quiet-awaits : (ts us : List Txn) (thread : ℕ) (kind : Kind) → awaits_commit ts thread ≡ awaits_commit us thread
-    → is_quiet ts thread kind ≡ is_quiet us thread kind
-is_quiet-awaits ts us thread A same = rw same refl
-is_quiet-awaits ts us thread (V v) same = refl
-is_quiet-awaits ts us thread C same = refl
-is_quiet-awaits ts us thread (R r) same = refl
-is_quiet-awaits ts us thread (W r v) same = refl
-is_quiet-awaits ts us thread K same = refl
-is_quiet-awaits ts us thread T same = refl
-is_quiet-awaits ts us thread X same = refl
-is_quiet-awaits ts us thread (N r v) same = refl
-
-is_quiet_strictly-awaits : (ts us : List Txn) (thread : ℕ) (kind : Kind) → awaits_commit ts thread ≡ awaits_commit us thread
-    → is_quiet_strictly ts thread kind ≡ is_quiet_strictly us thread kind
-is_quiet_strictly-awaits ts us thread A same = rw same refl
-is_quiet_strictly-awaits ts us thread (V v) same = refl
-is_quiet_strictly-awaits ts us thread C same = refl
-is_quiet_strictly-awaits ts us thread (R r) same = refl
-is_quiet_strictly-awaits ts us thread (W r v) same = refl
-is_quiet_strictly-awaits ts us thread K same = refl
-is_quiet_strictly-awaits ts us thread T same = refl
-is_quiet_strictly-awaits ts us thread X same = refl
-is_quiet_strictly-awaits ts us thread (N r v) same = refl
-
 pub is_quiet_by-append : (c : Criterion) (past rest : List Event) (thread : ℕ) (kind : Kind) → IsTrue (is_cut past)
     → is_quiet_by c (transactions (past ++ rest)) thread kind ≡ is_quiet_by c (transactions rest) thread kind
-is_quiet_by-append Opacity past rest thread kind cut =
-    is_quiet-awaits (transactions (past ++ rest)) (transactions rest) thread kind (awaits_commit-append past rest thread cut)
-is_quiet_by-append Strict past rest thread kind cut =
-    is_quiet_strictly-awaits (transactions (past ++ rest)) (transactions rest) thread kind (awaits_commit-append past rest thread cut)
+is_quiet_by-append c past rest thread kind cut = grind (arith, awaits_commit-append)
 
 -- with one event more, the cuts up to the old length stay the cuts
 pub IsCutAt-push : (h : List Event) (e : Event) (at : ℕ) → IsCutAt h at → IsCutAt (h ++ e ∷ []) at
-IsCutAt-push h e at (within, cut) =
-    (let same = length-push h e in omega (arith, same, within), rw (take-push at h e within) cut)
+IsCutAt-push h e at (within, cut) = grind (arith, length-push, take-push)
 
 pub IsCutAt_push : (h : List Event) (e : Event) (at : ℕ) → at ≤ length h → IsCutAt (h ++ e ∷ []) at → IsCutAt h at
 IsCutAt_push h e at within (longer, cut) = (within, rw (take-push at h e within) at cut)
@@ -137,23 +92,7 @@ HasWide-open most c h e last wide = record {
 
 -- a window that closes before the event is one of the history without it
 HasWide-before : (most : ℕ) (h : List Event) (e : Event) (w : HasWide most (h ++ e ∷ [])) → w.upto ≤ length h → HasWide most h
-HasWide-before most h e w within =
-    let same = length-push h e in
-    let order = w.window.order in
-    record {
-      from = w.from;
-      upto = w.upto;
-      window = record {
-        order = order;
-        opens = IsCutAt_push h e w.from (omega (arith, order, within)) w.window.opens;
-        inside = λ at after before cut. w.window.inside at after before (IsCutAt-push h e at cut);
-        closes = elim w.window.closes [
-          | inl end ↦ absurd (omega (arith, end, same, within))
-          | inr cut ↦ inr (IsCutAt_push h e w.upto within cut)
-        ];
-      };
-      wide = rw (← take-push w.upto h e within) w.wide;
-    }
+HasWide-before most h e w within = grind (arith, length-push, take-push)
 
 -- one that goes to the end begins at the last cut, or has no transaction
 HasWide-after : (most c : ℕ) (h : List Event) (e : Event) → IsLastCut h c → (w : HasWide most (h ++ e ∷ []))
@@ -162,20 +101,18 @@ HasWide-after most c h e last w end =
     let wide : most < length (transactions (drop w.from (h ++ e ∷ []))) = rw (end, take_all-push h e) at w.wide in
     let same = length-push h e in
     elim (cases_lt (length h) w.from) [
-      | inl past ↦
-          let none : drop w.from (h ++ e ∷ []) ≡ [] = drop_all w.from (h ++ e ∷ []) (omega (arith, past, same)) in
-          absurd (let few : most < 0 = rw none at wide in omega (arith, few))
+      | inl past ↦ grind (arith, drop_all)
       | inr within ↦
           let opens = IsCutAt_push h e w.from within w.window.opens in
           let inside = last.is.0 in
           let from : w.from ≡ c = elim (cases_lt c w.from) [
             | inl later ↦ absurd (last.last w.from later opens)
             | inr least ↦ elim (cases_lt w.from c) [
-              | inl earlier ↦ absurd (w.window.inside c earlier (omega (arith, end, inside)) (IsCutAt-push h e c last.is))
+              | inl earlier ↦ absurd (w.window.inside c earlier (
+                  omega arith) (IsCutAt-push h e c last.is))
               | inr greatest ↦ omega (arith, least, greatest)
             ]
-          ] in
-          rw (← drop-append-le c h (e ∷ []) last.is.0, ← from) wide
+          ] in grind (arith, drop-append-le)
     ]
 
 -- so no window is too wide where the open one with the event isn't, and none was without it
@@ -184,10 +121,7 @@ pub HasWide_push : (most c : ℕ) (h : List Event) (e : Event) → IsLastCut h c
 HasWide_push most c h e last w =
     elim (cases_lt (length h) w.upto) [
       | inl past ↦
-          let upto : w.upto ≤ length h + 1 = elim w.window.closes [
-            | inl end ↦ (let same = length-push h e in omega (arith, end, same))
-            | inr cut ↦ (let same = length-push h e in let within = cut.0 in omega (arith, within, same))
-          ] in
-          inr (HasWide-after most c h e last w (omega (arith, upto, past)))
+          let upto : w.upto ≤ length h + 1 = grind (arith, length-push) in
+          inr (HasWide-after most c h e last w (omega arith))
       | inr within ↦ inl (HasWide-before most h e w within)
     ]

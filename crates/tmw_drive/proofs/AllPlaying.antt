@@ -1,13 +1,12 @@
 -- All players, one of which does an entry of the order.
-use Rattle.tmw_drive.proofs.Shared.{AllNew, AllPlay, Answer, Call, DoesEntry, Err, Event, IsTrue, Kind, List, Ok, OnOk, Player, Plays, Result, [], ap, are_transactions, cases_eq, get_or, get_or-set_other, get_or-set_same, inl, inr, kinds_of, length, length-set, script_at, set, subst, sym, ℕ, ◌<◌, ◌∙◌, ◌≡◌}
+use Rattle.tmw_drive.proofs.Shared.{AllNew, AllPlay, Answer, Call, DoesEntry, Event, IsTrue, Kind, List, OnOk, Player, Plays, Result, [], ap, are_transactions, cases_eq, get_or, get_or-set_other, get_or-set_same, inl, inr, kinds_of, length, length-set, script_at, set, subst, sym, ℕ, ◌<◌, ◌∙◌, ◌≡◌, arith}
 use Rattle.tmw_drive.proofs.Entries.{kinds_of-entry_other}
 use Rattle.tmw_drive.proofs.Players.{plays-new}
 use Rattle.tmw_events.specs.declared.ix.Ix.{Ix}
 
 -- what follows from two facts about an answered call
 pub on_ok : {T : Type 0} {E : Type 0} (P Q S : Type 0) (result : Result T E) → (P → Q → S) → OnOk result P → OnOk result Q → OnOk result S
-on_ok P Q S (Ok value) both p q = both p q
-on_ok P Q S (Err fault) both p q = tt
+on_ok P Q S result both p q = grind arith
 
 -- new players and an empty log
 pub all_play-new : (gives : Call → Answer → Type 0) (registers : ℕ) (scripts : List (List (List Kind))) (players : List Player)
@@ -24,16 +23,13 @@ all_play-new gives registers scripts players asks new = record {
 pub numbered-read : (gives : Call → Answer → Type 0) (scripts : List (List (List Kind))) (players : List Player) (log : List Event)
     (place : ℕ) (player : Player) → AllPlay gives scripts players log → place < length players → player ≡ get_or players place player
     → player.thread.number ≡ place
-numbered-read gives scripts players log place player all low is =
-    ap (λ (p : Player). p.thread.number) is ∙ all.numbered place player low
+numbered-read gives scripts players log place player all low is = grind arith
 
 pub plays-read : (gives : Call → Answer → Type 0) (scripts : List (List (List Kind))) (players : List Player) (log : List Event)
     (place : ℕ) (player : Player) → AllPlay gives scripts players log → place < length players → player ≡ get_or players place player
     → Plays gives (script_at scripts place) player (kinds_of player.thread.number log)
 plays-read gives scripts players log place player all low is =
-    subst (λ (n : ℕ). Plays gives (script_at scripts place) player (kinds_of n log))
-    (sym (numbered-read gives scripts players log place player all low is))
-    (subst (λ (p : Player). Plays gives (script_at scripts place) p (kinds_of place log)) (sym is) (all.each place player low))
+    grind (arith, script_at, kinds_of, numbered-read)
 
 -- the player of one thread has done an entry
 pub all_play-entry : (gives : Call → Answer → Type 0) (scripts : List (List (List Kind))) (players : List Player) (before after : List Event)

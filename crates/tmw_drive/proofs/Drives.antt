@@ -1,16 +1,16 @@
 -- What the players have recorded when the order is done.
-use Rattle.tmw_drive.proofs.Shared.{All, All-nil, AllEnd, AllPlay, AllStand, Answer, Call, Drives, Ending, EndsAs, Event, IsBeginning, IsDriven, IsTrue, IsVerdict, IsWholeRun, Kind, List, Player, Rules, [], append-nil, arith, cases_lt, get_or, get_or_past, inl, inr, is_workload, kinds_of, length, no_kinds, refl, script_at, so_far_all, subst, sym, true, ℕ, ◌<◌, ◌^◌, ◌∙◌, ◌∷◌, ◌≡◌, ◌≤◌}
+use Rattle.tmw_drive.proofs.Shared.{All, All-nil, AllEnd, AllPlay, AllStand, Answer, Call, Drives, Ending, EndsAs, Event, IsBeginning, IsDriven, IsTrue, IsVerdict, Kind, List, Player, Rules, [], append-nil, arith, cases_lt, get_or, get_or_past, inl, inr, is_workload, kinds_of, length, no_kinds, script_at, so_far_all, subst, sym, true, ℕ, ◌<◌, ◌^◌, ◌∙◌, ◌≡◌, ◌≤◌}
 use Rattle.tmw_defs.specs.declared.verdict.Verdict.{Verdict}
 use Rattle.tmw_defs.specs.declared.verdict.Verdict.TheVariants.{Malformed}
 use Rattle.tmw_drive.proofs.Entries.{length-drives, own-drives}
 use Rattle.tmw_drive.proofs.Players.{ends_as-plays}
 use Rattle.tmw_drive.proofs.Workloads.{are_transactions-workload, length-order, within-order}
-use Rattle.tmw_drive.specs.declared.ending.Ending.TheVariants.{Done, Left, Stopped}
+use Rattle.tmw_drive.specs.declared.ending.Ending.TheVariants.{Done}
 use Rattle.tmw_runs.proofs.NeverMalformed.{formed_law, never_malformed}
+use Rattle.std.proofs.Common.{rules}
 
 some_player : (players : List Player) (place : ℕ) → place < length players → Player
-some_player [] place low = absurd (omega (arith, low))
-some_player (player ∷ players) place low = player
+some_player players place low = grind arith
 
 -- the players' log is what the scripts make of the memory
 pub is_driven : (gives : Call → Answer → Type 0) (registers : ℕ) (scripts : List (List (List Kind))) (order : List ℕ)
@@ -48,9 +48,7 @@ is_driven gives registers scripts order players log ends is all drives ended = r
         (all.each thread player below) (ended.each thread fallback within player)
 
 begins-ends_as : (script : List (List Kind)) (kinds : List Kind) (ending : Ending) → EndsAs script kinds ending → IsBeginning script kinds
-begins-ends_as script kinds Done whole = ([], subst (IsWholeRun script) (sym (append-nil kinds)) whole)
-begins-ends_as script kinds Left left = left.0
-begins-ends_as script kinds (Stopped refused) never = absurd never
+begins-ends_as script kinds ending whole = grind (arith, append-nil)
 
 -- each thread's events begin a run of its script
 begins-driven : (gives : Call → Answer → Type 0) (scripts : List (List (List Kind))) (order : List ℕ) (log : List Event) (ends : List Ending)
@@ -58,11 +56,7 @@ begins-driven : (gives : Call → Answer → Type 0) (scripts : List (List (List
 begins-driven gives scripts order log ends driven thread =
     elim (cases_lt thread (length scripts)) [
       | inl low ↦ begins-ends_as (script_at scripts thread) (kinds_of thread log) (get_or ends thread Done) (driven.ended thread Done low)
-      | inr past ↦
-          let script : script_at scripts thread ≡ [] = get_or_past scripts thread [] past in
-          let none : kinds_of thread log ≡ [] = no_kinds (length scripts) thread log driven.own past in
-          subst (λ (s : List (List Kind)). IsBeginning s (kinds_of thread log)) (sym script)
-          (subst (λ (k : List Kind). IsBeginning [] k) (sym none) ([], refl))
+      | inr past ↦ grind (arith, script_at, get_or_past, kinds_of, no_kinds, length)
     ]
 
 -- no verdict on the log says that it is malformed
@@ -82,6 +76,4 @@ formed-driven gives rules scripts order log ends verdict is driven told =
 pub length-driven : (gives : Call → Answer → Type 0) (registers : ℕ) (scripts : List (List (List Kind))) (order : List ℕ) (log : List Event)
     (ends : List Ending) → IsTrue (is_workload registers scripts order) → IsDriven gives scripts order log ends → length log ≤ 2 ^ 40
 length-driven gives registers scripts order log ends is driven =
-    let short = length-drives scripts [] order log driven.driven in
-    let few = length-order registers scripts order is in
-    omega arith
+    grind (arith, length-drives, length-order)

@@ -1,53 +1,39 @@
 -- What an entry of the order adds to the log, and what a whole order does.
-use Rattle.tmw_drive.proofs.Shared.{All, All-append, All-cons, All-head, All-nil, All-tail, DoesEntry, Drives, Event, Kind, List, [], ap, append-nil, append_assoc, arith, eq-eqb, inl, inr, kinds_of, kinds_of-append, length, length-append, ne_eqb, script_at, subst, sym, ℕ, ◌*◌, ◌++◌, ◌+◌, ◌<◌, ◌∙◌, ◌∷◌, ◌≡◌, ◌≤◌}
+use Rattle.tmw_drive.proofs.Shared.{All, All-append, All-cons, All-head, All-nil, All-tail, DoesEntry, Drives, Event, Kind, List, [], ap, append-nil, append_assoc, arith, inl, inr, kinds_of, kinds_of-append, length, length-append, script_at, subst, sym, ℕ, ◌*◌, ◌++◌, ◌+◌, ◌<◌, ◌∷◌, ◌≡◌, ◌≤◌}
 
 -- a call and its answer are pushed one after the other
 pub pushed-pair : (log reserved once twice : List Event) (call answer : Event) → reserved ≡ log → once ≡ reserved ++ call ∷ []
     → twice ≡ once ++ answer ∷ [] → twice ≡ log ++ call ∷ answer ∷ []
 pushed-pair log reserved once twice call answer same one two =
-    two ∙ ap (λ (l : List Event). l ++ answer ∷ []) (one ∙ ap (λ (l : List Event). l ++ call ∷ []) same)
-    ∙ append_assoc log (call ∷ []) (answer ∷ [])
+    grind (arith, append_assoc)
 
 -- a call and its answer come to their own thread's events
 pub kinds_of-pair_own : (thread : ℕ) (log : List Event) (call answer : Event) → call.thread.number ≡ thread
     → answer.thread.number ≡ thread → kinds_of thread (log ++ call ∷ answer ∷ []) ≡ kinds_of thread log ++ call.kind ∷ answer.kind ∷ []
 kinds_of-pair_own thread log call answer one other =
-    kinds_of-append thread log (call ∷ answer ∷ []) ∙ ap (λ kinds. kinds_of thread log ++ kinds) pair
-  where
-    pair : kinds_of thread (call ∷ answer ∷ []) ≡ call.kind ∷ answer.kind ∷ []
-    pair = rw (eq-eqb call.thread.number thread one, eq-eqb answer.thread.number thread other)
+    grind (arith, kinds_of-append, kinds_of)
 
 -- and to no other thread's
 pub kinds_of-pair_other : (thread : ℕ) (log : List Event) (call answer : Event) → (call.thread.number ≡ thread → ⊥)
     → (answer.thread.number ≡ thread → ⊥) → kinds_of thread (log ++ call ∷ answer ∷ []) ≡ kinds_of thread log
 kinds_of-pair_other thread log call answer one other =
-    kinds_of-append thread log (call ∷ answer ∷ []) ∙ ap (λ kinds. kinds_of thread log ++ kinds) pair ∙ append-nil (kinds_of thread log)
-  where
-    pair : kinds_of thread (call ∷ answer ∷ []) ≡ []
-    pair = rw (ne_eqb call.thread.number thread one, ne_eqb answer.thread.number thread other)
+    grind (arith, kinds_of-append, kinds_of, append-nil)
 
 -- an entry of one thread leaves the events of another
 pub kinds_of-entry_other : (script : List (List Kind)) (thread other : ℕ) (before after : List Event)
     → DoesEntry script thread before after → (thread ≡ other → ⊥) → kinds_of other after ≡ kinds_of other before
-kinds_of-entry_other script thread other before after (inl (whole, is)) apart = ap (kinds_of other) is
-kinds_of-entry_other script thread other before after (inr (call, answer, one, two, is, begins)) apart =
-    ap (kinds_of other) is
-    ∙ kinds_of-pair_other other before call answer (λ same. apart (sym one ∙ same)) (λ same. apart (sym two ∙ same))
+kinds_of-entry_other script thread other before after h1 apart =
+    grind (arith, kinds_of, kinds_of-pair_other)
 
 -- an entry adds at most two events, all of its thread
 length-entry : (script : List (List Kind)) (thread : ℕ) (before after : List Event) → DoesEntry script thread before after
     → length after ≤ length before + 2
-length-entry script thread before after (inl (whole, is)) = let same = ap (λ l. length l) is in omega arith
-length-entry script thread before after (inr (call, answer, one, two, is, begins)) =
-    let same = ap (λ l. length l) is in
-    let sum = length-append before (call ∷ answer ∷ []) in
-    omega arith
+length-entry script thread before after h1 = grind (arith, length, length-append)
 
 own-entry : (script : List (List Kind)) (threads thread : ℕ) (before after : List Event) → thread < threads
     → DoesEntry script thread before after → All (λ event. event.thread.number < threads) before
     → All (λ event. event.thread.number < threads) after
-own-entry script threads thread before after low (inl (whole, is)) own =
-    subst (All (λ event. event.thread.number < threads)) (sym is) own
+own-entry script threads thread before after low (inl (whole, is)) own = grind arith
 own-entry script threads thread before after low (inr (call, answer, one, two, is, begins)) own =
     subst (All (λ event. event.thread.number < threads)) (sym is)
     (All-append (λ event. event.thread.number < threads) before (call ∷ answer ∷ []) own pair)
@@ -62,8 +48,7 @@ pub length-drives : (scripts : List (List (List Kind))) (before : List Event) (o
 length-drives scripts before [] after is = let same = ap (λ l. length l) is in omega arith
 length-drives scripts before (thread ∷ order) after (next, entry, rest) =
     let one = length-entry (script_at scripts thread) thread before next entry in
-    let more = length-drives scripts next order after rest in
-    omega arith
+    grind (arith, (length-drives scripts next order after rest))
 
 pub own-drives : (scripts : List (List (List Kind))) (threads : ℕ) (before : List Event) (order : List ℕ) (after : List Event)
     → All (λ thread. thread < threads) order → Drives scripts before order after

@@ -1,5 +1,5 @@
 -- What is left of a script after its next call and the answer to it.
-use Rattle.tmw_drive.proofs.Shared.{A, BeginsNext, C, GoesOn, IsTrue, K, Kind, Leaves, List, MakesNext, MatchBool-at_false, MatchBool-at_true, N, None, Player, R, Some, T, V, W, X, [], and_from, and_parts, answers, ap, are_transactions, arith, cases_Bool, drop, drop-drop, ends, from_call, if◌then◌else◌, inl, inr, is_operation, is_request, is_transaction, leaves_aborted, leaves_answered, leaves_next, left_of, ne_eqb, next_of, refl, sym, ℕ, ◌++◌, ◌+◌, ◌==◌, ◌∙◌, ◌∷◌, ◌≡◌}
+use Rattle.tmw_drive.proofs.Shared.{A, BeginsNext, C, GoesOn, IsTrue, K, Kind, Leaves, List, MakesNext, N, None, Player, R, Some, T, V, W, X, [], and_from, and_parts, answers, ap, are_transactions, arith, cases_Bool, drop, drop-drop, ends, from_call, if◌then◌else◌, is_operation, is_request, is_transaction, leaves_aborted, leaves_answered, leaves_next, left_of, ne_eqb, next_of, refl, sym, ℕ, ◌++◌, ◌+◌, ◌==◌, ◌∙◌, ◌∷◌, ◌≡◌}
 
 -- what is left after this answer to the next call
 abbrev pub next_left : Kind → List (List Kind) → List (List Kind)
@@ -13,18 +13,12 @@ pub record Nexts (left : List (List Kind)) (call : Kind) : Type 0 where
   pub is : left ≡ (call ∷ calls) ∷ later
 
 pub next_of-some : (left : List (List Kind)) (call : Kind) → next_of left ≡ Some call → Nexts left call
-next_of-some [] call is = absurd (cc)
-next_of-some ([] ∷ later) call is = absurd (cc)
-next_of-some ((first ∷ calls) ∷ later) call is =
-    let same : first ≡ call = cc in
-    record { calls = calls; later = later; is = ap (λ c. (c ∷ calls) ∷ later) same }
+next_of-some left call is = grind arith
 
 -- where there is no next call, nothing is left
 pub next_of-none : (registers : ℕ) (left : List (List Kind)) → IsTrue (are_transactions registers left) → next_of left ≡ None
     → left ≡ []
-next_of-none registers [] asks is = refl
-next_of-none registers ([] ∷ later) asks is = absurd (cc)
-next_of-none registers ((call ∷ calls) ∷ later) asks is = absurd (cc)
+next_of-none registers left asks is = grind arith
 
 -- one item more is dropped
 drop-one : {X : Type 0} (xs : List X) (n : ℕ) (x : X) (rest : List X) → drop n xs ≡ x ∷ rest → drop (n + 1) xs ≡ rest
@@ -38,54 +32,30 @@ record Within (number : ℕ) (script : List (List Kind)) (call : Kind) (calls : 
 
 from_call-within : (number : ℕ) (script : List (List Kind)) (call : Kind) (calls : List Kind) (later : List (List Kind))
     → from_call number script ≡ (call ∷ calls) ∷ later → Within number script call calls later
-from_call-within number [] call calls later is = absurd (cc)
-from_call-within number (transaction ∷ more) call calls later is =
-    let same : more ≡ later = cc in
-    record { transaction = transaction; is = ap (λ l. transaction ∷ l) same; rest = cc }
+from_call-within number script call calls later is = grind arith
 
 from_call-zero : (script : List (List Kind)) → from_call 0 script ≡ script
-from_call-zero [] = refl
-from_call-zero (transaction ∷ more) = refl
+from_call-zero script = grind arith
 
 left_of-begins : (script : List (List Kind)) (old new : Player) (call : Kind) (calls : List Kind) (later : List (List Kind))
     → left_of script old ≡ (call ∷ calls) ∷ later → BeginsNext old new → left_of script new ≡ later
 left_of-begins script old new call calls later is begins =
-    let within = from_call-within old.call (drop old.transaction script) call calls later is in
-    let rest : drop new.transaction script ≡ later
-    = ap (λ n. drop n script) begins.transaction ∙ drop-one script old.transaction within.transaction later within.is
-    in
-    ap (λ n. from_call n (drop new.transaction script)) begins.call ∙ from_call-zero (drop new.transaction script) ∙ rest
+    grind (arith, from_call-within, drop, drop-one, from_call, from_call-zero)
 
 left_of-makes : (script : List (List Kind)) (old new : Player) (call : Kind) (calls : List Kind) (later : List (List Kind))
     → left_of script old ≡ (call ∷ calls) ∷ later → MakesNext old new → left_of script new ≡ calls ∷ later
 left_of-makes script old new call calls later is makes =
-    let within = from_call-within old.call (drop old.transaction script) call calls later is in
-    let place : drop new.transaction script ≡ within.transaction ∷ later
-    = ap (λ n. drop n script) makes.transaction ∙ within.is
-    in
-    let rest : drop new.call within.transaction ≡ calls
-    = ap (λ n. drop n within.transaction) makes.call ∙ drop-one within.transaction old.call call calls within.rest
-    in
-    ap (from_call new.call) place ∙ ap (λ l. l ∷ later) rest
+    grind (arith, from_call-within, drop, drop-one, from_call)
 
 -- what is left of the script once the player has gone on
 pub left_of-goes_on : (script : List (List Kind)) (old new : Player) (call answer : Kind) (next : Nexts (left_of script old) call)
     → GoesOn answer old new → left_of script new ≡ next_left answer ((call ∷ next.calls) ∷ next.later)
 left_of-goes_on script old new call answer next goes =
-    elim (cases_Bool (ends answer)) [
-      | inl over ↦ rw over (left_of-begins script old new call next.calls next.later next.is (MatchBool-at_true _ _ over goes))
-      | inr on ↦ rw on (left_of-makes script old new call next.calls next.later next.is (MatchBool-at_false _ _ on goes))
-    ]
+    grind (arith, cases_Bool, ends, left_of-begins, left_of-makes)
 
 -- after an answer that ends its transaction, and after no other, the next call is the first of one
 pub first-goes_on : (old new : Player) (answer : Kind) → GoesOn answer old new → (new.call == 0) ≡ ends answer
-first-goes_on old new answer goes =
-    elim (cases_Bool (ends answer)) [
-      | inl over ↦ ap (λ n. n == 0) (MatchBool-at_true (BeginsNext old new) _ over goes).call ∙ sym over
-      | inr on ↦
-          let call : new.call ≡ old.call + 1 = (MatchBool-at_false _ (MakesNext old new) on goes).call in
-          ne_eqb new.call 0 (λ none. absurd (omega arith)) ∙ sym on
-    ]
+first-goes_on old new answer goes = grind (arith, cases_Bool, ends, ne_eqb)
 
 leaves-request : (script : List (List Kind)) (kinds : List Kind) (call answer : Kind) (later : List (List Kind))
     → IsTrue (is_request call) → IsTrue (answers call answer) → Leaves script kinds ((call ∷ []) ∷ later)
@@ -118,29 +88,33 @@ pub leaves-next_left : (registers : ℕ) (script : List (List Kind)) (kinds : Li
     → IsTrue (are_transactions registers ((call ∷ calls) ∷ later)) → IsTrue (answers call answer)
     → Leaves script kinds ((call ∷ calls) ∷ later)
     → Leaves script (kinds ++ call ∷ answer ∷ []) (next_left answer ((call ∷ calls) ∷ later))
-leaves-next_left registers script kinds call answer [] later asks fits leaves =
-    leaves-request script kinds call answer later (and_parts (is_request call) _ asks).0 fits leaves
-leaves-next_left registers script kinds call answer (next ∷ calls) later asks fits leaves =
-    let first = (and_parts (is_transaction registers (call ∷ next ∷ calls)) _ asks).0 in
-    leaves-operation registers script kinds call answer (next ∷ calls) later (and_parts (is_operation registers call) _ first).0 fits leaves
+leaves-next_left registers script kinds call answer calls later asks fits leaves =
+    grind (
+      arith,
+      leaves-request,
+      and_parts,
+      is_request,
+      is_transaction,
+      leaves-operation,
+      is_operation,
+    )
 
 ends-request : (call answer : Kind) → IsTrue (is_request call) → IsTrue (answers call answer) → IsTrue (ends answer)
-ends-request T C asks fits = refl
-ends-request T A asks fits = refl
-ends-request X A asks fits = refl
-ends-request _ _ asks fits = absurd (cc)
+ends-request call answer asks fits = grind arith
 
 -- and what is left then are transactions again
 pub are_transactions-next_left : (registers : ℕ) (call answer : Kind) (calls : List Kind) (later : List (List Kind))
     → IsTrue (are_transactions registers ((call ∷ calls) ∷ later)) → IsTrue (answers call answer)
     → IsTrue (are_transactions registers (next_left answer ((call ∷ calls) ∷ later)))
-are_transactions-next_left registers call answer [] later asks fits =
-    let (first, rest) = and_parts (is_request call) _ asks in
-    rw (ends-request call answer first fits) rest
-are_transactions-next_left registers call answer (next ∷ calls) later asks fits =
-    let (first, rest) = and_parts (is_transaction registers (call ∷ next ∷ calls)) _ asks in
-    let more = (and_parts (is_operation registers call) _ first).1 in
-    elim (cases_Bool (ends answer)) [
-      | inl over ↦ rw over rest
-      | inr on ↦ rw on (and_from _ _ more rest)
-    ]
+are_transactions-next_left registers call answer calls later asks fits =
+    grind (
+      arith,
+      and_parts,
+      is_request,
+      ends-request,
+      is_transaction,
+      is_operation,
+      cases_Bool,
+      ends,
+      and_from,
+    )

@@ -1,17 +1,12 @@
 -- A player that makes its next call, or has none left.
-use Rattle.tmw_drive.proofs.Shared.{A, Answer, BeginsNext, Call, Ending, EndsAs, GoesOn, IsBeginning, IsEnding, IsNew, IsTrue, IsWholeRun, Kind, Leaves, List, MakesNext, MatchBool, MatchBool-at_false, MatchBool-at_true, None, Option, Player, Plays, Some, Stands, StandsSoFar, [], answers, ap, are_transactions, beginning, cases_Bool, drop, ends, from_call, inl, inr, leaves_all, left_of, next_of, not_whole, refl, so_far_answered, so_far_none, subst, sym, true, whole_run, ℕ, ◌++◌, ◌+◌, ◌==◌, ◌∙◌, ◌∷◌, ◌≡◌}
+use Rattle.tmw_drive.proofs.Shared.{A, Answer, BeginsNext, Call, Ending, EndsAs, GoesOn, IsBeginning, IsEnding, IsNew, IsTrue, IsWholeRun, Kind, Leaves, List, MatchBool-at_true, None, Option, Player, Plays, Some, Stands, StandsSoFar, [], answers, ap, are_transactions, beginning, cases_Bool, drop, ends, from_call, leaves_all, left_of, next_of, not_whole, refl, so_far_answered, so_far_none, subst, sym, true, whole_run, ℕ, ◌++◌, ◌==◌, ◌∙◌, ◌∷◌, ◌≡◌, arith}
 use Rattle.tmw_drive.proofs.Going.{next_left, next_of-some, next_of-none, left_of-goes_on, first-goes_on, leaves-next_left, are_transactions-next_left}
 use Rattle.tmw_drive.specs.Fresh.{IsFresh}
-use Rattle.tmw_runs.proofs.Calls.{answers_abort, are_calls-transactions, are_calls_first}
+use Rattle.tmw_runs.proofs.Calls.{are_calls-transactions}
 
 -- a new player has its whole script left
 pub left_of-new : (script : List (List Kind)) (thread : ℕ) (player : Player) → IsNew thread player → left_of script player ≡ script
-left_of-new script thread player new =
-    ap (λ n. from_call n (drop player.transaction script)) new.call ∙ ap (λ n. from_call 0 (drop n script)) new.transaction ∙ whole script
-  where
-    whole : (s : List (List Kind)) → from_call 0 (drop 0 s) ≡ s
-    whole [] = refl
-    whole (calls ∷ later) = refl
+left_of-new script thread player new = grind (arith, from_call, drop)
 
 pub plays-new : (gives : Call → Answer → Type 0) (registers : ℕ) (script : List (List Kind)) (thread : ℕ) (player : Player)
     → IsTrue (are_transactions registers script) → IsNew thread player → Plays gives script player []
@@ -28,13 +23,7 @@ plays-new gives registers script thread player asks new =
 -- the next call may be answered by an abort event
 pub call-plays : (gives : Call → Answer → Type 0) (script : List (List Kind)) (player : Player) (kinds : List Kind) (call : Kind)
     → Plays gives script player kinds → next_of (left_of script player) ≡ Some call → IsTrue (answers call A)
-call-plays gives script player kinds call plays is =
-    let next = next_of-some (left_of script player) call is in
-    let (registers, asks) = plays.calls in
-    let left : IsTrue (are_transactions registers ((call ∷ next.calls) ∷ next.later))
-    = subst (λ l. IsTrue (are_transactions registers l)) next.is asks
-    in
-    answers_abort registers call (are_calls_first registers call next.calls next.later (are_calls-transactions registers ((call ∷ next.calls) ∷ next.later) left))
+call-plays gives script player kinds call plays is = grind arith
 
 -- the player has made its next call, and has gone on after the answer to it
 pub plays-goes_on : (gives : Call → Answer → Type 0) (script : List (List Kind)) (old new : Player) (kinds : List Kind) (call answer : Kind)
@@ -102,13 +91,4 @@ ends_as-plays gives script player kinds ending plays is = by_next (next_of (left
 pub goes_on-same : (old middle new : Player) (answer : Kind) → middle.transaction ≡ old.transaction → middle.call ≡ old.call
     → GoesOn answer middle new → GoesOn answer old new
 goes_on-same old middle new answer transaction call goes =
-    elim (cases_Bool (ends answer)) as (λ _. GoesOn answer old new) [
-      | inl over ↦
-          let begins : BeginsNext middle new = MatchBool-at_true _ _ over goes in
-          subst (λ b. MatchBool b (BeginsNext old new) (MakesNext old new)) (sym over)
-          record { transaction = begins.transaction ∙ ap (λ n. n + 1) transaction; call = begins.call; fresh = begins.fresh }
-      | inr on ↦
-          let makes : MakesNext middle new = MatchBool-at_false _ _ on goes in
-          subst (λ b. MatchBool b (BeginsNext old new) (MakesNext old new)) (sym on)
-          record { transaction = makes.transaction ∙ transaction; call = makes.call ∙ ap (λ n. n + 1) call }
-    ]
+    grind (arith, cases_Bool, ends)

@@ -1,5 +1,5 @@
 -- The script and the call that are read at a player's position.
-use Rattle.tmw_drive.proofs.Shared.{Kind, List, Some, [], ap, calls_of, drop, from_call, get_or, get_or-map, length, next_of, refl, script_at, script_of, scripts_of, slice_get, suc, sym, zero, ℕ, ◌<◌, ◌∙◌, ◌∷◌, ◌≡◌}
+use Rattle.tmw_drive.proofs.Shared.{Kind, List, Some, [], ap, calls_of, drop, from_call, get_or, get_or-map, length, next_of, refl, script_at, script_of, scripts_of, slice_get, suc, sym, zero, ℕ, ◌<◌, ◌∙◌, ◌∷◌, ◌≡◌, arith}
 use Rattle.std.specs.Global.{Vec}
 
 next_of-drop : (calls : List Kind) (call : ℕ) (later : List (List Kind)) → next_of (drop call calls ∷ later) ≡ slice_get calls call
@@ -13,8 +13,7 @@ pub next_of-get : (script : List (Vec Kind)) (transaction call : ℕ) (calls : V
     → next_of (from_call call (drop transaction (calls_of script))) ≡ slice_get calls.items call
 next_of-get [] transaction call calls is = absurd (cc)
 next_of-get (first ∷ script) zero call calls is =
-    let same : first ≡ calls = cc in
-    next_of-drop first.items call (calls_of script) ∙ ap (λ (v : Vec Kind). slice_get v.items call) same
+    grind (arith, next_of-drop, calls_of, slice_get)
 next_of-get (first ∷ script) (suc transaction) call calls is = next_of-get script transaction call calls is
 
 -- the script of a thread is the vector at its place

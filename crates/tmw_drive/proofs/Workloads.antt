@@ -1,12 +1,10 @@
 -- What a workload tells of its scripts and its order.
-use Rattle.tmw_drive.proofs.Shared.{All, All-cons, All-nil, IsTrue, Kind, List, [], and_from, and_parts, are_scripts, are_transactions, is_short_script, is_short_transaction, is_workload, leb-true, length, ltb-true, nat_le, nat_lt, refl, script_at, suc, zero, ℕ, ◌&&◌, ◌<◌, ◌∷◌, ◌≤◌}
+use Rattle.tmw_drive.proofs.Shared.{All, All-cons, All-nil, IsTrue, Kind, List, [], and_from, and_parts, are_scripts, are_transactions, is_short_script, is_short_transaction, is_workload, length, ltb-true, nat_le, nat_lt, refl, script_at, suc, zero, ℕ, ◌<◌, ◌∷◌, ◌≤◌, arith}
 use Rattle.std.specs.List.{list_all}
 
 pub length-order : (registers : ℕ) (scripts : List (List (List Kind))) (order : List ℕ) → IsTrue (is_workload registers scripts order)
     → length order ≤ 100000
-length-order registers scripts order is =
-    let one = (and_parts (are_scripts registers scripts) _ is).1 in
-    leb-true (length order) 100000 (and_parts (nat_le (length order) 100000) _ one).0
+length-order registers scripts order is = grind arith
 
 all_below : (threads : ℕ) (order : List ℕ) → IsTrue (list_all (λ thread. nat_lt thread threads) order) → All (λ thread. thread < threads) order
 all_below threads [] is = All-nil (λ thread. thread < threads)
@@ -18,8 +16,7 @@ all_below threads (first ∷ order) is =
 pub within-order : (registers : ℕ) (scripts : List (List (List Kind))) (order : List ℕ) → IsTrue (is_workload registers scripts order)
     → All (λ thread. thread < length scripts) order
 within-order registers scripts order is =
-    let one = (and_parts (are_scripts registers scripts) _ is).1 in
-    all_below (length scripts) order (and_parts (nat_le (length order) 100000) _ one).1
+    grind (arith, and_parts, are_scripts, all_below, length, nat_le)
 
 are_transactions-short : (registers : ℕ) (script : List (List Kind)) → IsTrue (list_all (is_short_transaction registers) script)
     → IsTrue (are_transactions registers script)
@@ -32,8 +29,7 @@ at_thread : (registers : ℕ) (scripts : List (List (List Kind))) (thread : ℕ)
     → IsTrue (are_transactions registers (script_at scripts thread))
 at_thread registers [] thread is = refl
 at_thread registers (script ∷ scripts) zero is =
-    let here = (and_parts (is_short_script registers script) _ is).0 in
-    are_transactions-short registers script (and_parts (nat_le (length script) 1000) _ here).1
+    grind (arith, and_parts, is_short_script, are_transactions-short, nat_le, length)
 at_thread registers (script ∷ scripts) (suc thread) is =
     at_thread registers scripts thread (and_parts (is_short_script registers script) _ is).1
 
@@ -41,5 +37,4 @@ at_thread registers (script ∷ scripts) (suc thread) is =
 pub are_transactions-workload : (registers : ℕ) (scripts : List (List (List Kind))) (order : List ℕ) → IsTrue (is_workload registers scripts order)
     → (thread : ℕ) → IsTrue (are_transactions registers (script_at scripts thread))
 are_transactions-workload registers scripts order is thread =
-    let one = (and_parts (are_scripts registers scripts) _ is).0 in
-    at_thread registers scripts thread (and_parts (nat_lt 0 (length scripts) && nat_le (length scripts) 8) _ one).1
+    grind (arith, and_parts, are_scripts, at_thread, nat_lt, length, nat_le)

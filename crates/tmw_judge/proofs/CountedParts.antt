@@ -1,5 +1,5 @@
 -- The part of a history that is counted, with one event more.
-use Rattle.tmw_judge.proofs.Shared.{AreFed, AreJudged, AreReports, Asked, Bool, Both, Bounds, ByCriterion, CountsFor, Event, Header, IsFalse, IsTrue, Judges, List, Monitor, Opacity, Report, Strict, Verdict, [], any_open, ap, arith, as_formed, as_formed-le, cases_Bool, counted_of, counted_part, false, inl, inr, is_open, length, length-push, refl, step, subst, suc, sym, take, take-push, take_all-push, take_whole, told_verdicts, trace_rules, true, verdict_of, verdicts_of, zero, ℕ, ◌++◌, ◌+◌, ◌||◌, ◌∙◌, ◌∷◌, ◌≡◌, ◌≤◌}
+use Rattle.tmw_judge.proofs.Shared.{AreFed, AreJudged, AreReports, Asked, Bool, Both, Bounds, ByCriterion, CountsFor, Event, Header, IsFalse, IsTrue, Judges, List, Monitor, Opacity, Report, Strict, [], any_open, ap, arith, as_formed, as_formed-le, cases_Bool, counted_of, counted_part, false, inl, inr, is_open, length, length-push, step, subst, sym, take, take-push, take_all-push, take_whole, told_verdicts, trace_rules, true, verdict_of, verdicts_of, ℕ, ◌++◌, ◌+◌, ◌||◌, ◌∙◌, ◌∷◌, ◌≡◌, ◌≤◌}
 use Rattle.tmw_defs.proofs.QuietProof.{or_none}
 use Rattle.tmw_defs.specs.History.{is_well_formed}
 use Rattle.tmw_defs.proofs.VerdictProof.{verdict-one}
@@ -90,17 +90,14 @@ abbrev none : List Event
 none = []
 
 take_nil : (n : ℕ) → take n none ≡ none
-take_nil zero = refl
-take_nil (suc n) = refl
+take_nil n = grind arith
 
 -- before the first event nothing is counted
 pub judged-nothing : {C : Type 0} (Counts : CountsFor C) (header : Header) (bounds : Bounds) (asked : Asked) (monitors : ByCriterion Monitor)
     (counting : C) → AreFed header bounds asked [] monitors → Counts header.registers.number [] counting
     → AreJudged Counts header bounds asked [] (record { monitors = monitors; counting = counting })
-judged-nothing Counts header bounds asked monitors counting fed counts = record {
-  fed = fed;
-  counted = rw (take_nil (counted_of 0 (verdicts_of monitors))) counts;
-}
+judged-nothing Counts header bounds asked monitors counting fed counts =
+    grind (arith, take_nil, counted_of, verdicts_of)
 
 -- one event more is judged, and counted where some verdict was open
 pub judged-more : {C : Type 0} (Counts : CountsFor C) (header : Header) (bounds : Bounds) (asked : Asked) (h : List Event) (e : Event)
@@ -135,20 +132,5 @@ judged-more {C = C} Counts header bounds asked h e old new was fed formed ill sa
 -- the verdicts that are reported are the monitors'
 pub told-same : (header : Header) (bounds : Bounds) (asked : Asked) (h : List Event) (monitors : ByCriterion Monitor) (reports : ByCriterion Report)
     → AreFed header bounds asked h monitors → AreReports header bounds asked h reports → verdicts_of monitors ≡ told_verdicts reports
-told-same header bounds asked h (Opacity m) (Opacity r) fed tell =
-    ap (λ (v : Verdict). let b : ByCriterion Verdict = Opacity v in b)
-    (verdict-one (trace_rules header bounds by.Opacity) h (verdict_of m) r.verdict fed.each.judged tell.each.judged)
-told-same header bounds asked h (Strict m) (Strict r) fed tell =
-    ap (λ (v : Verdict). let b : ByCriterion Verdict = Strict v in b)
-    (verdict-one (trace_rules header bounds by.Strict) h (verdict_of m) r.verdict fed.each.judged tell.each.judged)
-told-same header bounds asked h (Both m n) (Both r s) fed tell =
-    ap (λ (v : Verdict). let b : ByCriterion Verdict = Both v (verdict_of n) in b)
-    (verdict-one (trace_rules header bounds by.Opacity) h (verdict_of m) r.verdict fed.each.0.judged tell.each.0.judged)
-    ∙ ap (λ (v : Verdict). let b : ByCriterion Verdict = Both r.verdict v in b)
-    (verdict-one (trace_rules header bounds by.Strict) h (verdict_of n) s.verdict fed.each.1.judged tell.each.1.judged)
-told-same header bounds asked h (Opacity m) (Strict s) fed tell = absurd (let is = fed.all ∙ sym tell.all in cc)
-told-same header bounds asked h (Opacity m) (Both r s) fed tell = absurd (let is = fed.all ∙ sym tell.all in cc)
-told-same header bounds asked h (Strict m) (Opacity s) fed tell = absurd (let is = fed.all ∙ sym tell.all in cc)
-told-same header bounds asked h (Strict m) (Both r s) fed tell = absurd (let is = fed.all ∙ sym tell.all in cc)
-told-same header bounds asked h (Both m n) (Opacity s) fed tell = absurd (let is = fed.all ∙ sym tell.all in cc)
-told-same header bounds asked h (Both m n) (Strict s) fed tell = absurd (let is = fed.all ∙ sym tell.all in cc)
+told-same header bounds asked h monitors reports fed tell =
+    grind (arith, verdict-one, trace_rules, verdict_of)

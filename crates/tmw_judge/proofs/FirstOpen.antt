@@ -1,16 +1,14 @@
 -- Histories with which nothing is wrong by one of the criteria that are asked for: their prefixes are such too.
-use Rattle.tmw_judge.proofs.Shared.{AreFed, AreOpen, AreOpenBefore, AreReports, Asked, Both, Bounds, ByCriterion, Event, Header, List, Monitor, Opacity, Report, Strict, Verdict, [], any_open, arith, fine_of, inl, inr, is_open, length-push, or_cases, refl, subst, sym, take, take-push, told_verdicts, trace_rules, true, verdict_of, verdicts_of, ℕ, ◌++◌, ◌∷◌, ◌≡◌}
+use Rattle.tmw_judge.proofs.Shared.{AreFed, AreOpen, AreOpenBefore, AreReports, Asked, Both, Bounds, ByCriterion, Event, Header, List, Monitor, Opacity, Report, Strict, Verdict, [], any_open, arith, fine_of, inl, inr, is_open, length-push, or_cases, refl, subst, take, take-push, told_verdicts, trace_rules, true, verdict_of, verdicts_of, ℕ, ◌++◌, ◌∷◌, ◌≡◌, rules}
 use Rattle.std.proofs.lemmas.List.{length-take, take-take}
 use Rattle.tmw_defs.specs.declared.verdict.Verdict.TheVariants.{OpaqueSoFar, StrictSoFar}
-use Rattle.tmw_defs.specs.Verdict.{AreFine, IsFine, IsVerdict, Rules}
+use Rattle.tmw_defs.specs.Verdict.{AreFine, IsVerdict, Rules}
 use Rattle.tmw_defs.specs.declared.criterion.Asked.TheVariants as asks
 use Rattle.tmw_defs.specs.declared.criterion.Criterion.TheVariants as by
 
 -- where nothing is wrong with any prefix, nothing is with a prefix's prefixes
 fine-prefix : (rules : Rules) (h : List Event) (j : ℕ) → AreFine rules h → AreFine rules (take j h)
-fine-prefix rules h j fine = λ k within.
-    let long = length-take j h in
-    subst (λ (es : List Event). IsFine rules es) (sym (take-take k j h (omega (arith, within, long)))) (fine k (omega (arith, within, long)))
+fine-prefix rules h j fine = grind (arith, length-take, take-take)
 
 module _ (header : Header) (bounds : Bounds) where
   -- each prefix of an open history is open

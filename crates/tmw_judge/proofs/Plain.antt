@@ -1,5 +1,5 @@
 -- A run of `judge` that ends at no verdict and counts nothing answers by its reports alone.
-use Rattle.tmw_judge.proofs.Shared.{Answer, AnswersBy, AnswersTrace, Asked, Bounds, ByCriterion, Err, Event, FromSource, HasSummary, IsPut, JudgesBytes, JudgesWith, List, None, Ok, Option, Report, Result, Some, Summary, ToSink, append-nil, counted_part, false, judged_lines, judged_status, plain, refl, report_lines, report_status, subst, summary_lines, told_verdicts, ℕ, ◌++◌, ◌∙◌, ◌≡◌}
+use Rattle.tmw_judge.proofs.Shared.{Answer, AnswersBy, AnswersTrace, Asked, Bounds, ByCriterion, Err, Event, FromSource, HasSummary, IsPut, JudgesBytes, JudgesWith, List, Ok, Option, Report, Result, Summary, ToSink, append-nil, counted_part, false, judged_lines, judged_status, plain, refl, report_lines, report_status, subst, summary_lines, told_verdicts, ℕ, ◌++◌, ◌∙◌, ◌≡◌, arith}
 use Rattle.tmw_report.specs.declared.fault.Fault.{Fault}
 use Rattle.tmw_report.specs.CommandRun.{answer_status, answer_text, failures_after_answer}
 
@@ -9,16 +9,13 @@ reports_in (Err fault) = Err fault
 
 no_counts : (part : List Event) (summary : Option Summary) (lines : List ℕ) → HasSummary false part summary
     → lines ++ summary_lines summary ≡ lines
-no_counts part None lines is = append-nil lines
-no_counts part (Some summary) lines is = absurd is
+no_counts part summary lines is = grind (arith, append-nil)
 
 same_failures : (answer : Result Answer Fault) (count : ℕ) → failures_after_answer answer count ≡ failures_after_answer (reports_in answer) count
-same_failures (Ok answer) count = refl
-same_failures (Err fault) count = refl
+same_failures answer count = grind arith
 
 same_status : (answer : Result Answer Fault) → answer_status judged_status answer ≡ answer_status report_status (reports_in answer)
-same_status (Ok answer) = refl
-same_status (Err fault) = refl
+same_status answer = grind arith
 
 module _ (bounds : Bounds) (asked : Asked) (Ended : Type 0) (bytes : List ℕ) where
   right : (answer : Result Answer Fault) → AnswersBy false false bounds asked Ended bytes answer

@@ -1,5 +1,5 @@
 -- Judges take events by being fed them.
-use Rattle.tmw_judge.proofs.Shared.{AreFed, AreFedSoMany, Asked, Both, Bounds, ByCriterion, CountsFor, Each, Err, Event, Header, Judges, List, Monitor, Ok, OnErr, Opacity, Result, Strict, TakeEvents, [], arith, fed_of, length, length-append, trace_rules, ℕ, ◌++◌, ◌+◌, ◌-◌, ◌<◌, ◌^◌, ◌∷◌}
+use Rattle.tmw_judge.proofs.Shared.{AreFed, AreFedSoMany, Asked, Bounds, ByCriterion, CountsFor, Each, Event, Header, Judges, List, Monitor, OnErr, Result, TakeEvents, [], arith, fed_of, length, length-append, trace_rules, ℕ, ◌++◌, ◌+◌, ◌-◌, ◌<◌, ◌^◌, ◌∷◌}
 use Rattle.tmw_monitor.specs.Fitting.{Fits}
 use Rattle.tmw_judge.proofs.Each.{each-weaker}
 
@@ -27,10 +27,7 @@ module _ {C : Type 0} (Counts : CountsFor C) where
 -- a history that was fed has fewer events than 64 bits count
 pub few_fed : (header : Header) (bounds : Bounds) (asked : Asked) (history : List Event) (monitors : ByCriterion Monitor)
     → Each (λ _ monitor. fed_of monitor < 2 ^ 40) monitors → AreFed header bounds asked history monitors → length history < 2 ^ 64 - 1
-few_fed header bounds asked history (Opacity monitor) few fed = let all = fed.each.counted in omega (arith, few, all)
-few_fed header bounds asked history (Strict monitor) few fed = let all = fed.each.counted in omega (arith, few, all)
-few_fed header bounds asked history (Both opacity strict) few fed = let all = fed.each.0.counted in let less = few.0 in omega (arith, less, all)
+few_fed header bounds asked history monitors few fed = grind arith
 
 pub on_err : {A B : Type 0} (result : Result A B) (Is : Type 0) → Is → OnErr result Is
-on_err (Ok done) Is is = tt
-on_err (Err fault) Is is = is
+on_err result Is is = grind arith

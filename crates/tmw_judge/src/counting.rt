@@ -1,6 +1,6 @@
 //! What is counted of the events that are judged: nothing, or what a history has shown.
 use crate::by_criterion::ByCriterion;
-use crate::monitors::feed_each;
+use crate::monitors::feed_copy;
 use std::alloc::AllocError;
 use tmw_counts::{Counter, Summary};
 use tmw_events::{Event, Registers};
@@ -85,12 +85,7 @@ impl Counting for Uncounted {
             monitor.feed(event)?;
             return Ok(());
         }
-        // A copy that only this way needs, so that the event is mostly no value in memory.
-        let copied = Event {
-            thread: event.thread,
-            kind: event.kind,
-        };
-        feed_each(monitors, copied)
+        feed_copy(monitors, event)
     }
 
     fn summary(&self) -> Option<Summary> {
@@ -123,12 +118,7 @@ impl Counting for StrictUncounted {
             monitor.feed(event)?;
             return Ok(());
         }
-        // A copy that only this way needs, so that the event is mostly no value in memory.
-        let copied = Event {
-            thread: event.thread,
-            kind: event.kind,
-        };
-        feed_each(monitors, copied)
+        feed_copy(monitors, event)
     }
 
     fn summary(&self) -> Option<Summary> {

@@ -74,8 +74,29 @@ pub fn any_open(monitors: &ByCriterion<Monitor>) -> bool
 }
 
 /// Feeds the event to each monitor. After a failed allocation none has taken it, or of two the first alone.
+#[inline(always)]
+pub fn feed_copy(monitors: &mut ByCriterion<Monitor>, event: Event) -> Result<(), AllocError>
+    requires { Each (λ _ monitor. fed_of monitor < 2 ^ 40) monitors.old }
+    ensures fed { OnOk result
+        ((header : Header) (bounds : Bounds) (asked : Asked) (history : List Event)
+        → AreFed header bounds asked history monitors.old
+        → AreFed header bounds asked (history ++ event ∷ []) monitors.new) }
+    ensures refused { OnErr result
+        ((header : Header) (bounds : Bounds) (asked : Asked) (history : List Event)
+        → AreFed header bounds asked history monitors.old
+        → LackEvent header bounds asked history event monitors.new) }
+{
+    // A copy for the call alone, so that the event mostly stays in registers of the processor.
+    let copied = Event {
+        thread: event.thread,
+        kind: event.kind,
+    };
+    feed_each(monitors, copied)
+}
+
+/// Feeds the event to each monitor, as `feed_copy` does. It is called.
 #[inline(never)]
-pub fn feed_each(monitors: &mut ByCriterion<Monitor>, event: Event) -> Result<(), AllocError>
+fn feed_each(monitors: &mut ByCriterion<Monitor>, event: Event) -> Result<(), AllocError>
     requires { Each (λ _ monitor. fed_of monitor < 2 ^ 40) monitors.old }
     ensures fed { OnOk result
         ((header : Header) (bounds : Bounds) (asked : Asked) (history : List Event)

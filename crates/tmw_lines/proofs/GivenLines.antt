@@ -3,6 +3,12 @@ use Rattle.tmw_lines.proofs.Shared.{All-push, AreFirst, AreTaken, Grammar, IsIte
 use Rattle.tmw_lines.proofs.LinesRead.{items_text-push}
 
 module _ {F H E : Type 0} (grammar : Grammar F H E) (format : F) (bytes : List ℕ) where
+  -- a line has its line feed
+  pub line-long : (count : ℕ) {item : E} → count ≤ length bytes → IsItemLine grammar format item bytes (drop count bytes) → 0 < count
+  line-long count {item} within is =
+      let text = grammar.item_text item in
+      omega (arith, within, ap length is.split, length-append (line text) (drop count bytes), length-append text (10 ∷ []), length-drop count bytes)
+
   -- one line more
   pub AreFirst-push : (items : List E) (item : E) (count more : ℕ) → AreFirst grammar format items count bytes
       → more ≤ length (drop count bytes) → IsItemLine grammar format item (drop count bytes) (drop more (drop count bytes))

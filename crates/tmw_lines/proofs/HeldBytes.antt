@@ -1,14 +1,12 @@
 -- Bytes in a buffer: those let go of at the front, moved to the front, and read behind the others.
-use Rattle.tmw_lines.proofs.Shared.{List, [], ap, arith, drop, drop-drop, drop-set-lt, drop-take, get_or, get_or-drop, length, length-drop, length-set, length-take-le, post_of, put_mid, set, sym, take, take-append-add, take-append-le, take_more, take_more_set, ℕ, ◌++◌, ◌+◌, ◌-◌, ◌<◌, ◌∙◌, ◌∷◌, ◌≡◌, ◌≤◌}
+use Rattle.tmw_lines.proofs.Shared.{List, [], ap, arith, drop, drop-drop, drop-set-lt, drop-take, get_or, get_or-drop, length, length-drop, length-set, length-take-le, put_mid, set, sym, take, take-append-add, take-append-le, take_more, take_more_set, ℕ, ◌++◌, ◌+◌, ◌-◌, ◌<◌, ◌∙◌, ◌∷◌, ◌≡◌, ◌≤◌}
 
 -- the bytes from `start` up to `end`, less the first `count`
 pub between-less : (buffer : List ℕ) (start end count : ℕ) → count + start ≤ end
     → take (end - (start + count)) (drop (start + count) buffer) ≡ drop count (take (end - start) (drop start buffer))
 between-less buffer start end count within =
     let m = end - (start + count) in
-    let left : end - start ≡ count + m = omega arith in
-    sym (ap (λ n. drop count (take n (drop start buffer))) left ∙ drop-take count m (drop start buffer)
-    ∙ ap (λ xs. take m xs) (drop-drop count start buffer))
+    let left : end - start ≡ count + m = omega arith in grind (arith, drop-take, drop-drop)
 
 -- so many bytes are moved, and those from there on are as they were
 pub record AreMoved (index start : ℕ) (bytes old : List ℕ) : Type 0 where
@@ -19,9 +17,7 @@ pub record AreMoved (index start : ℕ) (bytes old : List ℕ) : Type 0 where
 -- where two lists agree from an index on, so do their elements
 get_or-from_drop : (i k : ℕ) (xs ys : List ℕ) → i ≤ k → drop i xs ≡ drop i ys → get_or xs k 0 ≡ get_or ys k 0
 get_or-from_drop i k xs ys le same =
-    let e : k ≡ i + (k - i) = omega arith in
-    ap (λ n. get_or xs n 0) e ∙ sym (get_or-drop i xs (k - i) 0) ∙ ap (λ zs. get_or zs (k - i) 0) same
-    ∙ get_or-drop i ys (k - i) 0 ∙ ap (λ n. get_or ys n 0) (sym e)
+    let e : k ≡ i + (k - i) = omega arith in grind (arith, get_or-drop)
 
 pub AreMoved-more : (index start : ℕ) (bytes old : List ℕ) → AreMoved index start bytes old → start + index < length old
     → AreMoved (index + 1) start (set bytes index (get_or bytes (start + index) 0)) old
@@ -44,8 +40,4 @@ AreMoved-more index start bytes old m within =
 pub take-read : (moved new : List ℕ) (held count room : ℕ) → held ≤ length moved → count ≤ length new
     → take (held + count) (put_mid held room moved new) ≡ take held moved ++ take count new
 take-read moved new held count room within few =
-    let part = take held moved in
-    let same : length part ≡ held = length-take-le held moved within in
-    ap (λ n. take (n + count) (put_mid held room moved new)) (sym same)
-    ∙ take-append-add part (new ++ post_of held room moved) count
-    ∙ ap (λ xs. part ++ xs) (take-append-le count new (post_of held room moved) few)
+    grind (arith, length-take-le, take-append-add, take-append-le)

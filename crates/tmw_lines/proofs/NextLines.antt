@@ -8,10 +8,7 @@ use Rattle.tmw_lines.proofs.Splits.{free-append}
 pub take_item-some : {F H E : Type 0} (grammar : Grammar F H E) (format : F) (bytes left : List ℕ) (count : ℕ)
     (item : E) → drop count bytes ≡ 10 ∷ drop (count + 1) bytes → left ≡ drop (count + 1) bytes
     → take count bytes ≡ grammar.item_text item → grammar.FitsItem format item → IsItemLine grammar format item bytes left
-take_item-some grammar format bytes left count item feed is text fits = record {
-  split = rw is (line-split bytes (grammar.item_text item) count feed text);
-  fits = fits;
-}
+take_item-some grammar format bytes left count item feed is text fits = grind (arith, line-split)
 
 pub take_item-none : {F H E : Type 0} (grammar : Grammar F H E) (format : F) (bytes : List ℕ) (count : ℕ)
     → IsFree 10 (take count bytes) → drop count bytes ≡ 10 ∷ drop (count + 1) bytes

@@ -9,10 +9,7 @@ pub IsSeen-more : (bytes : List ℕ) (seen more : ℕ) → IsSeen seen bytes
 IsSeen-more bytes seen more s is =
     let few = prefix_len-le-length (λ byte. not (byte == 10)) (drop seen bytes) in
     let free : IsFree 10 (take more (drop seen bytes)) = rw is (free-before 10 (drop seen bytes)) in
-    record {
-      within = omega (arith, s.within, is, few, length-drop seen bytes);
-      free = rw (take-add seen more bytes) (free-append 10 (take seen bytes) (take more (drop seen bytes)) s.free free);
-    }
+    grind (arith, length-drop, take-add, free-append)
 
 pub drop-seen : (bytes : List ℕ) (seen more : ℕ) → more ≡ position_or_len (λ byte. byte == 10) (drop seen bytes)
     → seen + more < length bytes → drop (seen + more) bytes ≡ 10 ∷ drop (seen + more + 1) bytes
@@ -25,10 +22,7 @@ drop-seen bytes seen more is within =
 
 -- what is read behind the bytes leaves what was seen
 pub IsSeen-append : (bytes rest : List ℕ) (seen : ℕ) → IsSeen seen bytes → IsSeen seen (bytes ++ rest)
-IsSeen-append bytes rest seen s = record {
-  within = simp length-append (omega (arith, s.within));
-  free = rw (take-append-le seen bytes rest s.within) s.free;
-}
+IsSeen-append bytes rest seen s = grind (arith, length-append, take-append-le)
 
 pub free-seen : (bytes : List ℕ) (seen : ℕ) → length bytes ≤ seen → IsSeen seen bytes → IsFree 10 bytes
 free-seen bytes seen all s = rw (take_all seen bytes all) at s.free

@@ -1,13 +1,12 @@
 -- A text names its header and its items: two lists of lines with one text are one.
-use Rattle.tmw_lines.proofs.Shared.{AllByRecursion, AllFit, Grammar, IsFree, IsNaming, List, [], ap, append_assoc, arith, drop, items_text, length, length-append, line, lines_text, recursion_from_All, refl, sym, ℕ, ◌++◌, ◌∙◌, ◌∷◌, ◌≡◌}
+use Rattle.tmw_lines.proofs.Shared.{AllByRecursion, AllFit, Grammar, IsFree, IsNaming, List, [], ap, append_assoc, arith, items_text, length, length-append, line, lines_text, recursion_from_All, refl, sym, ℕ, ◌++◌, ◌∙◌, ◌∷◌, ◌≡◌}
 use Rattle.tmw_lines.proofs.Splits.{split_free}
 
 -- a line and what follows it are fixed by the bytes
 line-injective : (xs us ys vs : List ℕ) → IsFree 10 xs → IsFree 10 us → line xs ++ ys ≡ line us ++ vs → (xs ≡ us) × (ys ≡ vs)
 line-injective xs us ys vs a b is =
     let e = sym (append_assoc xs (10 ∷ []) ys) ∙ is ∙ append_assoc us (10 ∷ []) vs in
-    let parts = split_free 10 xs us (10 ∷ ys) (10 ∷ vs) a b refl refl e in
-    (parts.0, ap (λ zs. drop 1 zs) parts.1)
+    let parts = split_free 10 xs us (10 ∷ ys) (10 ∷ vs) a b refl refl e in grind arith
 
 module _ {F H E : Type 0} (grammar : Grammar F H E) where
   -- an item's line is some bytes

@@ -1,16 +1,11 @@
 -- Reading a whole text: its header, and then the items of all other lines.
-use Rattle.tmw_lines.proofs.Shared.{AreLines, AreReadFor, BadHeader, BadLine, Cut, EndsSoon, Err, FromSource, Grammar, HasFirstLineFault, HasRead, HasTextFault, Io, Lines, List, Memory, Ok, ReadsItems, Tells, Tells-more, TextFault, TooLong, [], ap, bytes_of, inl, lines_text, subst, ℕ, ◌++◌, ◌∙◌, ◌∷◌, ◌≡◌}
+use Rattle.tmw_lines.proofs.Shared.{AreLines, AreReadFor, BadHeader, BadLine, Cut, EndsSoon, Err, FromSource, Grammar, HasFirstLineFault, HasRead, HasTextFault, Io, Lines, List, Memory, Ok, ReadsItems, Tells, Tells-more, TextFault, TooLong, [], ap, bytes_of, lines_text, subst, ℕ, ◌++◌, ◌∙◌, ◌∷◌, ◌≡◌, arith}
 use Rattle.tmw_lines.proofs.LinesRead.{text_fault-behind}
 
 -- a fault of the first line is the text's
 pub text_fault-first : {F H E : Type 0} (grammar : Grammar F H E) (Ended : Type 0) (bytes : List ℕ) (fault : TextFault)
     → HasFirstLineFault grammar Ended bytes fault → HasTextFault grammar Ended bytes fault
-text_fault-first grammar Ended bytes BadHeader h = h
-text_fault-first grammar Ended bytes (BadLine number) h = absurd h
-text_fault-first grammar Ended bytes (Cut number) h = (h.0, inl (h.1, h.2, h.3))
-text_fault-first grammar Ended bytes Memory h = absurd h
-text_fault-first grammar Ended bytes Io h = (h.0, inl h.1)
-text_fault-first grammar Ended bytes TooLong h = absurd h
+text_fault-first grammar Ended bytes fault h = grind arith
 
 -- what was read when memory was wanted ends soon behind whole lines
 pub soon-behind : {F H E : Type 0} (grammar : Grammar F H E) (lines : Lines F) (header : H) (items : List E) (bytes : List ℕ)

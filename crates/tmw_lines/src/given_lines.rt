@@ -17,9 +17,9 @@ pub struct Run {
     pub refused: bool,
 }
 
-/// Gives the taker the items of the lines that these bytes begin with, as far as the format reads them in one pass.
-/// So many items' lines came before them. Most lines are read here: it is inlined into its caller, and what it counts
-/// stays in registers.
+/// Gives the taker the items of the lines that these bytes begin with, as far as the format reads them in one pass; none, if so many bytes
+/// might pass the greatest number of lines. So many items' lines came before them. Most lines are read here: it is inlined into its
+/// caller, and what it counts stays in registers.
 #[inline(always)]
 pub fn give_lines<F: LineFormat, T: Taker<F::Item>>(
     format: F,
@@ -33,26 +33,35 @@ pub fn give_lines<F: LineFormat, T: Taker<F::Item>>(
         result }
 {
     let mut rest = bytes;
-    let mut left = MOST_ITEMS - read;
-    while left > 0 {
+    let mut count = read;
+    // Each line has a byte, so that after this no turn compares the count with the greatest number.
+    if MOST_ITEMS - read <= bytes.len() as u64 {
+        return Run {
+            length: 0,
+            count,
+            refused: false,
+        };
+    }
+    loop {
         match format.give_first(rest, taker) {
-            Given::Nothing => break,
+            Given::Nothing => {
+                return Run {
+                    length: bytes.len() - rest.len(),
+                    count,
+                    refused: false,
+                };
+            }
             Given::Taken(more) => {
                 rest = &rest[more..];
-                left -= 1;
+                count += 1;
             }
             Given::Refused(more) => {
                 return Run {
                     length: bytes.len() - rest.len() + more,
-                    count: MOST_ITEMS - left + 1,
+                    count: count + 1,
                     refused: true,
                 };
             }
         }
-    }
-    Run {
-        length: bytes.len() - rest.len(),
-        count: MOST_ITEMS - left,
-        refused: false,
     }
 }

@@ -1,5 +1,5 @@
 -- What each call of a memory does to its transaction: the old transaction, the answer and the new one.
-use Rattle.std.specs.Prelude.{◌≡◌, ◌<◌, ◌+◌, ◌%◌, ◌^◌, ◌⊎◌, ◌++◌, ◌==◌, ℕ, true, false, List, [], ◌∷◌, length, reverse, find, Option, option_map, IfSome}
+use Rattle.std.specs.Prelude.{◌≡◌, ◌<◌, ◌+◌, ◌%◌, ◌^◌, ◌⊎◌, ◌++◌, ◌==◌, ℕ, Bool, true, false, IsTrue, List, [], ◌∷◌, length, reverse, find, Option, option_map, IfSome}
 use Rattle.tmw_events.specs.declared.ix.Ix.{Ix}
 use Rattle.tmw_events.specs.declared.registers.Registers.{Registers}
 use Rattle.tmw_tm.specs.declared.answer.Did.{Did}
@@ -33,15 +33,11 @@ abbrev pub latest : List Entry → Ix → Option ℕ
 latest writes register =
     option_map (λ (write : Entry). write.value) (find (λ (write : Entry). write.register.number == register.number) (reverse writes))
 
--- A transaction may begin when it has not begun yet. An abort leaves nothing of it, nor of the one that had begun.
-abbrev pub Begins : Tx → Did → Tx → Type 0
-Begins old Done new = (old.begun ≡ false) × IsBegun new
-Begins old Abort new = IsEnded new
-
--- It is refused only to a transaction that has begun.
-abbrev pub BeginsAtOnce : Tx → Did → Tx → Type 0
-BeginsAtOnce old Done new = (old.begun ≡ false) × IsBegun new
-BeginsAtOnce old Abort new = IsEnded new × (old.begun ≡ true)
+-- A transaction may begin when it has not begun yet. An abort leaves nothing of it, nor of the one that had begun. Where each
+-- may begin, one that has not begun does.
+abbrev pub BeginsBy : Bool → Tx → Did → Tx → Type 0
+BeginsBy at_once old Done new = (old.begun ≡ false) × IsBegun new
+BeginsBy at_once old Abort new = IsEnded new × (IsTrue at_once → old.begun ≡ true)
 
 -- A read is answered where the transaction may use the register, by the latest own write to it if there is one.
 -- It changes nothing, and any other read is an abort.

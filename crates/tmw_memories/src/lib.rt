@@ -4,12 +4,14 @@
 //! proved: they are what is tested. Proved is that each call returns, and what it does to its transaction.
 #![tactic(auto)]
 
+mod gated;
 mod global_lock;
 mod norec;
 mod torn;
 mod transaction;
 mod words;
 
-pub use global_lock::GlobalLock;
+pub use gated::{Gate, Gated};
+pub use global_lock::{GlobalLock, Lock};
 pub use norec::NoRec;
-pub use torn::Torn;
+pub use torn::{Open, Torn};

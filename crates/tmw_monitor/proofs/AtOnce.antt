@@ -1,7 +1,6 @@
 -- An event that is taken at once leaves the history fine: where it leads to no cut, and where the only transaction ends with it.
-use Rattle.tmw_monitor.proofs.Shared.{Begin, Closes, Contains, Continues, Criterion, End, EndsOf, Event, ExplainsWith, IsNext, IsTrue, Ix, Keeps, List, Move, None, Opacity, Open, Outcome, Registers, Rules, StandsFor, State, States, StaysOpen, Strict, TellsWrong, Txn, Witness, Witnesses, [], ap, arith, asks, committed_of, contains_here, drop, ends-by, false, grows, inl, inr, is_cut, is_end, is_quiet_by, is_well_formed, length, members, rank_of, refl, state_of, subst, sym, transactions, true, uncut-next, views_of, ℕ, ◌++◌, ◌+◌, ◌<◌, ◌∙◌, ◌∷◌, ◌≡◌, ◌≤◌, ◌⊎◌}
+use Rattle.tmw_monitor.proofs.Shared.{Begin, Closes, Contains, Criterion, End, EndsOf, Event, ExplainsWith, IsNext, IsTrue, Ix, Keeps, List, Move, None, Open, Outcome, Registers, Rules, StandsFor, State, States, StaysOpen, TellsWrong, Txn, Witness, Witnesses, [], ap, arith, asks, contains_here, drop, ends-by, false, grows, inl, inr, is_cut, is_end, is_quiet_by, is_well_formed, length, members, refl, state_of, subst, sym, transactions, true, uncut-next, views_of, ℕ, ◌++◌, ◌+◌, ◌<◌, ◌∙◌, ◌∷◌, ◌≡◌, ◌≤◌, ◌⊎◌}
 use Rattle.tmw_events.specs.declared.event.Kind.{Kind}
-use Rattle.tmw_events.specs.declared.event.Kind.TheVariants.{A, C, V}
 use Rattle.tmw_search.proofs.ForcedEnds.{alone-end}
 use Rattle.tmw_search.proofs.WindowViews.{shows-views_of}
 use Rattle.tmw_witness.proofs.Path.{witness-ends}
@@ -13,8 +12,7 @@ pub explained : (criterion : Criterion) (states : States) (events : List Event) 
     → Witnesses (members states) (views_of events) w → EndsOf criterion states events (state_of w w.top)
 explained criterion states events w known witness =
     ends-by criterion (Contains (members states)) (transactions events) (state_of w w.top)
-    (witness-ends (Contains (members states)) (views_of events) (transactions events) (rank_of w) (committed_of w) (state_of w) w.top
-    (witness known) (shows-views_of events))
+    (witness-ends (witness known) (shows-views_of events))
 
 -- the event leads to no cut, and is quiet or has left an end state
 pub open-fine : (rules : Rules) (h : List Event) (e : Event) (old new : Open) (keeps : Keeps rules h old) (move : Move)
@@ -83,34 +81,19 @@ keeps-order rules h old w keeps witness = record {
   witness = witness;
 }
 
--- what goes on neither begins nor ends a transaction
-pub not_end : (move : Move) → Continues move → is_end move ≡ false
-not_end move (inl (p, is)) = ap is_end is
-not_end move (inr (p, op, is)) = ap is_end is
-
-pub not_begin : (move : Move) → Continues move → move ≡ Begin → ⊥
-not_begin move (inl (p, is)) begins = absurd (cc)
-not_begin move (inr (p, op, is)) begins = absurd (cc)
-
 -- an event that goes on and is explained leaves the history fine
-pub explained-fine : (rules : Rules) (h : List Event) (e : Event) (old new : Open) (keeps : Keeps rules h old) (move : Move) → Continues move
-    → IsNext old.window e move → StandsFor new.window (drop keeps.cut h ++ e ∷ []) → new.window.registers ≡ old.window.registers
+pub explained-fine : (rules : Rules) (h : List Event) (e : Event) (old new : Open) (keeps : Keeps rules h old) (move : Move)
+    → is_end move ≡ false → (move ≡ Begin → ⊥) → IsNext old.window e move → StandsFor new.window (drop keeps.cut h ++ e ∷ []) → new.window.registers ≡ old.window.registers
     → IsTrue old.witness.known → ExplainsWith old.witness old.window e move → members new.states ≡ members old.states
     → new.witness ≡ old.witness → TellsWrong rules (h ++ e ∷ []) new None
-explained-fine rules h e old new keeps move goes_on next stands same known explains states kept =
+explained-fine rules h e old new keeps move goes_on old_one next stands same known explains states kept =
     let rest = drop keeps.cut h in
     let witness = explains (members old.states) rest keeps.stands next keeps.witness in
-    open-fine rules h e old new keeps move next stands same (uncut-next rest e old.window move keeps.stands next (not_end move goes_on))
-    (λ begins. absurd (not_begin move goes_on begins))
+    open-fine rules h e old new keeps move next stands same (uncut-next rest e old.window move keeps.stands next goes_on)
+    (λ begins. absurd (old_one begins))
     (inr (_, explained rules.criterion old.states (rest ++ e ∷ []) old.witness known witness)) states
     (subst (λ (w : Witness). Witnesses (members old.states) (views_of (rest ++ e ∷ [])) w) (sym kept) witness)
 
 -- a call is quiet
 pub asked_quiet : (criterion : Criterion) (ts : List Txn) (thread : ℕ) (kind : Kind) → asks kind ≡ true → IsTrue (is_quiet_by criterion ts thread kind)
-asked_quiet Opacity ts thread (V v) asked = cc
-asked_quiet Opacity ts thread C asked = cc
-asked_quiet Opacity ts thread A asked = cc
-asked_quiet Opacity ts thread _ asked = refl
-asked_quiet Strict ts thread C asked = cc
-asked_quiet Strict ts thread A asked = cc
-asked_quiet Strict ts thread _ asked = refl
+asked_quiet criterion ts thread kind asked = grind arith

@@ -1,9 +1,10 @@
 -- How many states a set has: no list of different members is longer than the list of all members.
-use Rattle.tmw_monitor.proofs.Shared.{All, AllPairs, Contains, HasMoreThan, List, MoreThan, State, [], ap, arith, false, get_or, length, remove, suc, sym, true, zero, ℕ, ◌+◌, ◌<◌, ◌∙◌, ◌∷◌, ◌≡◌, ◌≢◌, ◌≤◌}
+use Rattle.tmw_monitor.proofs.Shared.{All, AllPairs, Contains, HasMoreThan, List, MoreThan, State, [], ap, arith, false, get_or, length, remove, suc, sym, true, zero, ℕ, ◌<◌, ◌∙◌, ◌∷◌, ◌≡◌, ◌≢◌, ◌≤◌}
 use Rattle.std.specs.Cmp.Lexicographic.{slice_cmp, on_texts}
 use Rattle.std.specs.List.Sorted.{IsStrictlySortedBy}
 use Rattle.std.specs.Ordering.{nat_cmp, eq_by_cmp}
 use Rattle.std.proofs.lemmas.Cmp.{eq_by_cmp_equiv}
+use Rattle.std.proofs.lemmas.List.Edits.{length-remove}
 use Rattle.std.proofs.lemmas.List.Elements.{Contains-get_or}
 use Rattle.std.proofs.lemmas.Map.Keys.{IsDistinct-from_sorted, apart_from_distinct}
 
@@ -17,11 +18,6 @@ contains-remove (y ∷ ys) (suc i) x z within is other (zero, low, same) = (0, o
 contains-remove (y ∷ ys) (suc i) x z within is other (suc k, low, same) =
     let rest : Contains (remove ys i) z = contains-remove ys i x z (omega arith) is other (k, omega arith, same) in
     (suc rest.0, (let low = rest.1 in omega (arith, low)), rest.2)
-
-length-remove : (ys : List State) (i : ℕ) → i < length ys → length (remove ys i) + 1 ≡ length ys
-length-remove [] i within = absurd (omega arith)
-length-remove (y ∷ ys) zero within = omega arith
-length-remove (y ∷ ys) (suc i) within = let rest = length-remove ys i (omega arith) in omega (arith, rest)
 
 length-le_among : (xs ys : List State) → AllPairs (λ s t. s ≢ t) xs → All (Contains ys) xs → length xs ≤ length ys
 length-le_among [] ys differ among = omega arith

@@ -1,5 +1,5 @@
 -- The open window of a history that is summed up: it is narrow.
-use Rattle.tmw_monitor.proofs.Shared.{Answer, Ask, Begin, Criterion, End, Event, Follows, IsFinalBy, IsFine, IsTrue, List, Move, Opacity, Rules, StandsFor, State, Strict, SumsUp, Window, [], ap, append_assoc, arith, begun_by, cases_lt, drop, inl, inr, is_well_formed, length, refl, subst, sym, take, take-append-drop, take_all, transactions, ℕ, ◌++◌, ◌+◌, ◌<◌, ◌∙◌, ◌∷◌, ◌≡◌, ◌≤◌}
+use Rattle.tmw_monitor.proofs.Shared.{Begin, Criterion, Event, Follows, IsFinalBy, IsFine, IsTrue, List, Move, Opacity, Rules, StandsFor, State, Strict, SumsUp, Window, [], ap, append_assoc, arith, begun_by, cases_lt, drop, inl, inr, is_well_formed, length, refl, subst, sym, take, take-append-drop, take_all, transactions, ℕ, ◌++◌, ◌+◌, ◌<◌, ◌∙◌, ◌∷◌, ◌≡◌, ◌≤◌}
 use Rattle.tmw_cuts.proofs.Following.{follows-cut, formed-append}
 
 formed-final : (criterion : Criterion) (registers : ℕ) (start : State) (h : List Event) → IsFinalBy criterion registers start h
@@ -62,7 +62,4 @@ pub narrow-push : (rules : Rules) (S : State → Type 0) (c : ℕ) (h : List Eve
     → length (transactions (drop c h ++ e ∷ [])) ≡ length (transactions (drop c h)) + begun_by move
     → (move ≡ Begin → length (transactions (drop c h)) < rules.window)
     → length (transactions (drop c h ++ e ∷ [])) ≤ rules.window
-narrow-push rules S c h e Begin sums more room = let free = room refl in omega (arith, more, free)
-narrow-push rules S c h e (Ask p) sums more room = let narrow = narrow_open rules S c h sums in omega (arith, more, narrow)
-narrow-push rules S c h e (Answer p op) sums more room = let narrow = narrow_open rules S c h sums in omega (arith, more, narrow)
-narrow-push rules S c h e (End p) sums more room = let narrow = narrow_open rules S c h sums in omega (arith, more, narrow)
+narrow-push rules S c h e move sums more room = let narrow = narrow_open rules S c h sums in grind arith

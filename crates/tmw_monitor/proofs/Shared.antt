@@ -33,7 +33,7 @@ pub use Rattle.tmw_search.specs.Ended.{EndsOf, HasMoreThan}
 pub use Rattle.tmw_wellformed.specs.Faults.{Refuses, asks}
 pub use Rattle.tmw_witness.specs.Witnessing.{ExplainsWith, Witnesses, committed_of, rank_of, state_of}
 pub use Rattle.tmw_witness.specs.declared.witness.Witness.{Witness}
-pub use Rattle.tmw_monitor.specs.AtOnce.{Continues, StaysKept}
+pub use Rattle.tmw_monitor.specs.AtOnce.{StaysKept}
 pub use Rattle.tmw_monitor.specs.Breaking.{IsBrokenAt, TellsBroken, TellsFollowed}
 pub use Rattle.tmw_monitor.specs.Fitting.{Fits, Keeps, KeepsNothing, TellsWrong, rules_for}
 pub use Rattle.tmw_monitor.specs.Weighing.{Closes, StaysOpen, Tells, wrong_of}

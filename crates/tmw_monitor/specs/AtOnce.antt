@@ -1,12 +1,8 @@
 -- What is kept of a history where its next event is taken at once.
-use Rattle.std.specs.Prelude.{◌≡◌, ◌⊎◌, List, [], ◌∷◌, ◌++◌, None}
+use Rattle.std.specs.Prelude.{◌≡◌, List, [], ◌∷◌, ◌++◌, None}
 use Rattle.tmw_events.specs.declared.event.Event.{Event}
-use Rattle.tmw_events.specs.declared.ix.Ix.{Ix}
 use Rattle.tmw_defs.specs.declared.criterion.Criterion.{Criterion}
-use Rattle.tmw_defs.specs.declared.op.Op.{Op}
 use Rattle.tmw_defs.specs.Verdict.{Rules}
-use Rattle.tmw_cuts.specs.declared.turn.Move.{Move}
-use Rattle.tmw_cuts.specs.declared.turn.Move.TheVariants.{Answer, Ask}
 use Rattle.tmw_monitor.specs.declared.bounds.Bounds.{Bounds}
 use Rattle.tmw_monitor.specs.declared.open.Open.{Open}
 use Rattle.tmw_monitor.specs.Fitting.{Keeps, TellsWrong}
@@ -16,10 +12,6 @@ use Rattle.tmw_monitor.specs.Fitting.{Keeps, TellsWrong}
 abbrev pub StaysFine : Criterion → Bounds → Event → Open → Open → Type 0
 StaysFine criterion bounds event old new = (rules : Rules) (history : List Event) → criterion ≡ rules.criterion → bounds.window ≡ rules.window
     → bounds.states ≡ rules.states → Keeps rules history old → TellsWrong rules (history ++ event ∷ []) new None
-
--- It goes on with an open transaction and does not end it.
-abbrev pub Continues : Move → Type 0
-Continues move = ((p : Ix) × (move ≡ Ask p)) ⊎ ((p : Ix) × (op : Op) × (move ≡ Answer p op))
 
 -- Whatever history the one is kept of, the other is too.
 abbrev pub StaysKept : Open → Open → Type 0

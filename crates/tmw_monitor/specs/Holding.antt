@@ -6,11 +6,12 @@ use Rattle.std.specs.List.Sorted.{IsStrictlySortedBy}
 use Rattle.std.specs.Ordering.{nat_cmp}
 use Rattle.tmw_events.specs.declared.event.Event.{Event}
 use Rattle.tmw_defs.specs.Criteria.{outcomes_by}
+use Rattle.tmw_defs.specs.History as told
 use Rattle.tmw_defs.specs.Opaque.{State}
 use Rattle.tmw_defs.specs.Summary.{IsLastCut}
 use Rattle.tmw_defs.specs.Verdict.{Rules}
 use Rattle.tmw_cuts.specs.Members.{members}
-use Rattle.tmw_cuts.specs.Standing.{descriptors_of, turn_at, views, views_of}
+use Rattle.tmw_cuts.specs.Standing.{turn_at, views, views_of}
 use Rattle.tmw_cuts.specs.Turns.{find_open, found_in}
 use Rattle.tmw_monitor.specs.declared.monitor.Monitor.{Monitor}
 use Rattle.tmw_monitor.specs.declared.open.Open.{Open}
@@ -26,7 +27,7 @@ pub record HoldsOpen (rules : Rules) (history : List Event) (kept : Open) : Type
   pub states : (s : State) → Contains (members kept.states) s ↔ outcomes_by rules.criterion rules.start (take cut history) s
   pub few : length (members kept.states) ≤ rules.states
   pub transactions : views kept.window ≡ views_of (drop cut history)
-  pub turns : (thread : ℕ) → thread < 8 → found_in (turn_at kept.window thread) ≡ find_open thread (descriptors_of (drop cut history))
+  pub turns : (thread : ℕ) → thread < 8 → found_in (turn_at kept.window thread) ≡ find_open thread (told.transactions (drop cut history))
 
 -- The states and the window of the monitor are those of the open window alone; after a final verdict there is no state and no transaction.
 -- That it keeps no event is seen in the fields of its types.

@@ -1,64 +1,53 @@
 //! The way that most events take: few steps, no search and no memory.
 ghost use Rattle.std.specs.Prelude.{◌≡◌, IsTrue, IsFalse};
 ghost use Rattle.tmw_defs.specs.declared.criterion.Criterion.{Criterion};
+ghost use Rattle.tmw_events.specs.declared.event.Kind.TheVariants.{V};
+ghost use Rattle.tmw_defs.specs.declared.op.Op.TheVariants.{Add};
 ghost use Rattle.tmw_cuts.specs.Standing.{IsNext};
-ghost use Rattle.tmw_cuts.specs.declared.turn.Move.TheVariants.{Begin, End};
+ghost use Rattle.tmw_cuts.specs.declared.turn.Move.TheVariants.{Answer, Begin, End};
 ghost use Rattle.tmw_monitor.specs.declared.bounds.Bounds.{Bounds};
-ghost use Rattle.tmw_monitor.specs.AtOnce.{Continues, StaysFine, StaysKept};
+ghost use Rattle.tmw_monitor.specs.AtOnce.{StaysFine, StaysKept};
 
 use crate::bounds::Bounds;
 use crate::open::Open;
-use crate::quiet::is_quiet;
 use tmw_cuts::Move;
-use tmw_defs::Criterion;
-use tmw_events::{Event, Ix};
+use tmw_defs::Op;
+use tmw_events::{Event, Ix, Kind};
 
-/// Takes the next event if no search is needed to see that nothing is wrong with it by this criterion. Else it returns
-/// `false`, and what is kept is of the history without it. It is inlined into its callers, which mostly know the kind of
-/// their event.
+/// Takes the next event if it begins a transaction for which the window has room, or if the serial order that is kept explains it: by no
+/// criterion is anything wrong with it then. At a cut it has to end the only transaction, from the only outcome before. Else it returns
+/// `false`, and what is kept is of the history without it. It is inlined into its callers, which mostly know the kind of their event.
 #[inline(always)]
-pub fn take_at_once(kept: &mut Open, bounds: Bounds, criterion: Criterion, event: Event) -> bool
-    ensures taken { IsTrue result → StaysFine criterion bounds event kept.old kept.new }
+pub fn take_at_once(kept: &mut Open, bounds: &Bounds, event: Event) -> bool
+    ensures taken { IsTrue result → (criterion : Criterion)
+        → StaysFine criterion bounds.now event kept.old kept.new }
     ensures left { IsFalse result → StaysKept kept.old kept.new }
 {
     match kept.window.next(event) {
         Ok(Move::Begin) => begin_at_once(kept, bounds, event),
         Ok(Move::Ask(place)) => {
-            if kept.witness.explains_ask(&kept.window, event, place) {
-                kept.window.ask(event, place);
-                true
-            } else {
-                // A copy that only this way needs, so that the event mostly stays in registers of the processor.
-                let copied = Event {
-                    thread: event.thread,
-                    kind: event.kind,
-                };
-                go_on_quietly(kept, criterion, copied, Move::Ask(place))
+            if !kept.witness.explains_ask(&kept.window, event, place) {
+                return false;
             }
+            kept.window.ask(event, place);
+            true
         }
-        Ok(Move::Answer(place, op)) => {
-            if kept.witness.explains_answer(&kept.window, event, place, op) {
-                kept.window.answer(event, place, op);
-                true
-            } else {
-                let copied = Event {
-                    thread: event.thread,
-                    kind: event.kind,
-                };
-                go_on_quietly(kept, criterion, copied, Move::Answer(place, op))
-            }
+        // Adds are rare: the steps of reads and writes have nothing of them.
+        Ok(Move::Answer(place, Op::Add(register, added, answer))) => {
+            add_at_once(kept, event.thread, place, register, added, answer)
         }
+        Ok(Move::Answer(place, op)) => answer_at_once(kept, event, place, op),
         Ok(Move::End(place)) => end_at_once(kept, event, place),
         Err(_) => false,
     }
 }
 
-/// Takes at once an event that begins a transaction, for which the window has room.
+/// Takes at once an event that begins a transaction, if the window has room.
 #[inline(always)]
-fn begin_at_once(kept: &mut Open, bounds: Bounds, event: Event) -> bool
+fn begin_at_once(kept: &mut Open, bounds: &Bounds, event: Event) -> bool
     requires next { IsNext kept.old.window event Begin }
     ensures taken { IsTrue result → (criterion : Criterion)
-        → StaysFine criterion bounds event kept.old kept.new }
+        → StaysFine criterion bounds.now event kept.old kept.new }
     ensures left { IsFalse result → kept.new ≡ kept.old }
 {
     let count = kept.window.count();
@@ -70,22 +59,43 @@ fn begin_at_once(kept: &mut Open, bounds: Bounds, event: Event) -> bool
     true
 }
 
-/// Takes at once an event of an open transaction that does not end it, if it is quiet. It is asked if the order, as it stands, does not
-/// explain the event.
-#[inline(never)]
-fn go_on_quietly(kept: &mut Open, criterion: Criterion, event: Event, step: Move) -> bool
-    requires next { IsNext kept.old.window event step }
-    requires goes_on { Continues step }
-    ensures taken { IsTrue result → (bounds : Bounds)
+/// Takes at once an answer, which makes this operation, if the serial order that is kept explains it.
+#[inline(always)]
+fn answer_at_once(kept: &mut Open, event: Event, place: Ix, op: Op) -> bool
+    requires next { IsNext kept.old.window event (Answer place op) }
+    ensures taken { IsTrue result → (criterion : Criterion) (bounds : Bounds)
         → StaysFine criterion bounds event kept.old kept.new }
     ensures left { IsFalse result → kept.new ≡ kept.old }
 {
-    if !is_quiet(criterion, event.kind) {
+    if !kept.witness.explains_answer(&kept.window, event, place, op) {
         return false;
     }
-    kept.window.take(event, step);
-    kept.witness.follow(&kept.window, event, step);
+    kept.window.answer(event, place, op);
     true
+}
+
+/// Takes at once the thread's answer to an add, if the serial order that is kept explains it. It is called with the event's parts, since
+/// the event is no value in memory.
+#[inline(never)]
+fn add_at_once(
+    kept: &mut Open,
+    thread: Ix,
+    place: Ix,
+    register: Ix,
+    added: u64,
+    answer: u64,
+) -> bool
+    requires next { IsNext kept.old.window (record { thread = thread; kind = V answer })
+        (Answer place (Add register added answer)) }
+    ensures taken { IsTrue result → (criterion : Criterion) (bounds : Bounds)
+        → StaysFine criterion bounds (record { thread = thread; kind = V answer }) kept.old kept.new }
+    ensures left { IsFalse result → kept.new ≡ kept.old }
+{
+    let event = Event {
+        thread,
+        kind: Kind::V(answer),
+    };
+    answer_at_once(kept, event, place, Op::Add(register, added, answer))
 }
 
 /// Takes at once an event that ends a transaction, if the serial order that is kept explains it. Where it ends the only one, from the
@@ -105,11 +115,15 @@ fn end_at_once(kept: &mut Open, event: Event, place: Ix) -> bool
         kept.window.end(event, place);
         return true;
     }
-    if kept.window.count() != 1 || kept.states.len() != 1 || kept.witness.top >= 9 {
+    if kept.window.count() != 1 || kept.states.len() != 1 {
         return false;
     }
-    let end = kept.witness.restart_at_end();
+    let Some(end) = kept.witness.known_end() else {
+        return false;
+    };
     kept.states.put_only(end);
+    kept.witness.restart_at_end();
+    kept.window.end(event, place);
     kept.window.clear();
     true
 }

@@ -112,19 +112,31 @@ impl Monitor {
         ensures keeps_err { OnErr result (HoldsStill self.old self.new) }
     {
         // Only what is judged by a criterion has its verdict.
-        if is_any_so_far(self.verdict)
-            && take_at_once(&mut self.kept, self.bounds, self.criterion, event)
-        {
+        if is_any_so_far(self.verdict) && take_at_once(&mut self.kept, &self.bounds, event) {
             self.count += 1;
             return Ok(self.verdict);
         }
-        // A copy that only this way needs, so that the event mostly stays in registers of the processor.
+        self.take_copy(event)?;
+        Ok(self.verdict)
+    }
+
+    /// Takes the next event, whatever it needs: the call gets a copy, so that the event mostly stays in registers of the processor.
+    #[inline(always)]
+    fn take_copy(&mut self, event: Event) -> Result<(), AllocError>
+        requires room { fed_of self.old < 2 ^ 40 }
+        ensures ok { OnOk result (FeedsOne event self.old self.new) }
+        ensures err { OnErr result (StaysFit self.old self.new) }
+        ensures stays { (IsOpen self.old → ⊥)
+            → IsOk result × (verdict_of self.new ≡ verdict_of self.old) }
+        ensures criterion { criterion_of self.new ≡ criterion_of self.old }
+        ensures keeps { OnOk result (HoldsWith event self.old self.new) }
+        ensures keeps_err { OnErr result (HoldsStill self.old self.new) }
+    {
         let copied = Event {
             thread: event.thread,
             kind: event.kind,
         };
-        self.take(copied)?;
-        Ok(self.verdict)
+        self.take(copied)
     }
 
     /// Takes the next event, whatever it needs. The verdict is then in the monitor.

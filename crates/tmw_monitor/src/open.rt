@@ -29,6 +29,6 @@ impl Open {
             → Follows registers history self.old.window → Follows registers history self.new.window }
     {
         self.states = States::empty(alloc);
-        self.window.forget();
+        self.window.clear();
     }
 }

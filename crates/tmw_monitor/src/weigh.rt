@@ -52,7 +52,7 @@ pub fn close(
     ensures window { OnErr result (kept.new.window ≡ kept.old.window) }
 {
     // An outcome that is known is mostly the only one, and then nothing is searched.
-    let known = kept.witness.known_end();
+    let known = kept.witness.known_end().copied();
     if !replace_by_outcomes(criterion, alloc, &mut kept.states, &kept.window, cap, known)? {
         return Ok(Weighed::TooMany);
     }

@@ -1,59 +1,39 @@
 -- An event joins the first of its thread's transactions that has not ended, or begins one, as the code finds it.
-use Rattle.tmw_part.proofs.Shared.{Event, List, None, Some, [], add_event, ap, arith, cases_Bool, false, get_or, inl, inr, length, ltb-false, nat_lt, position, position_or_len, refl, slice_set, suc, sym, true, txn_of, txns_of, zero, ℕ, ◌++◌, ◌<◌, ◌∙◌, ◌∷◌, ◌≡◌, ◌≤◌}
+use Rattle.tmw_part.proofs.Shared.{Event, List, None, Some, Txn, [], add_event, add_event_here, add_event_past, ap, arith, begun, cases_Bool, false, get_or, inl, inr, joins, length, longer, ltb-false, nat_lt, position, position_or_len, refl, slice_set, suc, sym, true, zero, ℕ, ◌++◌, ◌<◌, ◌∙◌, ◌∷◌, ◌≡◌, ◌≤◌}
 use Rattle.std.proofs.lemmas.List.Sums.{fails_before_first}
 use Rattle.std.proofs.lemmas.List.Quantifiers.{position-Some}
-use Rattle.tmw_part.specs.declared.transaction.Transaction.{Transaction}
-use Rattle.tmw_part.specs.Shown.{joins}
-
-add_event_here : (place : ℕ) (e : Event) (t : Transaction) (ts : List Transaction) → joins e.thread.number t ≡ true
-    → add_event place e (txns_of (t ∷ ts)) ≡ record (txn_of t) { last = place; text = t.text.items ++ e.kind ∷ [] } ∷ txns_of ts
-add_event_here place e t ts here = rw here refl
-
-add_event_past : (place : ℕ) (e : Event) (t : Transaction) (ts : List Transaction) → joins e.thread.number t ≡ false
-    → add_event place e (txns_of (t ∷ ts)) ≡ txn_of t ∷ add_event place e (txns_of ts)
-add_event_past place e t ts past = rw past refl
 
 -- the first that the event joins is at this place
-add_event-at : (place : ℕ) (e : Event) (ts : List Transaction) (i : ℕ) (d new : Transaction) → i < length ts
-    → joins e.thread.number (get_or ts i d) ≡ true
-    → ((k : ℕ) → k < i → joins e.thread.number (get_or ts k d) ≡ false)
-    → txn_of new ≡ record (txn_of (get_or ts i d)) { last = place; text = (get_or ts i d).text.items ++ e.kind ∷ [] }
-    → txns_of (slice_set ts i new) ≡ add_event place e (txns_of ts)
-add_event-at place e [] i d new within here before is = absurd (omega arith)
-add_event-at place e (t ∷ ts) zero d new within here before is = ap (λ u. u ∷ txns_of ts) is ∙ sym (add_event_here place e t ts here)
-add_event-at place e (t ∷ ts) (suc i) d new within here before is =
-    ap (λ us. txn_of t ∷ us) (add_event-at place e ts i d new (omega arith) here (λ k h. before (suc k) (omega arith)) is)
+add_event-at : (place : ℕ) (e : Event) (ts : List Txn) (i : ℕ) (d : Txn) → i < length ts → joins e (get_or ts i d) ≡ true
+    → ((k : ℕ) → k < i → joins e (get_or ts k d) ≡ false) → slice_set ts i (longer place e (get_or ts i d)) ≡ add_event place e ts
+add_event-at place e [] i d within here before = absurd (omega arith)
+add_event-at place e (t ∷ ts) zero d within here before = sym (add_event_here place e t ts here)
+add_event-at place e (t ∷ ts) (suc i) d within here before =
+    ap (λ us. t ∷ us) (add_event-at place e ts i d (omega arith) here (λ k h. before (suc k) (omega arith)))
     ∙ sym (add_event_past place e t ts (before 0 (omega arith)))
 
 -- the event joins none of them
-add_event-none : (place : ℕ) (e : Event) (ts : List Transaction) (new : Transaction)
-    → ((k : ℕ) (d : Transaction) → k < length ts → joins e.thread.number (get_or ts k d) ≡ false)
-    → txn_of new ≡ record { thread = e.thread.number; first = place; last = place; text = e.kind ∷ [] }
-    → txns_of (ts ++ new ∷ []) ≡ add_event place e (txns_of ts)
-add_event-none place e [] new none_joined is = ap (λ u. u ∷ []) is
-add_event-none place e (t ∷ ts) new none_joined is =
-    ap (λ us. txn_of t ∷ us) (add_event-none place e ts new (λ k d h. none_joined (suc k) d (omega arith)) is)
+add_event-none : (place : ℕ) (e : Event) (ts : List Txn)
+    → ((k : ℕ) (d : Txn) → k < length ts → joins e (get_or ts k d) ≡ false) → ts ++ begun place e ∷ [] ≡ add_event place e ts
+add_event-none place e [] none_joined = refl
+add_event-none place e (t ∷ ts) none_joined =
+    ap (λ us. t ∷ us) (add_event-none place e ts (λ k d h. none_joined (suc k) d (omega arith)))
     ∙ sym (add_event_past place e t ts (none_joined 0 t (omega arith)))
 
-pub add_event-position : (place : ℕ) (e : Event) (ts : List Transaction) (i : ℕ) (old new : Transaction)
-    → Some i ≡ position (joins e.thread.number) ts
-    → old ≡ get_or ts i old
-    → txn_of new ≡ record (txn_of old) { last = place; text = old.text.items ++ e.kind ∷ [] }
-    → txns_of (slice_set ts i new) ≡ add_event place e (txns_of ts)
-add_event-position place e ts i old new found at is =
-    let (within, here, before) = position-Some (joins e.thread.number) ts i old (sym found) in
-    add_event-at place e ts i old new within here before (rw (← at) is)
+pub add_event-position : (place : ℕ) (e : Event) (ts : List Txn) (i : ℕ) (old : Txn) → Some i ≡ position (joins e) ts
+    → old ≡ get_or ts i old → slice_set ts i (longer place e old) ≡ add_event place e ts
+add_event-position place e ts i old found at =
+    let (within, here, before) = position-Some (joins e) ts i old (sym found) in
+    ap (λ t. slice_set ts i (longer place e t)) at ∙ add_event-at place e ts i old within here before
 
-pub add_event-nowhere : (place : ℕ) (e : Event) (ts : List Transaction) (new : Transaction)
-    → None ≡ position (joins e.thread.number) ts
-    → txn_of new ≡ record { thread = e.thread.number; first = place; last = place; text = e.kind ∷ [] }
-    → txns_of (ts ++ new ∷ []) ≡ add_event place e (txns_of ts)
-add_event-nowhere place e ts new nowhere is =
-    let at_end : nat_lt (position_or_len (joins e.thread.number) ts) (length ts) ≡ false =
-    elim (cases_Bool (nat_lt (position_or_len (joins e.thread.number) ts) (length ts))) [
-      | inl below ↦ let found : None ≡ Some (position_or_len (joins e.thread.number) ts) = nowhere ∙ rw below refl in (cc)
+pub add_event-nowhere : (place : ℕ) (e : Event) (ts : List Txn) → None ≡ position (joins e) ts
+    → ts ++ begun place e ∷ [] ≡ add_event place e ts
+add_event-nowhere place e ts nowhere =
+    let at_end : nat_lt (position_or_len (joins e) ts) (length ts) ≡ false =
+    elim (cases_Bool (nat_lt (position_or_len (joins e) ts) (length ts))) [
+      | inl below ↦ let found : None ≡ Some (position_or_len (joins e) ts) = nowhere ∙ rw below refl in (cc)
       | inr past ↦ past
     ]
     in
-    let past : length ts ≤ position_or_len (joins e.thread.number) ts = ltb-false _ _ at_end in
-    add_event-none place e ts new (λ k d h. fails_before_first (joins e.thread.number) ts k d (omega arith)) is
+    let past : length ts ≤ position_or_len (joins e) ts = ltb-false _ _ at_end in
+    add_event-none place e ts (λ k d h. fails_before_first (joins e) ts k d (omega arith))

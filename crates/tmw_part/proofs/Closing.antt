@@ -1,5 +1,6 @@
 -- A step that follows from others can be put behind them.
-use Rattle.tmw_part.proofs.Shared.{Criterion, Derives, IsTrue, List, Some, State, Step, Txn, [], ap, arith, follows, inl, inr, length, refl, slice_get, suc, take, take-append-le, zero, ℕ, ◌++◌, ◌<◌, ◌∷◌, ◌≡◌, ◌⊎◌}
+use Rattle.tmw_part.proofs.Shared.{Criterion, Derives, IsTrue, List, Some, State, Step, Txn, [], ap, arith, follows, inl, inr, length, refl, slice_get, suc, take-append-le, zero, ℕ, ◌++◌, ◌<◌, ◌∷◌, ◌≡◌, ◌⊎◌}
+use Rattle.std.proofs.Math.Seq.{take-append_seam}
 
 -- a place of a list with one more
 last_or : {A : Type 0} (xs : List A) (x y : A) (i : ℕ) → slice_get (xs ++ x ∷ []) i ≡ Some y
@@ -13,16 +14,11 @@ last_or (z ∷ xs) x y (suc i) at =
       | inr last ↦ inr (ap (λ n. suc n) last.0, last.1)
     ]
 
-take_front : {A : Type 0} (xs ys : List A) → take (length xs) (xs ++ ys) ≡ xs
-take_front [] [] = refl
-take_front [] (y ∷ ys) = refl
-take_front (x ∷ xs) ys = ap (λ zs. x ∷ zs) (take_front xs ys)
-
 -- a step that follows can be added
 pub derives-push : (criterion : Criterion) (states : List State) (ts : List Txn) (steps : List Step) (x : Step)
     → Derives criterion states ts steps → IsTrue (follows criterion states ts steps x) → Derives criterion states ts (steps ++ x ∷ [])
 derives-push criterion states ts steps x derives new = λ i y at.
     elim (last_or steps x y i at) [
       | inl within ↦ rw (take-append-le i steps (x ∷ []) (omega (arith, within.0))) (derives i y within.1)
-      | inr last ↦ rw (last.0, take_front steps (x ∷ []), ← last.1) new
+      | inr last ↦ rw (last.0, take-append_seam steps (x ∷ []), ← last.1) new
     ]

@@ -1,19 +1,23 @@
 -- What is kept of a window: all of it at first, and less without a piece.
-use Rattle.tmw_part.proofs.Shared.{Bool, Event, List, Piece, [], all_kept, ap, arith, cases_Bool, false, inl, inr, is_of_any, kept_of, length, refl, suc, sym, true, without, without_from, ℕ, ◌+◌, ◌<◌, ◌∙◌, ◌∷◌, ◌≡◌, ◌⊎◌}
+use Rattle.tmw_part.specs.Kept.{without}
+use Rattle.tmw_part.proofs.Shared.{Bool, Event, List, Piece, [], all_kept, ap, arith, cases_Bool, false, inl, inr, is_of_any, kept_of, length, not, refl, sym, true, without_from, ◌&&◌, ℕ, ◌+◌, ◌<◌, ◌∙◌, ◌∷◌, ◌≡◌, ◌⊎◌}
 use Rattle.std.specs.Cmp.Lexicographic.{pointwise}
 use Rattle.std.proofs.Math.Bool.{beq}
 use Rattle.std.specs.Prelude.{Decides}
-use Rattle.std.proofs.lemmas.List.{length-replicate}
+use Rattle.std.proofs.lemmas.List.{length-map, length-replicate}
+use Rattle.std.proofs.lemmas.List.FromFn.{length-enumerate_from}
+use Rattle.std.proofs.lemmas.Slice.Zip.{length-zip}
+use Rattle.std.specs.List.{enumerate_from, zip}
 use Rattle.std.proofs.lemmas.Slice.Eq.{slice_eq-Decides}
 
-pub length-without : (pieces : List Piece) (place : ℕ) (marks : List Bool) (events : List Event) → length marks ≡ length events
-    → length (without_from pieces place marks events) ≡ length events
-length-without piecess place [] [] each = refl
-length-without piecess place [] (e ∷ events) each = absurd (omega (arith, each))
-length-without piecess place (mark ∷ marks) [] each = absurd (omega (arith, each))
-length-without piecess place (mark ∷ marks) (e ∷ events) each = ap (λ n. suc n) (length-without piecess (place + 1) marks events (omega (arith, each)))
+pub length-without : (pieces : List Piece) (marks : List Bool) (window : List Event) → length marks ≡ length window
+    → length (without pieces marks window) ≡ length window
+unfolding without
+length-without pieces marks window each =
+    let every = length-map (enumerate_from 0 (zip marks window)) (λ pair. pair.1.0 && not (is_of_any pieces pair.0 pair.1.1)) in
+    omega (arith, every, length-enumerate_from 0 (zip marks window), length-zip marks window, each)
 
-pub without-fewer : (pieces : List Piece) (place : ℕ) (marks : List Bool) (events : List Event) → length marks ≡ length events
+without-fewer : (pieces : List Piece) (place : ℕ) (marks : List Bool) (events : List Event) → length marks ≡ length events
     → (without_from pieces place marks events ≡ marks)
     ⊎ (length (kept_of (without_from pieces place marks events) events) < length (kept_of marks events))
 without-fewer pieces place [] [] each = inl refl
@@ -57,6 +61,7 @@ same-marks xs ys = slice_eq-Decides same-mark xs ys _ refl
 -- where the piece takes something out, fewer events are kept
 pub fewer-kept : (pieces : List Piece) (marks left : List Bool) (events : List Event) → length marks ≡ length events
     → left ≡ without pieces marks events → pointwise beq left marks ≡ false → length (kept_of left events) < length (kept_of marks events)
+unfolding without
 fewer-kept pieces marks left events each is other =
     elim (without-fewer pieces 0 marks events each) [
       | inl same ↦

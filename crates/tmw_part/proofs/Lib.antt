@@ -4,7 +4,6 @@ mod EventsProof
 pub mod Fewer
 mod Growing
 mod ListFacts
-mod Marking
 mod OrderFacts
 mod OrderValues
 mod Parts

@@ -1,5 +1,5 @@
 -- Members and places of lists.
-use Rattle.tmw_part.proofs.Shared.{AllByRecursion, Bool, IsTrue, List, Some, [], and_from, and_parts, arith, inl, inr, length, list_all, list_any, or_cases, range_with_len, refl, slice_get, suc, take, zero, ℕ, ◌+◌, ◌<◌, ◌∷◌, ◌≡◌}
+use Rattle.tmw_part.proofs.Shared.{AllByRecursion, Bool, IsTrue, List, Some, [], and_parts, arith, inl, inr, length, list_all, list_any, or_cases, range_with_len, refl, slice_get, suc, take, zero, ℕ, ◌+◌, ◌<◌, ◌∷◌, ◌≡◌}
 
 -- one that passes the test, of those of which each has P
 pub record Found {A : Type 0} (P : A → Type 0) (test : A → Bool) : Type 0 where
@@ -48,8 +48,3 @@ pub get_some : {A : Type 0} (xs : List A) (n : ℕ) → n < length xs → (x : A
 get_some [] n low = absurd (omega (arith, low))
 get_some (x ∷ xs) zero low = (x, refl)
 get_some (x ∷ xs) (suc n) low = get_some xs n (omega (arith, low))
-
--- where each that passes one test passes another, so does a list
-pub all-mono : {A : Type 0} (p q : A → Bool) (xs : List A) → ((x : A) → IsTrue (p x) → IsTrue (q x)) → IsTrue (list_all p xs) → IsTrue (list_all q xs)
-all-mono p q [] to all = refl
-all-mono p q (x ∷ xs) to all = let (here, rest) = and_parts (p x) _ all in and_from (q x) _ (to x here) (all-mono p q xs to rest)

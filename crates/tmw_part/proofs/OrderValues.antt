@@ -1,5 +1,5 @@
 -- What the registers hold along a serial order: what the last that is held and changes them left, or what the start has.
-use Rattle.tmw_part.proofs.Shared.{Add, Changes, IsTrue, IsUnchanged, List, None, Op, Option, Placed, Read, Some, State, Write, [], after, after_writes, and_parts, ap, arith, cases_Bool, end_state, eq-eqb, eqb-false, eqb-true, false, first_unlike, get_or-set_other, get_or-set_same, if◌then◌else◌, inl, inr, is_legal, is_some_of, left_by, length, length-set, needs, not, not-true, operations, or_cases, or_parts, reads_hold, refl, slice_get, slice_index, slice_set, suc, sym, take, unlike_or, writes, zero, ℕ, ◌%◌, ◌&&◌, ◌+◌, ◌<◌, ◌==◌, ◌^◌, ◌∙◌, ◌∷◌, ◌≡◌, ◌⊎◌}
+use Rattle.tmw_part.proofs.Shared.{Add, Changes, IsTrue, IsUnchanged, List, None, Op, Option, Placed, Read, Some, State, Write, [], after, after_writes, and_parts, ap, arith, cases_Bool, end_state, eq-eqb, eqb-false, eqb-true, false, first_unlike, get_or-set_other, get_or-set_same, if◌then◌else◌, inl, inr, is_legal, left_by, length, length-set, needs, not, not-true, operations, or_cases, or_parts, reads_hold, refl, slice_get, slice_index, slice_set, suc, sym, take, unlike_or, writes, zero, ℕ, ◌%◌, ◌&&◌, ◌+◌, ◌<◌, ◌==◌, ◌^◌, ◌||◌, ◌∙◌, ◌∷◌, ◌≡◌, ◌⊎◌}
 use Rattle.tmw_events.specs.declared.ix.Ix.{Ix}
 
 -- a register that is set, and another
@@ -26,49 +26,7 @@ length-after s p =
       | inr is ↦ rw is refl
     ]
 
--- what a write leaves in a register is what it holds then
-known-set : (s : State) (q : Ix) (r v : ℕ) (known : Option ℕ) → length s ≡ 8 → known ≡ Some (slice_index s r)
-    → (if q.number == r then Some v else known) ≡ Some (slice_index (slice_set s q.number v) r)
-known-set s q r v known long is =
-    elim (cases_Bool (q.number == r)) [
-      | inl here ↦ rw here (ap (λ x. Some x) (sym (set_here s q r v long here)))
-      | inr other ↦ rw other (is ∙ ap (λ x. Some x) (sym (set_else s q r v other)))
-    ]
-
-left-known : (s : State) (r : ℕ) (ops : List Op) (known : Option ℕ) → length s ≡ 8 → known ≡ Some (slice_index s r)
-    → left_by r known ops ≡ Some (slice_index (after_writes s ops) r)
-left-known s r [] known long is = is
-left-known s r (Read q v ∷ ops) known long is = left-known s r ops known long is
-left-known s r (Write q v ∷ ops) known long is =
-    left-known (slice_set s q.number v) r ops _ (length-set s q.number v ∙ long) (known-set s q r v known long is)
-left-known s r (Add q d v ∷ ops) known long is =
-    let sum = (v + d) % 2 ^ 64 in
-    left-known (slice_set s q.number sum) r ops _ (length-set s q.number sum ∙ long) (known-set s q r sum known long is)
-
--- operations that write a register leave there what it holds after them
-left-written : (s : State) (r : ℕ) (ops : List Op) (before : Option ℕ) → length s ≡ 8 → IsTrue (writes r ops)
-    → left_by r before ops ≡ Some (slice_index (after_writes s ops) r)
-left-written s r [] before long w = absurd (cc)
-left-written s r (Read q v ∷ ops) before long w = left-written s r ops before long w
-left-written s r (Write q v ∷ ops) before long w =
-    elim (cases_Bool (q.number == r)) [
-      | inl here ↦
-          let held : Some v ≡ Some (slice_index (slice_set s q.number v) r) = ap (λ x. Some x) (sym (set_here s q r v long here)) in
-          rw here (left-known (slice_set s q.number v) r ops (Some v) (length-set s q.number v ∙ long) held)
-      | inr other ↦
-          rw other (left-written (slice_set s q.number v) r ops before (length-set s q.number v ∙ long) (rw other at w))
-    ]
-left-written s r (Add q d v ∷ ops) before long w =
-    let sum = (v + d) % 2 ^ 64 in
-    elim (cases_Bool (q.number == r)) [
-      | inl here ↦
-          let held : Some sum ≡ Some (slice_index (slice_set s q.number sum) r) = ap (λ x. Some x) (sym (set_here s q r sum long here)) in
-          rw here (left-known (slice_set s q.number sum) r ops (Some sum) (length-set s q.number sum ∙ long) held)
-      | inr other ↦
-          rw other (left-written (slice_set s q.number sum) r ops before (length-set s q.number sum ∙ long) (rw other at w))
-    ]
-
--- and those that don't leave it as it was
+-- operations that write no register leave it as it was
 unwritten : (s : State) (r : ℕ) (ops : List Op) → writes r ops ≡ false → slice_index (after_writes s ops) r ≡ slice_index s r
 unwritten s r [] not_so = refl
 unwritten s r (Read q v ∷ ops) not_so = unwritten s r ops not_so
@@ -77,6 +35,33 @@ unwritten s r (Write q v ∷ ops) not_so =
 unwritten s r (Add q d v ∷ ops) not_so =
     let (other, more) = or_parts (q.number == r) _ not_so in
     unwritten (slice_set s q.number ((v + d) % 2 ^ 64)) r ops more ∙ set_else s q r ((v + d) % 2 ^ 64) other
+
+-- what operations leave in a register that they write is what it holds after them
+left-set : (s : State) (q : Ix) (r v : ℕ) (ops : List Op) (before : Option ℕ) → length s ≡ 8
+    → ((b : Option ℕ) → left_by r b ops ≡ (if writes r ops then Some (slice_index (after_writes (slice_set s q.number v) ops) r) else b))
+    → left_by r (if q.number == r then Some v else before) ops
+    ≡ (if (q.number == r) || writes r ops then Some (slice_index (after_writes (slice_set s q.number v) ops) r) else before)
+left-set s q r v ops before long rest =
+    elim (cases_Bool (q.number == r)) [
+      | inr other ↦ rw other (rest before)
+      | inl here ↦ elim (cases_Bool (writes r ops)) [
+        | inl later ↦ rw here (rw later at (rest (Some v)))
+        | inr none ↦
+            let held : slice_index (after_writes (slice_set s q.number v) ops) r ≡ v =
+            unwritten (slice_set s q.number v) r ops none ∙ set_here s q r v long here in
+            rw here ((rw none at (rest (Some v))) ∙ ap (λ x. Some x) (sym held))
+      ]
+    ]
+
+left-after : (s : State) (r : ℕ) (ops : List Op) (before : Option ℕ) → length s ≡ 8
+    → left_by r before ops ≡ (if writes r ops then Some (slice_index (after_writes s ops) r) else before)
+left-after s r [] before long = refl
+left-after s r (Read q v ∷ ops) before long = left-after s r ops before long
+left-after s r (Write q v ∷ ops) before long =
+    left-set s q r v ops before long (λ b. left-after (slice_set s q.number v) r ops b (length-set s q.number v ∙ long))
+left-after s r (Add q d v ∷ ops) before long =
+    let sum = (v + d) % 2 ^ 64 in
+    left-set s q r sum ops before long (λ b. left-after (slice_set s q.number sum) r ops b (length-set s q.number sum ∙ long))
 
 -- an answer that the register holds
 found : (s : State) (q : Ix) (r w v : ℕ) → IsTrue (q.number == r) → IsTrue (w == v) → IsTrue (slice_index s q.number == w) → slice_index s r ≡ v
@@ -232,7 +217,7 @@ value_at s (x ∷ order) r (suc j) long =
       | inr none ↦ elim (cases_Bool x.held) [
         | inl held ↦ elim (cases_Bool (writes r (operations x.txn.text))) [
           | inl w ↦
-              let left = left-written s r (operations x.txn.text) None long w in
+              let left = rw w at (left-after s r (operations x.txn.text) None long) in
               let now : after s x ≡ after_writes s (operations x.txn.text) = rw held refl in
               inl (record {
                 place = zero;

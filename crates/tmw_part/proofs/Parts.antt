@@ -1,6 +1,7 @@
 -- The whole of a window is a part of it, and no part has more transactions than the whole.
-use Rattle.tmw_part.proofs.Shared.{AreOpsLeft, AreStaying, Bool, Each, IsLeftOf, IsPart, List, Op, Some, Txn, [], ap, arith, inl, inr, is_unread, length, operations, refl, remove, slice_get, suc, zero, ℕ, ◌<◌, ◌∷◌, ◌≡◌, ◌≤◌}
+use Rattle.tmw_part.proofs.Shared.{AreOpsLeft, AreStaying, Bool, Each, IsLeftOf, IsPart, List, Op, Txn, [], ap, arith, inl, inr, is_unread, length, operations, refl, remove, suc, ℕ, ◌∷◌, ◌≡◌, ◌≤◌}
 use Rattle.std.proofs.lemmas.List.Edits.{length-remove}
+use Rattle.std.proofs.lemmas.Option.{slice_get_within}
 
 each-long : {A B : Type 0} (Rel : A → B → Type 0) (xs : List A) (ys : List B) → Each Rel xs ys → length xs ≡ length ys
 each-long Rel [] [] each = refl
@@ -8,17 +9,12 @@ each-long Rel [] (y ∷ ys) each = absurd each
 each-long Rel (x ∷ xs) [] each = absurd each
 each-long Rel (x ∷ xs) (y ∷ ys) each = ap (λ n. suc n) (each-long Rel xs ys each.1)
 
-within-got : {A : Type 0} (xs : List A) (i : ℕ) (x : A) → slice_get xs i ≡ Some x → i < length xs
-within-got [] i x at = absurd (cc)
-within-got (y ∷ ys) zero x at = omega arith
-within-got (y ∷ ys) (suc i) x at = let rest = within-got ys i x at in omega (arith, rest)
-
 staying-fewer : (unread : ℕ → ℕ → Bool) (staying ts : List Txn) → AreStaying unread staying ts → length staying ≤ length ts
 staying-fewer unread staying [] none = rw none (omega arith)
 staying-fewer unread staying (t ∷ ts) (inl goes) = let rest = staying-fewer unread staying ts goes.1 in omega (arith, rest)
 staying-fewer unread staying (t ∷ ts) (inr stays) =
     let (i, at, more) = stays in
-    let one_less = length-remove staying i (within-got staying i t at) in
+    let one_less = length-remove staying i (slice_get_within staying i t at) in
     let rest = staying-fewer unread (remove staying i) ts more in
     omega (arith, one_less, rest)
 

@@ -1,18 +1,18 @@
 -- What the proofs of this crate take from the libraries, from the crates below and from its specs.
-pub use Rattle.std.proofs.Common.{All, Bool, Err, IfOk, IsTrue, List, None, Ok, Option, Result, Some, [], ap, arith, drop, false, get_or, inl, inr, length, map, not, refl, rules, subst, suc, sym, take, true, zero, ℕ, ◌%◌, ◌&&◌, ◌++◌, ◌+◌, ◌-◌, ◌<◌, ◌==◌, ◌^◌, ◌||◌, ◌∙◌, ◌∷◌, ◌≡◌, ◌≤◌, ◌⊎◌}
-pub use Rattle.std.proofs.lemmas.Bool.{and_from, and_parts, cases_Bool, cases_order, eq-eqb, eqb-false, eqb-true, lt-ltb, ltb-false, ltb-true, ne_eqb, not-true, or_cases, or_parts}
-pub use Rattle.std.proofs.lemmas.List.{append-nil, drop_all, get_or-set_other, get_or-set_same, length-map, length-set, take-append-drop, take-append-le, take_all, take_more}
+pub use Rattle.std.proofs.Common.{All, Bool, Err, IfOk, IsTrue, List, None, Ok, Option, Result, Some, [], ap, arith, drop, false, get_or, inl, inr, length, map, not, refl, rules, subst, suc, sym, take, true, zero, ℕ, ◌%◌, ◌&&◌, ◌++◌, ◌+◌, ◌<◌, ◌==◌, ◌^◌, ◌||◌, ◌∙◌, ◌∷◌, ◌≡◌, ◌≤◌, ◌⊎◌}
+pub use Rattle.std.proofs.lemmas.Bool.{and_from, and_parts, cases_Bool, cases_order, eq-eqb, eqb-false, eqb-true, ltb-false, ltb-true, ne_eqb, not-true, or_cases, or_parts}
+pub use Rattle.std.proofs.lemmas.List.{get_or-set_other, get_or-set_same, length-set, take-append-drop, take-append-le, take_all, take_more}
 pub use Rattle.std.proofs.lemmas.List.Elements.{All-contains, All-from_recursion, All-more}
 pub use Rattle.std.specs.List.{AllByRecursion, Contains, list_all, list_any, position_or_len, range_with_len}
-pub use Rattle.std.specs.Prelude.{IfSome, IsFalse, if◌then◌else◌, nat_lt, position, remove, slice_get, slice_index, slice_index_or, slice_set}
+pub use Rattle.std.specs.Prelude.{IfSome, IsFalse, if◌then◌else◌, nat_lt, position, remove, slice_get, slice_index, slice_set}
 pub use Rattle.tmw_cuts.specs.Members.{members}
 pub use Rattle.tmw_cuts.specs.Written.{left_by, writes}
-pub use Rattle.tmw_defs.proofs.OneMore.{add_event_here, add_event_past, begun, joins, length-add_event, length-transactions_push}
+pub use Rattle.tmw_defs.proofs.OneMore.{add_event_here, add_event_past, begun, joins, length-add_event, longer}
 pub use Rattle.tmw_defs.specs.Criteria.{ExplainsBy}
 pub use Rattle.tmw_defs.specs.History.{Txn, add_event, answers, ends, is_call, is_text, is_well_formed, operations, status_of, transactions, transactions_from}
 pub use Rattle.tmw_defs.specs.Opaque.{Placed, PlacesEach, State, after, after_writes, is_legal, keeps_order, may_be, may_hold, precedes, reads_hold}
 pub use Rattle.tmw_defs.specs.Outcomes.{end_state}
-pub use Rattle.tmw_defs.specs.Part.{AreOpsLeft, AreStaying, Each, IsLeftOf, IsPart, is_unread, may_go, may_go_whole}
+pub use Rattle.tmw_defs.specs.Part.{AreOpsLeft, AreStaying, Each, IsLeftOf, IsPart, is_answered, is_unread, may_go}
 pub use Rattle.tmw_defs.specs.declared.criterion.Criterion.{Criterion}
 pub use Rattle.tmw_defs.specs.declared.criterion.Criterion.TheVariants.{Opacity, Strict}
 pub use Rattle.tmw_defs.specs.declared.op.Op.{Op}
@@ -20,15 +20,15 @@ pub use Rattle.tmw_defs.specs.declared.op.Op.TheVariants.{Add, Read, Write}
 pub use Rattle.tmw_defs.specs.declared.status.Status.{Status}
 pub use Rattle.tmw_defs.specs.declared.status.Status.TheVariants.{Aborted, Committed, Live, Pending}
 pub use Rattle.tmw_events.specs.declared.event.Event.{Event}
-pub use Rattle.tmw_part.specs.Finding.{AreNeeded, Fails, IsNeeded, IsViolated, IsViolatedPart, TellsViolated}
-pub use Rattle.tmw_part.specs.Kept.{all_kept, are_whole, is_of_any, keeps_last, keeps_part, kept_of, lies_in, may_miss_all, number_or, owners, owners_among, places_from, without, without_from}
+pub use Rattle.tmw_part.specs.Finding.{Fails, IsNeededIn, IsPartIn, IsViolated, IsViolatedPart, TellsViolated}
+pub use Rattle.tmw_part.specs.Kept.{all_kept, is_of_any, keeps_last, kept_of, places_of, without_from}
+pub use Rattle.tmw_part.specs.Names.{owner_in}
 pub use Rattle.tmw_part.specs.Origins.{or_before, origin_from, origin_of}
-pub use Rattle.tmw_part.specs.Pieces.{calls_from, is_put_from, next_of, readers_from, whole_of}
-pub use Rattle.tmw_part.specs.Reasons.{Changes, ComesFrom, HoldsIn, IsNeededEach, IsReason, IsUnchanged, ReasonLaw, ReasonTells, StandsAt, StandsBefore, StandsBeforeWriter, begin_apart}
-pub use Rattle.tmw_part.specs.Shown.{answers_none, may_all_go, shown, txn_of, txns_of, unread_in}
-pub use Rattle.tmw_part.specs.Steps.{Derives, begins_before, comes_not_else, contradicts, ends_before, follows, from_else, gives, has_place, has_writer, is_asked, is_before, is_committed, is_excluded, is_held, is_known_rival, is_pair, is_rival, is_same_writer, is_some_of, may_come_from, needs, ops_at, orders, supplies, txn_at}
+pub use Rattle.tmw_part.specs.Pieces.{calls_from, is_put_from, readers_from}
+pub use Rattle.tmw_part.specs.Reasons.{Changes, ComesFrom, HoldsIn, IsNeededEachIn, IsReasonIn, IsUnchanged, ReasonLaw, ReasonTells, StandsAt, StandsBefore, StandsBeforeWriter, begin_apart}
+pub use Rattle.tmw_part.specs.Steps.{Derives, begins_before, comes_not_else, contradicts, ends_before, follows, from_else, gives, has_place, has_writer, is_asked, is_before, is_committed, is_excluded, is_held, is_known_rival, is_pair, is_rival, is_same_writer, is_some_of, may_come_from, needs, ops_at, orders, supplies}
 pub use Rattle.tmw_part.specs.Taking.{AreTaken, AreUnfit}
-pub use Rattle.tmw_part.specs.Test.{agree, are_below, are_left_of, are_ops_left, are_placed, are_same_rows, is_among, is_left_of, is_part_at, is_same, is_same_op, is_same_row, is_same_status, nothing, staying_of, without_number}
+pub use Rattle.tmw_part.specs.Test.{agree, are_ops_left, are_placed, are_whole, is_among, is_left_of, is_part_at, is_same, is_same_op, is_same_status, is_stay, keeps_part, may_miss_all, nothing, txn_at, without_number}
 pub use Rattle.tmw_part.specs.Unlike.{first_unlike, unlike_or}
 pub use Rattle.tmw_part.specs.declared.piece.Piece.{Piece}
 pub use Rattle.tmw_part.specs.declared.step.Step.{Step}

@@ -1,10 +1,11 @@
 -- Steps that follow from those before them hold in each serial order, and contradict each other in none.
-use Rattle.tmw_part.proofs.Shared.{Aborted, All, All-contains, All-from_recursion, AllByRecursion, Bool, Changes, ComesFrom, Committed, Contains, Criterion, Derives, ExplainsBy, HoldsIn, IsTrue, List, Live, None, Opacity, Option, Pending, Placed, ReasonLaw, Some, StandsAt, StandsBefore, StandsBeforeWriter, State, Status, Step, Strict, Txn, [], and_from, and_parts, ap, arith, begin_apart, begins_before, cases_Bool, cases_order, comes_not_else, contradicts, ends_before, eq-eqb, eqb-true, false, follows, from_else, gives, has_place, has_writer, inl, inr, is_asked, is_before, is_committed, is_excluded, is_held, is_known_rival, is_pair, is_rival, is_same_writer, is_some_of, left_by, length, list_all, list_any, ltb-true, may_come_from, may_hold, needs, not, not-true, operations, ops_at, or_cases, orders, range_with_len, refl, slice_get, slice_index, status_of, subst, suc, supplies, sym, take, take_all, true, txn_at, writes, zero, ℕ, ◌&&◌, ◌+◌, ◌<◌, ◌==◌, ◌||◌, ◌∙◌, ◌∷◌, ◌≡◌, ◌≤◌}
+use Rattle.tmw_part.proofs.Shared.{All, All-contains, All-from_recursion, AllByRecursion, Bool, Changes, ComesFrom, Committed, Contains, Criterion, Derives, ExplainsBy, HoldsIn, IsTrue, List, None, Opacity, Option, Placed, ReasonLaw, Some, StandsAt, StandsBefore, StandsBeforeWriter, State, Status, Step, Strict, Txn, [], and_from, and_parts, ap, arith, begin_apart, begins_before, cases_Bool, cases_order, comes_not_else, contradicts, ends_before, eq-eqb, eqb-true, false, follows, from_else, gives, has_place, has_writer, inl, inr, is_asked, is_before, is_committed, is_excluded, is_held, is_known_rival, is_pair, is_rival, is_same_writer, is_some_of, left_by, length, list_all, list_any, ltb-true, may_come_from, may_hold, needs, not, not-true, nothing, operations, ops_at, or_cases, orders, range_with_len, refl, slice_get, slice_index, status_of, subst, suc, supplies, sym, take, take_all, true, txn_at, writes, zero, ℕ, ◌&&◌, ◌+◌, ◌<◌, ◌==◌, ◌||◌, ◌∙◌, ◌∷◌, ◌≡◌, ◌≤◌}
 use Rattle.tmw_part.specs.declared.step.Step.TheVariants.{ChangedFirst, From, ReadFirst, RealTime, Through}
 use Rattle.tmw_part.specs.declared.step.Contradiction.{Contradiction}
 use Rattle.tmw_part.specs.declared.step.Contradiction.TheVariants.{Cycle, NoSource, Unlike}
 use Rattle.tmw_part.specs.declared.step.Source.{Source}
 use Rattle.std.proofs.lemmas.List.Folds.{list_any_at}
+use Rattle.std.proofs.lemmas.Option.{get_or_from_slice_get, slice_get-get_or, slice_get_within}
 use Rattle.tmw_part.proofs.ListFacts.{find_any, find_place, each_place, none_all, all-more, get_some}
 use Rattle.tmw_part.proofs.OrderFacts.{IsIn, IsSerial, apart, serial}
 use Rattle.tmw_part.proofs.OrderValues.{state_at, reads_at, length-state_at, value_at, needs_holds, reads_alike}
@@ -23,19 +24,10 @@ some_of v (Some w) is = ap (λ x. Some x) (eqb-true w v is)
 
 -- a transaction with a place in the list
 txn_at-get : (ts : List Txn) (a : ℕ) (t : Txn) → slice_get ts a ≡ Some t → txn_at ts a ≡ t
-txn_at-get [] a t at = absurd (cc)
-txn_at-get (x ∷ ts) zero t at = cc
-txn_at-get (x ∷ ts) (suc a) t at = txn_at-get ts a t at
+txn_at-get ts a t at = get_or_from_slice_get ts a t nothing at
 
 get-txn_at : (ts : List Txn) (a : ℕ) → a < length ts → slice_get ts a ≡ Some (txn_at ts a)
-get-txn_at [] a low = absurd (omega (arith, low))
-get-txn_at (x ∷ ts) zero low = refl
-get-txn_at (x ∷ ts) (suc a) low = get-txn_at ts a (omega (arith, low))
-
-get_within : (ts : List Txn) (a : ℕ) (t : Txn) → slice_get ts a ≡ Some t → a < length ts
-get_within [] a t at = absurd (cc)
-get_within (x ∷ ts) zero t at = omega arith
-get_within (x ∷ ts) (suc a) t at = let low = get_within ts a t at in omega (arith, low)
+get-txn_at ts a low = slice_get-get_or ts a nothing low
 
 -- a committed one has a place
 get-committed : (ts : List Txn) (a : ℕ) → IsTrue (is_committed (status_of (txn_at ts a).text)) → slice_get ts a ≡ Some (txn_at ts a)
@@ -44,10 +36,8 @@ get-committed (x ∷ ts) zero is = refl
 get-committed (x ∷ ts) (suc a) is = get-committed ts a is
 
 committed : (x : Status) → IsTrue (is_committed x) → x ≡ Committed
-committed Live is = absurd (cc)
-committed Pending is = absurd (cc)
 committed Committed is = refl
-committed Aborted is = absurd (cc)
+committed x is = absurd (cc)
 
 first_same : (t u : Txn) → Some t ≡ Some u → t.first ≡ u.first
 first_same t u e = let same : t ≡ u = cc in ap (λ (x : Txn). x.first) same
@@ -85,9 +75,8 @@ IsWithin ts (Some a) = a < length ts
 
 pub same_writer : (v w : Option ℕ) → IsTrue (is_same_writer v w) → v ≡ w
 same_writer None None is = refl
-same_writer None (Some b) is = absurd (cc)
-same_writer (Some a) None is = absurd (cc)
 same_writer (Some a) (Some b) is = ap (λ x. Some x) (eqb-true a b is)
+same_writer v w is = absurd (cc)
 
 module _ (criterion : Criterion) (states : List State) (ts : List Txn) (start : State) (order : List Placed) (steps : List Step)
     (c : Case criterion states ts start order steps) where
@@ -129,15 +118,12 @@ module _ (criterion : Criterion) (states : List State) (ts : List Txn) (start : 
 
   -- what is held in each order, and what each has
   supplied_stands : (a : ℕ) (step : Step) → HoldsIn ts order step → IsTrue (supplies a step) → StandsHeld ts order a
-  supplied_stands a (RealTime one other) holds is = absurd (cc)
   supplied_stands a (From s) holds is =
       let (k, stands, comes) = holds in
       let (m, first, low, changes, last) = rw (some_of a s.writer is) at comes in
       let same : changes.placed ≡ first.placed = placed_same (sym changes.there ∙ first.there) in
       record { place = m; stands = first; held = rw (← same) changes.held }
-  supplied_stands a (ReadFirst s w left) holds is = absurd (cc)
-  supplied_stands a (ChangedFirst w left s) holds is = absurd (cc)
-  supplied_stands a (Through one between other) holds is = absurd (cc)
+  supplied_stands a step holds is = absurd (cc)
 
   held_stands : (a : ℕ) → IsTrue (is_held ts steps a) → StandsHeld ts order a
   held_stands a is =
@@ -247,7 +233,7 @@ module _ (criterion : Criterion) (states : List State) (ts : List Txn) (start : 
               place = j;
               stands = at;
               writer = Some a;
-              within = get_within ts a last.changes.placed.txn get;
+              within = slice_get_within ts a last.changes.placed.txn get;
               comes = (last.place, stands, last.before, last.changes, last.last);
               may = and_from _ _ (rw other refl) (and_from _ _ held leaves);
             }
@@ -282,7 +268,6 @@ module _ (criterion : Criterion) (states : List State) (ts : List Txn) (start : 
 
   -- a source that is known is one
   given : (s : Source) (step : Step) → HoldsIn ts order step → IsTrue (gives s step) → HoldsIn ts order (From s)
-  given s (RealTime one other) holds is = absurd (cc)
   given s (From t) holds is =
       let (reader, rest) = and_parts (s.reader == t.reader) _ is in
       let (register, more) = and_parts (s.register.number == t.register.number) _ rest in
@@ -292,9 +277,7 @@ module _ (criterion : Criterion) (states : List State) (ts : List Txn) (start : 
       let there : ComesFrom ts order s.register.number j s.writer =
       rw (eqb-true s.register.number t.register.number register, same_writer s.writer t.writer writer) comes in
       (j, here, there)
-  given s (ReadFirst t w left) holds is = absurd (cc)
-  given s (ChangedFirst w left t) holds is = absurd (cc)
-  given s (Through one between other) holds is = absurd (cc)
+  given s step holds is = absurd (cc)
 
   source_holds : (s : Source) → IsTrue (list_any (gives s) steps) → HoldsIn ts order (From s)
   source_holds s is = let found = find_any (HoldsIn ts order) (gives s) steps c.known is in given s found.one found.has found.passes

@@ -1,7 +1,6 @@
 -- The test of a part is right.
-use Rattle.tmw_part.proofs.Shared.{Aborted, Add, AreOpsLeft, AreStaying, Bool, Committed, Each, IsLeftOf, IsPart, IsTrue, List, Live, Op, Pending, Read, Some, Status, Txn, Write, [], agree, and_parts, ap, are_below, are_left_of, are_ops_left, are_placed, are_same_rows, arith, cases_Bool, eqb-true, false, inl, inr, is_among, is_left_of, is_part_at, is_same, is_same_op, is_same_row, is_same_status, is_unread, length, ltb-true, map, may_go, may_go_whole, nat_lt, nothing, operations, precedes, refl, remove, slice_get, slice_index_or, status_of, staying_of, suc, sym, true, without_number, zero, ℕ, ◌+◌, ◌<◌, ◌==◌, ◌∙◌, ◌∷◌, ◌≡◌}
+use Rattle.tmw_part.proofs.Shared.{Aborted, Add, AreOpsLeft, AreStaying, Bool, Committed, Each, IsLeftOf, IsPart, IsTrue, List, Live, Op, Pending, Read, Some, Status, Txn, Write, [], agree, and_from, and_parts, ap, are_ops_left, are_placed, arith, cases_Bool, eqb-true, false, inl, inr, is_among, is_part_at, is_left_of, is_same, is_same_op, is_same_status, is_stay, is_unread, length, list_all, map, may_go, operations, precedes, refl, remove, slice_get, status_of, suc, true, txn_at, without_number, ℕ, ◌+◌, ◌<◌, ◌==◌, ◌∙◌, ◌∷◌, ◌≡◌}
 use Rattle.tmw_events.proofs.Same.{same_ix}
-use Rattle.std.proofs.lemmas.List.Folds.{list_all_at}
 
 same_op : (x y : Op) → is_same_op x y ≡ true → x ≡ y
 same_op (Read q w) (Read r v) same =
@@ -14,12 +13,7 @@ same_op (Add q e w) (Add r d v) same =
     let (one, more) = and_parts (q.number == r.number) _ same in
     let (two, three) = and_parts (e == d) _ more in
     rw (same_ix q r (eqb-true q.number r.number one), eqb-true e d two, eqb-true w v three) refl
-same_op (Read q w) (Write r v) same = absurd (cc)
-same_op (Read q w) (Add r d v) same = absurd (cc)
-same_op (Write q w) (Read r v) same = absurd (cc)
-same_op (Write q w) (Add r d v) same = absurd (cc)
-same_op (Add q e w) (Read r v) same = absurd (cc)
-same_op (Add q e w) (Write r v) same = absurd (cc)
+same_op x y same = absurd (cc)
 
 -- what the test passes is so
 pub ops_left-test : (unread : ℕ → ℕ → Bool) (left ops : List Op) → IsTrue (are_ops_left unread left ops) → AreOpsLeft unread left ops
@@ -43,56 +37,51 @@ same_status Live Live same = refl
 same_status Pending Pending same = refl
 same_status Committed Committed same = refl
 same_status Aborted Aborted same = refl
-same_status Live Pending same = absurd (cc)
-same_status Live Committed same = absurd (cc)
-same_status Live Aborted same = absurd (cc)
-same_status Pending Live same = absurd (cc)
-same_status Pending Committed same = absurd (cc)
-same_status Pending Aborted same = absurd (cc)
-same_status Committed Live same = absurd (cc)
-same_status Committed Pending same = absurd (cc)
-same_status Committed Aborted same = absurd (cc)
-same_status Aborted Live same = absurd (cc)
-same_status Aborted Pending same = absurd (cc)
-same_status Aborted Committed same = absurd (cc)
+same_status a b same = absurd (cc)
 
-left-test : (unread : ℕ → ℕ → Bool) (ts us : List Txn) → IsTrue (are_left_of unread ts us) → Each (IsLeftOf unread) ts us
-left-test unread [] [] all = tt
-left-test unread [] (u ∷ us) all = absurd (cc)
-left-test unread (t ∷ ts) [] all = absurd (cc)
-left-test unread (t ∷ ts) (u ∷ us) all =
-    let (here, more) = and_parts (is_left_of unread t u) _ all in
-    let (status, others) = and_parts (is_same_status (status_of u.text) (status_of t.text)) _ here in
-    let (same, ops) = and_parts (agree (operations u.text) (operations t.text) (operations u.text)) _ others in (
+left-test : (place : Txn → ℕ) (whole part ts : List Txn) → IsTrue (list_all (is_stay place whole part) ts)
+    → Each (IsLeftOf (is_unread part)) (map (txn_at whole) (map place ts)) ts
+left-test place whole part [] all = tt
+left-test place whole part (t ∷ ts) all =
+    let u = txn_at whole (place t) in
+    let (here, more) = and_parts (is_stay place whole part t) _ all in
+    let left = (and_parts (is_left_of (is_unread part) t.text u.text) _ here).0 in
+    let (status, others) = and_parts (is_same_status (status_of t.text) (status_of u.text)) _ left in
+    let ops = (and_parts (agree (operations t.text) (operations u.text)) _ others).1 in (
       record {
-        status = same_status (status_of u.text) (status_of t.text) status;
-        ops = ops_left-test unread (operations u.text) (operations t.text) ops;
+        status = same_status (status_of t.text) (status_of u.text) status;
+        ops = ops_left-test (is_unread part) (operations t.text) (operations u.text) ops;
       },
-      left-test unread ts us more,
+      left-test place whole part ts more,
     )
 
 same-test : (a b : Bool) → IsTrue (is_same a b) → a ≡ b
 same-test true true same = refl
-same-test true false same = absurd (cc)
-same-test false true same = absurd (cc)
 same-test false false same = refl
+same-test a b same = absurd (cc)
 
-row-test : (a b : Txn) (ts us : List Txn) → IsTrue (is_same_row a b ts us) → map (λ x. precedes x b) us ≡ map (λ x. precedes x a) ts
-row-test a b [] [] all = refl
-row-test a b [] (u ∷ us) all = absurd (cc)
-row-test a b (t ∷ ts) [] all = absurd (cc)
-row-test a b (t ∷ ts) (u ∷ us) all =
-    let (here, more) = and_parts (is_same (precedes u b) (precedes t a)) _ all in
-    rw (same-test (precedes u b) (precedes t a) here, row-test a b ts us more) refl
+row-test : (at : ℕ → Txn) (place : Txn → ℕ) (t : Txn) (ts : List Txn)
+    → IsTrue (list_all (λ u. is_same (precedes (at (place u)) (at (place t))) (precedes u t)) ts)
+    → map (λ u. precedes u t) ts ≡ map (λ u. precedes u (at (place t))) (map at (map place ts))
+row-test at place t [] all = refl
+row-test at place t (u ∷ us) all =
+    let (here, more) = and_parts (is_same (precedes (at (place u)) (at (place t))) (precedes u t)) _ all in
+    rw (same-test (precedes (at (place u)) (at (place t))) (precedes u t) here, row-test at place t us more) refl
 
-rows-test : (ts us as' bs : List Txn) → IsTrue (are_same_rows ts us as' bs)
-    → map (λ b. map (λ x. precedes x b) us) bs ≡ map (λ a. map (λ x. precedes x a) ts) as'
-rows-test ts us [] [] all = refl
-rows-test ts us [] (b ∷ bs) all = absurd (cc)
-rows-test ts us (a ∷ as') [] all = absurd (cc)
-rows-test ts us (a ∷ as') (b ∷ bs) all =
-    let (here, more) = and_parts (is_same_row a b ts us) _ all in
-    rw (row-test a b ts us here, rows-test ts us as' bs more) refl
+rows-test : (place : Txn → ℕ) (whole part ts : List Txn) → IsTrue (list_all (is_stay place whole part) ts)
+    → map (λ t. map (λ u. precedes u t) part) ts
+    ≡ map (λ t. map (λ u. precedes u t) (map (txn_at whole) (map place part))) (map (txn_at whole) (map place ts))
+rows-test place whole part [] all = refl
+rows-test place whole part (t ∷ ts) all =
+    let (here, more) = and_parts (is_stay place whole part t) _ all in
+    let row = (and_parts (is_left_of (is_unread part) t.text (txn_at whole (place t)).text) _ here).1 in
+    rw (row-test (txn_at whole) place t part row, rows-test place whole part ts more) refl
+
+-- of an idle transaction each operation may go
+idle-test : (unread : ℕ → ℕ → Bool) (ops : List Op) → IsTrue (are_ops_left unread [] ops) → IsTrue (list_all (may_go unread) ops)
+idle-test unread [] all = refl
+idle-test unread (op ∷ ops) all =
+    let (here, more) = and_parts (may_go unread op) _ all in and_from (may_go unread op) _ here (idle-test unread ops more)
 
 -- where the number is among the places, the transaction of that number is among those that stay
 found : (f : ℕ → Txn) (n : ℕ) (places : List ℕ) → IsTrue (is_among n places)
@@ -106,63 +95,33 @@ found f n (p ∷ places) among =
           (suc i, at, rw (other, rest) refl)
     ]
 
--- from a number on, the list has these
-abbrev GoesOnFrom : (ℕ → Txn) → ℕ → List Txn → Type 0
-GoesOnFrom f n [] = Unit {0}
-GoesOnFrom f n (t ∷ ts) = (f n ≡ t) × GoesOnFrom f (n + 1) ts
-
-placed-test : (unread : ℕ → ℕ → Bool) (f : ℕ → Txn) (n : ℕ) (places : List ℕ) (ts : List Txn) → GoesOnFrom f n ts
-    → IsTrue (are_placed unread n places ts) → AreStaying unread (map f places) ts
+-- from the number on, f has these
+placed-test : (unread : ℕ → ℕ → Bool) (f : ℕ → Txn) (n : ℕ) (places : List ℕ) (ts : List Txn)
+    → ((k : ℕ) → k < length ts → f (n + k) ≡ txn_at ts k) → IsTrue (are_placed unread n places ts) → AreStaying unread (map f places) ts
 placed-test unread f n [] [] goes all = refl
 placed-test unread f n (p ∷ places) [] goes all = absurd (cc)
 placed-test unread f n places (t ∷ ts) goes all =
+    let here : f n ≡ t = (let same : n ≡ n + 0 = omega arith in ap f same ∙ goes 0 (omega arith)) in
+    let on : (k : ℕ) → k < length ts → f (n + 1 + k) ≡ txn_at ts k =
+    λ k low. let same : n + 1 + k ≡ n + suc k = omega arith in ap f same ∙ goes (suc k) (omega (arith, low)) in
     elim (cases_Bool (is_among n places)) [
       | inl is ↦
           let (i, at, rest) = found f n places is in
-          let more = placed-test unread f (n + 1) (without_number n places) ts goes.1 (rw is at all) in
-          inr (i, at ∙ ap (λ (x : Txn). Some x) goes.0, rw rest more)
+          let more = placed-test unread f (n + 1) (without_number n places) ts on (rw is at all) in
+          inr (i, at ∙ ap (λ (x : Txn). Some x) here, rw rest more)
       | inr none ↦
-          let (idle, more) = and_parts (may_go_whole unread t) _ (rw none at all) in
-          inl (idle, placed-test unread f (n + 1) places ts goes.1 more)
+          let (idle, more) = and_parts (are_ops_left unread [] (operations t.text)) _ (rw none at all) in
+          inl (idle-test unread (operations t.text) idle, placed-test unread f (n + 1) places ts on more)
     ]
-
-goes_on_from : (f g : ℕ → Txn) (n m : ℕ) (ts : List Txn) → ((k : ℕ) → f (k + n) ≡ g (k + m)) → GoesOnFrom f n ts → GoesOnFrom g m ts
-goes_on_from f g n m [] same goes = tt
-goes_on_from f g n m (t ∷ ts) same goes = (
-  let a : 0 + n ≡ n = omega arith in let b : 0 + m ≡ m = omega arith in
-      let first : f n ≡ g m = ap f (sym a) ∙ same 0 ∙ ap g b in sym first ∙ goes.0,
-  goes_on_from f g (n + 1) (m + 1) ts
-      (λ k. let a : k + (n + 1) ≡ suc k + n = omega arith in let b : k + (m + 1) ≡ suc k + m = omega arith in
-      ap f a ∙ same (suc k) ∙ ap g (sym b)) goes.1,
-)
-
-goes_whole : (whole : List Txn) → GoesOnFrom (λ n. slice_index_or whole n nothing) 0 whole
-goes_whole [] = tt
-goes_whole (t ∷ ts) = (
-  refl,
-  goes_on_from (λ n. slice_index_or ts n nothing) (λ n. slice_index_or (t ∷ ts) n nothing) 0 1 ts
-      (λ k. let a : k + 0 ≡ k = omega arith in let b : k + 1 ≡ suc k = omega arith in
-      ap (λ n. slice_index_or ts n nothing) a ∙ ap (λ n. slice_index_or (t ∷ ts) n nothing) (sym b)) (goes_whole ts),
-)
 
 -- What passes the test is a part.
-pub part-test : (places : List ℕ) (part whole : List Txn) → IsTrue (is_part_at places part whole) → IsPart part whole
-part-test places part whole all =
-    let (below, rest) = and_parts (are_below (length whole) places) _ all in
-    let (placed, others) = and_parts (are_placed (is_unread part) 0 places whole) _ rest in
-    let (left, rows) = and_parts (are_left_of (is_unread part) (staying_of whole places) part) _ others in
+pub part-test : (place : Txn → ℕ) (part whole : List Txn) → IsTrue (is_part_at place part whole) → IsPart part whole
+part-test place part whole all =
+    let (placed, stays) = and_parts (are_placed (is_unread part) 0 (map place part) whole) _ all in
     record {
-      staying = staying_of whole places;
-      stay = placed-test (is_unread part) (λ n. slice_index_or whole n nothing) 0 places whole (goes_whole whole) placed;
-      left = left-test (is_unread part) (staying_of whole places) part left;
-      order = rows-test (staying_of whole places) part (staying_of whole places) part rows;
+      staying = map (txn_at whole) (map place part);
+      stay = placed-test (is_unread part) (txn_at whole) 0 (map place part) whole
+          (λ k low. let same : 0 + k ≡ k = omega arith in ap (txn_at whole) same) placed;
+      left = left-test place whole part part stays;
+      order = rows-test place whole part part stays;
     }
-
--- Each number that passes is below the bound.
-pub all-below : (bound : ℕ) (places : List ℕ) → IsTrue (are_below bound places) → (k d : ℕ) → k < length places
-    → slice_index_or places k d < bound
-all-below bound places all k d within =
-    elim (cases_Bool (nat_lt (slice_index_or places k d) bound)) [
-      | inl is ↦ ltb-true (slice_index_or places k d) bound is
-      | inr not_so ↦ let bad : true ≡ false = sym all ∙ list_all_at (λ n. nat_lt n bound) places k d within not_so in absurd (cc)
-    ]

@@ -1,5 +1,5 @@
 -- What a search for an end state tells of events that were taken into its window.
-use Rattle.tmw_part.proofs.Shared.{AreTaken, Bool, Criterion, Err, Event, Fails, IfOk, IsFalse, IsPart, IsTrue, IsViolated, IsViolatedPart, List, Ok, Result, State, TellsViolated, all_kept, and_parts, are_whole, arith, calls_from, end_state, false, inl, inr, keeps_last, keeps_part, kept_of, length, may_miss_all, members, not, owners, refl, transactions, true, ℕ, ◌≡◌, ◌≤◌}
+use Rattle.tmw_part.proofs.Shared.{AreTaken, Bool, Criterion, Err, Event, Fails, IfOk, IsFalse, IsPart, IsTrue, IsViolated, IsViolatedPart, List, Ok, Result, State, TellsViolated, all_kept, and_parts, are_whole, arith, calls_from, end_state, false, inl, inr, keeps_last, keeps_part, kept_of, length, may_miss_all, members, not, owner_in, places_of, refl, transactions, true, ℕ, ◌≡◌, ◌≤◌}
 use Rattle.tmw_cuts.specs.declared.states.States.{States}
 use Rattle.tmw_cuts.specs.declared.window.Window.{Window}
 use Rattle.tmw_search.specs.Ended.{TellsEnd}
@@ -32,7 +32,7 @@ part-kept marks window keeps =
     let (last, more) = and_parts (keeps_last marks) _ keeps in
     let (calls, rest) = and_parts (are_whole marks (calls_from 0 window)) _ more in
     let (writes, part) = and_parts (may_miss_all (transactions (kept_of marks window)) marks window) _ rest in
-    part-test (owners marks window) (transactions (kept_of marks window)) (transactions window) part
+    part-test (owner_in (places_of marks) (transactions window)) (transactions (kept_of marks window)) (transactions window) part
 
 -- the answer on what is kept, which passes the test of a part, is that on the part
 pub told-part : {E : Type 0} (criterion : Criterion) (registers : ℕ) (states : List State) (window : List Event) (marks : List Bool)

@@ -2,13 +2,16 @@
 use Rattle.std.specs.Prelude.{◌≡◌, ◌≢◌, ◌⊎◌, ◌<◌, ◌≤◌, ℕ, Bool, true, false, List, [], ◌∷◌, length, All, IsTrue, IsFalse}
 use Rattle.std.specs.List.{Contains}
 use Rattle.tmw_events.specs.declared.event.Event.{Event}
+use Rattle.tmw_cuts.specs.Members.{members}
 use Rattle.tmw_defs.specs.declared.criterion.Criterion.{Criterion}
 use Rattle.tmw_defs.specs.History.{transactions, is_well_formed}
 use Rattle.tmw_defs.specs.Opaque.{State}
 use Rattle.tmw_defs.specs.Part.{HasOrderBy, IsPart}
 use Rattle.tmw_part.specs.declared.piece.Piece.{Piece}
-use Rattle.tmw_part.specs.Kept.{all_kept, kept_of, keeps_part, without}
+use Rattle.tmw_part.specs.declared.search.Search.{Search}
+use Rattle.tmw_part.specs.Kept.{all_kept, kept_of, without}
 use Rattle.tmw_part.specs.Pieces.{pieces, with_readers}
+use Rattle.tmw_part.specs.Test.{keeps_part}
 
 -- From one of these states the events' transactions have a serial order.
 abbrev pub HasOrderFrom : Criterion → List State → List Event → Type 0
@@ -66,3 +69,22 @@ abbrev pub FindsPart : Criterion → ℕ → List State → List Event → List 
 FindsPart criterion registers states window marks =
     (IsSearched criterion registers states window × IsMinimalPart criterion registers states window marks)
     ⊎ ((IsSearched criterion registers states window → ⊥) × (marks ≡ all_kept window))
+
+-- So it is of what a search is given.
+abbrev pub TellsIn : Search → List Event → Bool → Type 0
+TellsIn s = TellsViolated s.criterion s.registers.number (members s.states.now)
+
+abbrev pub IsPartIn : Search → List Bool → Type 0
+IsPartIn s = IsViolatedPart s.criterion s.registers.number (members s.states.now) s.events.now
+
+abbrev pub FailsIn : Search → List Bool → Type 0
+FailsIn s = Fails s.criterion s.registers.number (members s.states.now) s.events.now
+
+abbrev pub AreNeededIn : Search → List Bool → List Piece → Type 0
+AreNeededIn s = AreNeeded s.criterion s.registers.number (members s.states.now) s.events.now
+
+abbrev pub IsNeededIn : Search → List Bool → Piece → Type 0
+IsNeededIn s = IsNeeded s.criterion s.registers.number (members s.states.now) s.events.now
+
+abbrev pub IsMinimalIn : Search → List Bool → Type 0
+IsMinimalIn s = IsMinimalPart s.criterion s.registers.number (members s.states.now) s.events.now

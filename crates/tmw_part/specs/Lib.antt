@@ -1,11 +1,9 @@
 pub mod Finding
-pub mod Found
 pub mod Kept
 pub mod Names
 pub mod Origins
 pub mod Pieces
 pub mod Reasons
-pub mod Shown
 pub mod Steps
 pub mod Taking
 pub mod Test

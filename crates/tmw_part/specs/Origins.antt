@@ -1,36 +1,41 @@
 -- Who in a window wrote a value that a transaction read of a register, and what became of that write.
-use Rattle.std.specs.Prelude.{◌==◌, ◌&&◌, ◌+◌, ◌%◌, ◌^◌, ℕ, Bool, true, false, not, nat_lt, List, [], ◌∷◌, Option, Some, None, if◌then◌else◌}
+use Rattle.std.specs.Prelude.{◌==◌, ◌&&◌, ◌+◌, ℕ, Bool, true, false, not, nat_lt, List, [], ◌∷◌, Option, Some, None, if◌then◌else◌}
+use Rattle.std.specs.List.{list_any}
 use Rattle.tmw_events.specs.declared.event.Event.{Event}
 use Rattle.tmw_events.specs.declared.event.Kind.{Kind}
-use Rattle.tmw_events.specs.declared.event.Kind.TheVariants.{R, W, N, V, K}
+use Rattle.tmw_defs.specs.declared.op.Op.{Op}
 use Rattle.tmw_defs.specs.declared.status.Status.{Status}
 use Rattle.tmw_defs.specs.declared.status.Status.TheVariants.{Live, Aborted}
-use Rattle.tmw_defs.specs.History.{Txn, status_of, operations, transactions}
+use Rattle.tmw_defs.specs.History.{Txn, status_of, operation, operations, transactions}
+use Rattle.tmw_defs.specs.Part.{is_answered}
 use Rattle.tmw_cuts.specs.Written.{left_by}
 use Rattle.tmw_part.specs.declared.origin.Fate.{Fate}
 use Rattle.tmw_part.specs.declared.origin.Fate.TheVariants.{GivenUp, Unasked, Overwritten, Stays}
 use Rattle.tmw_part.specs.declared.origin.Origin.{Origin}
-use Rattle.tmw_part.specs.Kept.{owner}
+use Rattle.tmw_part.specs.Names.{owner}
 use Rattle.tmw_part.specs.Pieces.{call_of, next_of, puts}
-use Rattle.tmw_part.specs.Steps.{is_some_of, txn_at}
+use Rattle.tmw_part.specs.Steps.{is_some_of}
+use Rattle.tmw_part.specs.Test.{txn_at}
+use Rattle.tmw_part.specs.Unlike.{known_after}
 
--- The call, with what follows it in its thread, reads the value from the register.
-abbrev pub reads : ℕ → ℕ → Kind → Option Kind → Bool
-reads r v (R q) (Some (V w)) = (q.number == r) && (w == v)
-reads r v (N q d) (Some (V w)) = (q.number == r) && (w == v)
-reads r v kind next = false
-
--- What is known of the register after the call, with what follows it in its thread, if this is known before it.
-abbrev pub known_past : ℕ → Option ℕ → Kind → Option Kind → Option ℕ
-known_past r known (R q) (Some (V w)) = if q.number == r then Some w else known
-known_past r known (W q w) (Some K) = if q.number == r then Some w else known
-known_past r known (N q d) (Some (V w)) = if q.number == r then Some ((w + d) % 2 ^ 64) else known
-known_past r known kind next = known
+-- The operation that the call makes with what follows it in its thread.
+abbrev pub made : Kind → Option Kind → List Op
+made call None = []
+made call (Some answer) = operation call answer
 
 -- What is known is what is expected, if a value is.
 abbrev pub is_as_expected : Option ℕ → Option ℕ → Bool
 is_as_expected None known = true
 is_as_expected (Some v) known = is_some_of v known
+
+-- One of these operations, which are one at most, reads the value from the register while so much is known that is expected.
+abbrev pub reads_as : ℕ → ℕ → Option ℕ → Option ℕ → List Op → Bool
+reads_as r v expected known ops = is_as_expected expected known && list_any (is_answered r v) ops
+
+-- What is known after these operations.
+abbrev pub known_past : ℕ → Option ℕ → List Op → Option ℕ
+known_past r known [] = known
+known_past r known (op ∷ ops) = known_past r (known_after r known op) ops
 
 -- The place of the answer by which the reader first reads the value from the register, or first does so while its own calls make that
 -- register the value `expected`. The first of these events has this place, and so much is known before it.
@@ -38,9 +43,9 @@ abbrev pub answered_from : List Txn → ℕ → ℕ → Option ℕ → ℕ → O
 answered_from window r v expected reader known place [] = place
 answered_from window r v expected reader known place (e ∷ events) =
     if owner window e.thread.number place place == reader
-    then (if is_as_expected expected known && reads r v e.kind (next_of e.thread.number events)
+    then (if reads_as r v expected known (made e.kind (next_of e.thread.number events))
     then (call_of place e events).upto
-    else answered_from window r v expected reader (known_past r known e.kind (next_of e.thread.number events)) (place + 1) events)
+    else answered_from window r v expected reader (known_past r known (made e.kind (next_of e.thread.number events))) (place + 1) events)
     else answered_from window r v expected reader known (place + 1) events
 
 -- the later of two, if the first is there

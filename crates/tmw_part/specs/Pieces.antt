@@ -1,6 +1,6 @@
 -- The pieces of a window, each of which is taken out at once, alone or together with the reads of its values: its transactions, and their
 -- calls, each with its answer if it has one.
-use Rattle.std.specs.Prelude.{◌==◌, ◌&&◌, ◌||◌, ◌+◌, ◌%◌, ◌^◌, ℕ, Bool, false, nat_le, List, [], ◌∷◌, ◌++◌, map, position, Option, Some, None, if◌then◌else◌}
+use Rattle.std.specs.Prelude.{◌==◌, ◌&&◌, ◌||◌, ◌+◌, ◌%◌, ◌^◌, ℕ, Bool, false, nat_le, List, [], ◌∷◌, ◌++◌, find, map, option_map, position, Option, Some, None, if◌then◌else◌}
 use Rattle.tmw_events.specs.declared.event.Event.{Event}
 use Rattle.tmw_events.specs.declared.event.Kind.{Kind}
 use Rattle.tmw_events.specs.declared.event.Kind.TheVariants.{R, W, N, V}
@@ -45,8 +45,7 @@ puts r v kind next = false
 
 -- The thread's first event among these.
 abbrev pub next_of : ℕ → List Event → Option Kind
-next_of thread [] = None
-next_of thread (e ∷ events) = if e.thread.number == thread then Some e.kind else next_of thread events
+next_of thread events = option_map (λ e. e.kind) (find (λ e. e.thread.number == thread) events)
 
 -- An event of the piece puts the value into the register. The first of these events has this place.
 abbrev pub is_put_from : Piece → ℕ → ℕ → ℕ → List Event → Bool

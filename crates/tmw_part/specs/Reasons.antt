@@ -7,6 +7,8 @@ use Rattle.tmw_defs.specs.History.{Txn, operations, transactions}
 use Rattle.tmw_defs.specs.Opaque.{State, Placed}
 use Rattle.tmw_cuts.specs.Written.{writes}
 use Rattle.tmw_events.specs.declared.event.Event.{Event}
+use Rattle.tmw_part.specs.declared.judged.Judged.{Judged}
+use Rattle.tmw_part.specs.declared.reason.Reason.{Reason}
 use Rattle.tmw_part.specs.declared.step.Step.{Step}
 use Rattle.tmw_part.specs.declared.step.Step.TheVariants.{RealTime, From, ReadFirst, ChangedFirst, Through}
 use Rattle.tmw_part.specs.declared.step.Contradiction.{Contradiction}
@@ -62,6 +64,26 @@ pub record IsReason (criterion : Criterion) (states : List State) (ts : List Txn
 abbrev pub IsNeededEach : Criterion → List State → List Txn → List Step → Contradiction → Type 0
 IsNeededEach criterion states ts steps end =
     (i : ℕ) → i < length steps → IsReason criterion states ts (remove steps i) end → ⊥
+
+-- The steps are a reason, none of which can be left out.
+pub record IsPruned (criterion : Criterion) (states : List State) (ts : List Txn) (steps : List Step) (end : Contradiction) : Type 0 where
+  pub is : IsReason criterion states ts steps end
+  pub needed : IsNeededEach criterion states ts steps end
+
+-- Such a reason, of at most eight transactions.
+pub record IsFound (criterion : Criterion) (states : List State) (ts : List Txn) (reason : Reason) : Type 0 where
+  pub few : length ts ≤ 8
+  pub pruned : IsPruned criterion states ts reason.steps.items reason.end
+
+-- So it is of what is judged.
+abbrev pub IsReasonIn : Judged → Contradiction → List Step → Type 0
+IsReasonIn w end steps = IsReason w.criterion w.states.now w.transactions.now steps end
+
+abbrev pub IsNeededEachIn : Judged → Contradiction → List Step → Type 0
+IsNeededEachIn w end steps = IsNeededEach w.criterion w.states.now w.transactions.now steps end
+
+abbrev pub IsPrunedIn : Judged → Contradiction → List Step → Type 0
+IsPrunedIn w end steps = IsPruned w.criterion w.states.now w.transactions.now steps end
 
 -- No two of the transactions begin at the same place of the history.
 abbrev pub begin_apart : List Txn → Bool

@@ -1,7 +1,8 @@
 -- Steps of a reason why transactions have no serial order: when a step follows from those before it, and when they contradict each other.
 -- A transaction is told by its place in the list of all. A value comes from the transaction that left it, or from the start.
-use Rattle.std.specs.Prelude.{◌≡◌, ◌==◌, ◌&&◌, ◌||◌, ℕ, Bool, true, false, not, nat_lt, List, [], ◌∷◌, length, take, slice_get, slice_index, slice_index_or, Option, Some, None, IsTrue, if◌then◌else◌}
+use Rattle.std.specs.Prelude.{◌≡◌, ◌==◌, ◌&&◌, ◌||◌, ℕ, Bool, true, false, not, nat_lt, List, [], ◌∷◌, length, take, slice_get, slice_index, Option, Some, None, is_some, IsTrue, if◌then◌else◌}
 use Rattle.std.specs.List.{list_all, list_any, range_with_len}
+use Rattle.std.specs.Option.{option_eq}
 use Rattle.tmw_defs.specs.declared.criterion.Criterion.{Criterion}
 use Rattle.tmw_defs.specs.declared.criterion.Criterion.TheVariants.{Opacity, Strict}
 use Rattle.tmw_defs.specs.declared.op.Op.{Op}
@@ -16,13 +17,10 @@ use Rattle.tmw_part.specs.declared.step.Step.{Step}
 use Rattle.tmw_part.specs.declared.step.Step.TheVariants.{RealTime, From, ReadFirst, ChangedFirst, Through}
 use Rattle.tmw_part.specs.declared.step.Contradiction.{Contradiction}
 use Rattle.tmw_part.specs.declared.step.Contradiction.TheVariants.{Cycle, NoSource, Unlike}
-use Rattle.tmw_part.specs.Test.{nothing}
+use Rattle.tmw_part.specs.Test.{txn_at}
 use Rattle.tmw_part.specs.Unlike.{first_unlike}
 
--- The transaction at this place, and its operations.
-abbrev pub txn_at : List Txn → ℕ → Txn
-txn_at ts a = slice_index_or ts a nothing
-
+-- The operations of the transaction at this place.
 abbrev pub ops_at : List Txn → ℕ → List Op
 ops_at ts a = operations (txn_at ts a).text
 
@@ -42,10 +40,7 @@ is_some_of v None = false
 is_some_of v (Some w) = w == v
 
 abbrev pub is_same_writer : Option ℕ → Option ℕ → Bool
-is_same_writer None None = true
-is_same_writer None (Some b) = false
-is_same_writer (Some a) None = false
-is_same_writer (Some a) (Some b) = a == b
+is_same_writer = option_eq (λ a b. a == b)
 
 abbrev pub is_same_source : Source → Source → Bool
 is_same_source s t =
@@ -96,17 +91,13 @@ abbrev pub has_place : Criterion → List Txn → List Step → ℕ → Bool
 has_place Opacity ts steps a = nat_lt a (length ts)
 has_place Strict ts steps a = is_held ts steps a
 
--- The transaction leaves the source's value in its register.
-abbrev pub leaves : List Txn → Source → ℕ → Bool
-leaves ts s a = is_some_of s.value (left_by s.register.number None (ops_at ts a))
-
 -- The reader's value may come from there, as far as one can tell without an order: one of the states has it in the register, or a
 -- completion may hold the writer, which leaves it there.
 abbrev pub may_come_from : List State → List Txn → Source → Option ℕ → Bool
 may_come_from states ts s None = list_any (λ state. slice_index state s.register.number == s.value) states
 may_come_from states ts s (Some a) =
     not (a == s.reader)
-    && (may_hold (status_of (txn_at ts a).text) true && leaves ts s a)
+    && (may_hold (status_of (txn_at ts a).text) true && is_some_of s.value (left_by s.register.number None (ops_at ts a)))
 
 -- The transaction is held, changes the source's register and is neither the reader nor the writer.
 abbrev pub is_rival : List Txn → List Step → Source → ℕ → Bool
@@ -156,7 +147,7 @@ is_known_rival ts steps s a left =
 
 -- The value comes from a transaction, not from the start.
 abbrev pub has_writer : Source → Bool
-has_writer s = not (is_same_writer s.writer None)
+has_writer s = is_some s.writer
 
 -- Whether a step follows from these: by real time; because the value can come from nowhere else; because the reader and the writer would
 -- else have a rival between them; or by a third transaction.

@@ -1,15 +1,13 @@
 ghost use Rattle.std.specs.Prelude.{IfSome, IsTrue};
-ghost use Rattle.tmw_part.specs.Shown.{txns_of};
 ghost use Rattle.tmw_part.specs.Steps.{contradicts};
 
 use crate::deeds::{find_unlike, needed_of};
 use crate::drawn::Drawn;
 use crate::follows::{contradicts, text_at};
+use crate::judged::Judged;
 use crate::step::{Contradiction, Step};
 use crate::transaction::Transaction;
 use std::alloc::{AllocError, Global};
-use tmw_cuts::State;
-use tmw_defs::Criterion;
 use tmw_events::{Ix, Kind};
 
 /// Adds that the transaction read the register unlike its own calls, if these texts of it say so.
@@ -19,7 +17,7 @@ fn push_unlike(
     register: Ix,
     text: &[Kind],
 ) -> Result<(), AllocError> {
-    if let Some((expected, read)) = find_unlike(register, text) {
+    if let Some((expected, read)) = find_unlike(register.get(), text) {
         ends.push(Contradiction::Unlike(reader, register, expected, read))?;
     }
     Ok(())
@@ -36,22 +34,10 @@ fn push_reads(
     for number in 0..8u8 {
         let register = Ix { number };
         push_unlike(ends, reader, register, one.text)?;
-        if let Some(value) = needed_of(register, one.text) {
+        if let Some(value) = needed_of(number, one.text) {
             ends.push(Contradiction::NoSource(reader, register, value))?;
             push_unlike(ends, reader, register, text_at(window, reader))?;
         }
-    }
-    Ok(())
-}
-
-/// Adds what may be wrong with what the transactions read.
-fn push_all_reads(
-    ends: &mut Vec<Contradiction>,
-    window: &[Transaction],
-    drawn: &[Drawn],
-) -> Result<(), AllocError> {
-    for one in drawn {
-        push_reads(ends, window, one)?;
     }
     Ok(())
 }
@@ -63,26 +49,24 @@ pub(crate) fn ends(
     drawn: &[Drawn],
 ) -> Result<Vec<Contradiction>, AllocError> {
     let mut ends = Vec::new(alloc);
-    push_all_reads(&mut ends, window, drawn)?;
     for one in drawn {
-        ends.push(Contradiction::Cycle(one.place))?;
+        push_reads(&mut ends, window, one)?;
     }
+    ends.extend(drawn.iter().map(|one| Contradiction::Cycle(one.place)))?;
     Ok(ends)
 }
 
 /// Finds the first of these contradictions to which the steps come.
 pub(crate) fn find_end(
-    criterion: Criterion,
-    states: &[State],
-    transactions: &[Transaction],
+    judged: &Judged,
     steps: &[Step],
     ends: &[Contradiction],
 ) -> Option<Contradiction>
-    ensures { let ts = txns_of transactions.now in
-        IfSome result (λ end. IsTrue (contradicts criterion states.now ts steps.now end)) }
+    ensures { let w = judged.now in IfSome result (λ end. IsTrue
+        (contradicts w.criterion w.states.now w.transactions.now steps.now end)) }
 {
     for end in ends {
-        if contradicts(criterion, states, transactions, steps, end) {
+        if contradicts(judged, steps, end) {
             return Some(*end);
         }
     }

@@ -1,7 +1,7 @@
 ghost use Rattle.std.specs.Prelude.{◌≡◌, ◌≤◌, ◌<◌, All, IfOk, IfSome, IfNone, IsTrue, IsFalse, length};
 ghost use Rattle.tmw_defs.specs.History.{transactions};
 ghost use Rattle.tmw_cuts.specs.Members.{members};
-ghost use Rattle.tmw_part.specs.Finding.{AreNeeded, FindsPart, IsMinimalPart, IsNeeded, IsViolatedPart};
+ghost use Rattle.tmw_part.specs.Finding.{AreNeededIn, FindsPart, IsMinimalIn, IsNeededIn, IsPartIn};
 ghost use Rattle.tmw_part.specs.Kept.{kept_of};
 ghost use Rattle.tmw_part.specs.Pieces.{pieces};
 
@@ -9,6 +9,7 @@ use crate::kept_part::is_violated_part;
 use crate::marks::without;
 use crate::piece::{Piece, pieces};
 use crate::readers::with_readers;
+use crate::search::Search;
 use crate::violated::is_violated;
 use std::alloc::{AllocError, Global};
 use tmw_cuts::States;
@@ -20,28 +21,23 @@ pub const MOST_EVENTS: usize = 1_000;
 
 /// What is kept without these pieces, if that is less, and a violated part still.
 fn try_without(
-    criterion: Criterion,
-    alloc: Global,
-    registers: Registers,
-    states: &States,
-    events: &[Event],
+    search: &Search,
     pieces: &[Piece],
     marks: &[bool],
 ) -> Result<Option<Vec<bool>>, AllocError>
-    requires few { length (transactions events.now) ≤ 8 }
-    requires each { length marks.now ≡ length events.now }
-    ensures part { IfOk result (λ found. IfSome found (λ left. IsViolatedPart criterion
-        registers.number (members states.now) events.now left.items)) }
-    ensures fewer { IfOk result (λ found. IfSome found (λ left.
-        length (kept_of left.items events.now) < length (kept_of marks.now events.now))) }
-    ensures needed { IfOk result (λ found. IfNone found (AreNeeded criterion registers.number
-        (members states.now) events.now marks.now pieces.now)) }
+    requires few { length (transactions search.now.events.now) ≤ 8 }
+    requires each { length marks.now ≡ length search.now.events.now }
+    ensures part { IfOk result (λ found. IfSome found (λ left. IsPartIn search.now left.items)) }
+    ensures fewer { let events = search.now.events.now in IfOk result (λ found. IfSome found
+        (λ left. length (kept_of left.items events) < length (kept_of marks.now events))) }
+    ensures needed { IfOk result (λ found. IfNone found
+        (AreNeededIn search.now marks.now pieces.now)) }
 {
-    let left = without(alloc, pieces, marks, events)?;
+    let left = without(search.alloc, pieces, marks, search.events)?;
     if left.as_slice() == marks {
         return Ok(None);
     }
-    if !is_violated_part(criterion, alloc, registers, states, events, &left)? {
+    if !is_violated_part(search, &left)? {
         return Ok(None);
     }
     Ok(Some(left))
@@ -50,64 +46,41 @@ fn try_without(
 /// What is kept without the piece, alone or together with the reads of its values, if that is less, and a violated part
 /// still.
 fn try_piece(
-    criterion: Criterion,
-    alloc: Global,
-    registers: Registers,
-    states: &States,
-    events: &[Event],
+    search: &Search,
     piece: &Piece,
     marks: &[bool],
 ) -> Result<Option<Vec<bool>>, AllocError>
-    requires few { length (transactions events.now) ≤ 8 }
-    requires each { length marks.now ≡ length events.now }
-    ensures part { IfOk result (λ found. IfSome found (λ left. IsViolatedPart criterion
-        registers.number (members states.now) events.now left.items)) }
-    ensures fewer { IfOk result (λ found. IfSome found (λ left.
-        length (kept_of left.items events.now) < length (kept_of marks.now events.now))) }
-    ensures needed { IfOk result (λ found. IfNone found (IsNeeded criterion registers.number
-        (members states.now) events.now marks.now piece.now)) }
+    requires few { length (transactions search.now.events.now) ≤ 8 }
+    requires each { length marks.now ≡ length search.now.events.now }
+    ensures part { IfOk result (λ found. IfSome found (λ left. IsPartIn search.now left.items)) }
+    ensures fewer { let events = search.now.events.now in IfOk result (λ found. IfSome found
+        (λ left. length (kept_of left.items events) < length (kept_of marks.now events))) }
+    ensures needed { IfOk result (λ found. IfNone found
+        (IsNeededIn search.now marks.now piece.now)) }
 {
-    let alone = try_without(
-        criterion,
-        alloc,
-        registers,
-        states,
-        events,
-        &[*piece],
-        marks,
-    )?;
+    let alone = try_without(search, &[*piece], marks)?;
     if alone.is_some() {
         return Ok(alone);
     }
-    let pieces = with_readers(alloc, piece, events)?;
-    try_without(criterion, alloc, registers, states, events, &pieces, marks)
+    let pieces = with_readers(search.alloc, piece, search.events)?;
+    try_without(search, &pieces, marks)
 }
 
 /// Takes each of the pieces in turn out of what is kept, alone or with the reads of its values, if what is left is a
 /// violated part still. Tells whether it took one.
-fn take_out(
-    criterion: Criterion,
-    alloc: Global,
-    registers: Registers,
-    states: &States,
-    events: &[Event],
-    pieces: &[Piece],
-    marks: &mut Vec<bool>,
-) -> Result<bool, AllocError>
-    requires few { length (transactions events.now) ≤ 8 }
-    requires part { IsViolatedPart criterion registers.number (members states.now) events.now
-        marks.old.items }
-    ensures part { IfOk result (λ _. IsViolatedPart criterion registers.number
-        (members states.now) events.now marks.new.items) }
-    ensures fewer { IfOk result (λ took. IsTrue took → length (kept_of marks.new.items events.now)
-        < length (kept_of marks.old.items events.now)) }
+fn take_out(search: &Search, pieces: &[Piece], marks: &mut Vec<bool>) -> Result<bool, AllocError>
+    requires few { length (transactions search.now.events.now) ≤ 8 }
+    requires part { IsPartIn search.now marks.old.items }
+    ensures part { IfOk result (λ _. IsPartIn search.now marks.new.items) }
+    ensures fewer { IfOk result (λ took. IsTrue took
+        → length (kept_of marks.new.items search.now.events.now)
+        < length (kept_of marks.old.items search.now.events.now)) }
     ensures needed { IfOk result (λ took. IsFalse took → (marks.new.items ≡ marks.old.items)
-        × All (IsNeeded criterion registers.number (members states.now) events.now marks.old.items)
-        pieces.now) }
+        × All (IsNeededIn search.now marks.old.items) pieces.now) }
 {
     let mut took = false;
     for piece in pieces {
-        let found = try_piece(criterion, alloc, registers, states, events, piece, marks)?;
+        let found = try_piece(search, piece, marks)?;
         if let Some(left) = found {
             *marks = left;
             took = true;
@@ -117,24 +90,15 @@ fn take_out(
 }
 
 /// Takes pieces out of what is kept, until no more can be taken out.
-fn take_all_out(
-    criterion: Criterion,
-    alloc: Global,
-    registers: Registers,
-    states: &States,
-    events: &[Event],
-    marks: &mut Vec<bool>,
-) -> Result<(), AllocError>
-    requires few { length (transactions events.now) ≤ 8 }
-    requires part { IsViolatedPart criterion registers.number (members states.now) events.now
-        marks.old.items }
-    ensures { IfOk result (λ _. IsMinimalPart criterion registers.number (members states.now)
-        events.now marks.new.items) }
+fn take_all_out(search: &Search, marks: &mut Vec<bool>) -> Result<(), AllocError>
+    requires few { length (transactions search.now.events.now) ≤ 8 }
+    requires part { IsPartIn search.now marks.old.items }
+    ensures { IfOk result (λ _. IsMinimalIn search.now marks.new.items) }
 {
-    let pieces = pieces(alloc, events)?;
+    let pieces = pieces(search.alloc, search.events)?;
     let mut took = true;
     while took {
-        took = take_out(criterion, alloc, registers, states, events, &pieces, marks)?;
+        took = take_out(search, &pieces, marks)?;
     }
     Ok(())
 }
@@ -159,9 +123,16 @@ pub fn find_part(
     if states.is_empty() || events.len() > MOST_EVENTS {
         return Ok(marks);
     }
-    if !is_violated(criterion, alloc, registers, states, events)? {
+    let search = Search {
+        criterion,
+        alloc,
+        registers,
+        states,
+        events,
+    };
+    if !is_violated(&search, events)? {
         return Ok(marks);
     }
-    take_all_out(criterion, alloc, registers, states, events, &mut marks)?;
+    take_all_out(&search, &mut marks)?;
     Ok(marks)
 }

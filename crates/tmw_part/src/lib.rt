@@ -9,6 +9,7 @@ mod marks;
 mod part;
 mod piece;
 mod readers;
+mod search;
 mod transaction;
 mod violated;
 
@@ -19,6 +20,7 @@ mod deeds;
 mod drawn;
 mod ends;
 mod follows;
+mod judged;
 mod known;
 mod prune;
 mod reason;

@@ -1,15 +1,16 @@
-ghost use Rattle.std.specs.Prelude.{◌≡◌, ◌+◌, ◌<◌, ◌^◌, IfOk, IfSome, length};
-ghost use Rattle.tmw_part.specs.Origins.{answered_from, fate_by, fate_of, is_as_expected, known_past, origin_at, origin_of, puts_before, reads};
-ghost use Rattle.tmw_part.specs.Shown.{txn_of, txns_of};
+ghost use Rattle.std.specs.Prelude.{◌≡◌, ◌+◌, ◌<◌, ◌^◌, IfOk, IfSome, MatchOption, [], ◌∷◌, length};
+ghost use Rattle.tmw_part.specs.Origins.{answered_from, fate_by, is_as_expected, made, origin_at, origin_of, puts_before};
 
-use crate::deeds::{is_some_of, left_by};
+use crate::deeds::{known_after, left_by};
 use crate::follows::text_at;
-use crate::marks::owner;
+use crate::left::is_answered;
+use crate::names::owner;
 use crate::piece::call_of;
 use crate::readers::{next_of, puts};
 use crate::transaction::{Transaction, status_of, transactions};
 use std::alloc::{AllocError, Global};
-use tmw_defs::Status;
+use tmw_cuts::operation;
+use tmw_defs::{Op, Status};
 use tmw_events::{Event, Ix, Kind};
 
 /// What became of a value that a transaction put into a register.
@@ -35,28 +36,13 @@ pub struct Origin {
     pub fate: Fate,
 }
 
-/// Whether the call, with what follows it in its thread, reads the value from the register.
-fn reads(register: Ix, value: u64, kind: Kind, next: Option<Kind>) -> bool
-    ensures { result ≡ reads register.number value kind next }
+/// The operation that the call makes with what follows it in its thread.
+fn made(call: Kind, next: Option<Kind>) -> Option<Op>
+    ensures { MatchOption result (made call next ≡ []) (λ op. made call next ≡ op ∷ []) }
 {
-    match (kind, next) {
-        (Kind::R(other) | Kind::N(other, _), Some(Kind::V(found))) => other == register
-            && found == value,
-        _ => false,
-    }
-}
-
-/// What is known of the register after the call, with what follows it in its thread, if this is known before it.
-fn known_past(register: Ix, known: Option<u64>, kind: Kind, next: Option<Kind>) -> Option<u64>
-    ensures { result ≡ known_past register.number known kind next }
-{
-    match (kind, next) {
-        (Kind::R(other), Some(Kind::V(value))) | (Kind::W(other, value), Some(Kind::K))
-            if other == register => { Some(value) }
-        (Kind::N(other, added), Some(Kind::V(value))) if other == register => {
-            Some(value.wrapping_add(added))
-        }
-        _ => known,
+    match next {
+        Some(answer) => operation(call, answer),
+        None => None,
     }
 }
 
@@ -64,10 +50,7 @@ fn known_past(register: Ix, known: Option<u64>, kind: Kind, next: Option<Kind>) 
 fn is_as_expected(expected: Option<u64>, known: Option<u64>) -> bool
     ensures { result ≡ is_as_expected expected known }
 {
-    match expected {
-        None => true,
-        Some(value) => is_some_of(value, known),
-    }
+    expected.is_none() || known == expected
 }
 
 /// The place of the answer by which the reader first reads the value from the register, or first while its own calls make
@@ -80,7 +63,7 @@ fn answered_at(
     reader: usize,
     events: &[Event],
 ) -> usize
-    ensures { result ≡ answered_from (txns_of window.now) register.number value expected reader
+    ensures { result ≡ answered_from window.now register.number value expected reader
         None 0 events.now }
 {
     let mut known = None;
@@ -88,11 +71,12 @@ fn answered_at(
     let mut rest = events;
     while let [event, more @ ..] = rest {
         if owner(window, event.thread, place, place) == reader {
-            let next = next_of(event.thread, more);
-            if is_as_expected(expected, known) && reads(register, value, event.kind, next) {
-                return call_of(place, *event, more).upto;
+            if let Some(op) = made(event.kind, next_of(event.thread, more)) {
+                if is_as_expected(expected, known) && is_answered(register, value, op) {
+                    return call_of(place, *event, more).upto;
+                }
+                known = known_after(register.get(), known, op);
             }
-            known = known_past(register, known, event.kind, next);
         }
         place += 1;
         rest = more;
@@ -122,11 +106,11 @@ fn origin_at(
     place: usize,
     event: &Event,
 ) -> Origin
-    ensures { result ≡ origin_at (txns_of window.now) register.number value reader place event.now }
+    ensures { result ≡ origin_at window.now register.number value reader place event.now }
 {
     let writer = owner(window, event.thread, place, place);
     let text = text_at(window, writer);
-    let last = is_some_of(value, left_by(register, text));
+    let last = left_by(register.get(), text) == Some(value);
     let fate = if writer == reader {
         Fate::Overwritten
     } else {

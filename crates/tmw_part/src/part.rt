@@ -1,9 +1,13 @@
-ghost use Rattle.std.specs.Prelude.{◌≡◌, ◌<◌, All, IfOk, length};
-ghost use Rattle.tmw_part.specs.Test.{are_below, are_placed, is_among, is_part_at, staying_of, without_number};
-ghost use Rattle.tmw_part.specs.Shown.{shown, txns_of, unread_in};
+ghost use Rattle.std.specs.Prelude.{◌≡◌, IfOk, map};
+ghost use Rattle.std.specs.List.{list_all};
+ghost use Rattle.tmw_defs.specs.Part.{is_unread};
+ghost use Rattle.tmw_part.specs.Names.{owner_in};
+ghost use Rattle.tmw_part.specs.Test.{are_placed, is_among, is_order_kept, is_part_at, is_row_kept, is_stay, without_number};
 
-use crate::left::{are_left_of, are_same_rows, may_go_whole};
-use crate::transaction::Transaction;
+use crate::follows::{precedes_at, text_at};
+use crate::left::{is_left_of, may_go_whole};
+use crate::names::owner_in;
+use crate::transaction::{Transaction, precedes};
 use std::alloc::{AllocError, Global};
 
 /// Whether the number is one of these.
@@ -11,13 +15,6 @@ fn is_among(number: usize, places: &[usize]) -> bool
     ensures { result ≡ is_among number places.now }
 {
     places.iter().any(|place| *place == number)
-}
-
-/// Whether each of these numbers is below the bound.
-fn are_below(bound: usize, places: &[usize]) -> bool
-    ensures { result ≡ are_below bound places.now }
-{
-    places.iter().all(|place| *place < bound)
 }
 
 /// Returns these numbers without the first that is this one.
@@ -45,16 +42,15 @@ fn are_placed(
     whole: &[Transaction],
 ) -> Result<bool, AllocError>
     ensures { IfOk result (λ are. are
-        ≡ are_placed (unread_in part.now) 0 places.now (txns_of whole.now)) }
+        ≡ are_placed (is_unread part.now) 0 places.now whole.now) }
 {
-    let mut open = Vec::new(alloc);
-    open.extend_from_slice(places)?;
+    let mut open = places.to_vec(alloc)?;
     let mut rest = whole;
     let mut number = 0;
     while let [transaction, more @ ..] = rest {
         if is_among(number, &open) {
             open = without_number(alloc, number, &open)?;
-        } else if !may_go_whole(alloc, part, transaction)? {
+        } else if !may_go_whole(part, &transaction.text) {
             return Ok(false);
         }
         number += 1;
@@ -63,42 +59,80 @@ fn are_placed(
     Ok(open.is_empty())
 }
 
-/// Returns those at these places of the whole.
-fn staying_of<'a>(
-    alloc: Global,
-    whole: &'a [Transaction],
+/// Whether the one of the part precedes the other just where that is so of those in which their events lie.
+fn is_order_kept(
     places: &[usize],
-) -> Result<Vec<&'a Transaction>, AllocError>
-    requires { All (λ place. place < length whole.now) places.now }
-    ensures { IfOk result (λ staying. shown staying.items
-        ≡ staying_of (txns_of whole.now) places.now) }
+    whole: &[Transaction],
+    one: &Transaction,
+    other: &Transaction,
+) -> bool
+    ensures { result ≡ is_order_kept (owner_in places.now whole.now) whole.now one.now other.now }
 {
-    let mut staying = Vec::new(alloc);
-    for place in places {
-        staying.push(&whole[*place])?;
-    }
-    Ok(staying)
+    let (first, second) = (owner_in(places, whole, one), owner_in(places, whole, other));
+    precedes_at(whole, first, second) == precedes(one, other)
 }
 
-/// Tells whether the one transactions are a part of the others, as what is left of those at these places.
-pub fn is_part(
+/// Whether real time orders each of the part and this one as it does those in which their events lie.
+fn is_row_kept(
+    places: &[usize],
+    whole: &[Transaction],
+    part: &[Transaction],
+    one: &Transaction,
+) -> bool
+    ensures { result ≡ is_row_kept (owner_in places.now whole.now) whole.now part.now one.now }
+{
+    part.iter()
+        .all(|other| is_order_kept(places, whole, other, one))
+}
+
+/// Whether a transaction of the part is left of the one in which its events lie, and has its place in real time.
+fn is_stay(places: &[usize], whole: &[Transaction], part: &[Transaction], one: &Transaction) -> bool
+    ensures { result ≡ is_stay (owner_in places.now whole.now) whole.now part.now one.now }
+{
+    is_left_of(
+        part,
+        &one.text,
+        text_at(whole, owner_in(places, whole, one)),
+    ) && is_row_kept(places, whole, part, one)
+}
+
+/// Whether each of the part is left of the one in which its events lie, and has its place in real time.
+fn are_stays(places: &[usize], whole: &[Transaction], part: &[Transaction]) -> bool
+    ensures { result
+        ≡ list_all (is_stay (owner_in places.now whole.now) whole.now part.now) part.now }
+{
+    part.iter().all(|one| is_stay(places, whole, part, one))
+}
+
+/// Returns the places in the whole of those in which the events of the part lie.
+fn owners(
+    alloc: Global,
+    places: &[usize],
+    whole: &[Transaction],
+    part: &[Transaction],
+) -> Result<Vec<usize>, AllocError>
+    ensures { IfOk result (λ owners. owners.items
+        ≡ map (owner_in places.now whole.now) part.now) }
+{
+    part.iter()
+        .map(|one| owner_in(places, whole, one))
+        .collect(alloc)
+}
+
+/// Tells whether the one transactions, whose events have these places among those of the others, are a part of these: each
+/// is what is left of the one in which its own events lie.
+pub(crate) fn is_part(
     alloc: Global,
     places: &[usize],
     part: &[Transaction],
     whole: &[Transaction],
 ) -> Result<bool, AllocError>
     ensures { IfOk result (λ is. is
-        ≡ is_part_at places.now (txns_of part.now) (txns_of whole.now)) }
+        ≡ is_part_at (owner_in places.now whole.now) part.now whole.now) }
 {
-    if !are_below(whole.len(), places) {
+    let owners = owners(alloc, places, whole, part)?;
+    if !are_placed(alloc, part, &owners, whole)? {
         return Ok(false);
     }
-    if !are_placed(alloc, part, places, whole)? {
-        return Ok(false);
-    }
-    let staying = staying_of(alloc, whole, places)?;
-    if !are_left_of(alloc, part, &staying)? {
-        return Ok(false);
-    }
-    Ok(are_same_rows(&staying, part))
+    Ok(are_stays(places, whole, part))
 }

@@ -1,9 +1,8 @@
-ghost use Rattle.std.specs.Prelude.{◌≡◌, ◌+◌, ◌<◌, ◌==◌, ◌^◌, ◌++◌, IfOk, IfSome, OnOk, length, position};
+ghost use Rattle.std.specs.Prelude.{◌≡◌, ◌+◌, ◌<◌, ◌==◌, ◌^◌, ◌++◌, IfOk, IfSome, OnOk, length, map, position};
 ghost use Rattle.tmw_defs.specs.History.{is_call};
-ghost use Rattle.tmw_part.specs.Pieces.{is_of};
-ghost use Rattle.tmw_part.specs.Pieces.{call_of, calls_from, pieces};
+ghost use Rattle.tmw_part.specs.Pieces.{call_of, calls_from, is_of, pieces, whole_of};
 
-use crate::transaction::transactions;
+use crate::transaction::{Transaction, transactions};
 use std::alloc::{AllocError, Global};
 use tmw_events::{Event, Ix, Kind};
 
@@ -75,19 +74,25 @@ pub fn push_calls(events: &[Event], pieces: &mut Vec<Piece>) -> Result<(), Alloc
     Ok(())
 }
 
+/// Each of these transactions as a piece.
+fn wholes(alloc: Global, transactions: &[Transaction]) -> Result<Vec<Piece>, AllocError>
+    ensures { IfOk result (λ all. all.items ≡ map whole_of transactions.now) }
+{
+    transactions
+        .iter()
+        .map(|one| Piece {
+            thread: one.thread.get(),
+            from: one.first,
+            upto: one.last,
+        })
+        .collect(alloc)
+}
+
 /// Returns the pieces of a window: its transactions, and then their calls, each with its answer if it has one.
 pub fn pieces(alloc: Global, events: &[Event]) -> Result<Vec<Piece>, AllocError>
     ensures { IfOk result (λ all. all.items ≡ pieces events.now) }
 {
-    let mut pieces = Vec::new(alloc);
-    let whole = transactions(alloc, events)?;
-    for transaction in &whole {
-        pieces.push(Piece {
-            thread: transaction.thread.get(),
-            from: transaction.first,
-            upto: transaction.last,
-        })?;
-    }
+    let mut pieces = wholes(alloc, &transactions(alloc, events)?)?;
     push_calls(events, &mut pieces)?;
     Ok(pieces)
 }

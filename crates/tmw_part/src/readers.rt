@@ -22,14 +22,10 @@ pub(crate) fn puts(register: Ix, value: u64, kind: Kind, next: Option<Kind>) -> 
 pub(crate) fn next_of(thread: Ix, events: &[Event]) -> Option<Kind>
     ensures { result ≡ next_of thread.number events.now }
 {
-    let mut rest = events;
-    while let [event, more @ ..] = rest {
-        if event.thread == thread {
-            return Some(event.kind);
-        }
-        rest = more;
-    }
-    None
+    events
+        .iter()
+        .find(|event| event.thread == thread)
+        .map(|event| event.kind)
 }
 
 /// Whether an event of the piece puts the value into the register.

@@ -1,17 +1,17 @@
 ghost use Rattle.std.specs.Prelude.{IfOk, IfSome};
 ghost use Rattle.tmw_defs.specs.History.{transactions};
-ghost use Rattle.tmw_part.specs.Found.{IsFound, IsPruned};
-ghost use Rattle.tmw_part.specs.Reasons.{ReasonLaw, ReasonTells};
-ghost use Rattle.tmw_part.specs.Shown.{txns_of};
+ghost use Rattle.tmw_part.specs.Reasons.{IsFound, IsPrunedIn, ReasonLaw, ReasonTells};
 
 use crate::candidates::candidates;
 use crate::close::close;
-use crate::drawn::{Drawn, draw};
+use crate::drawn::Drawn;
 use crate::ends::{ends, find_end};
-use crate::marks::{kept_of, owners, places_of};
+use crate::judged::Judged;
+use crate::marks::{kept_of, places_of};
+use crate::names::owner_in;
 use crate::prune::prune;
 use crate::step::{Contradiction, Step};
-use crate::transaction::{MOST_TRANSACTIONS, Transaction, transactions};
+use crate::transaction::{MOST_TRANSACTIONS, transactions};
 use std::alloc::{AllocError, Global};
 use tmw_cuts::State;
 use tmw_defs::Criterion;
@@ -28,22 +28,20 @@ pub struct Reason {
 
 /// Finds the steps of a reason, and what they come to, among those of these transactions of the window.
 fn find_steps(
-    criterion: Criterion,
     alloc: Global,
-    states: &[State],
-    window: &[Transaction],
+    judged: &Judged,
     drawn: &[Drawn],
 ) -> Result<Option<(Vec<Step>, Contradiction)>, AllocError>
-    ensures { let ts = txns_of window.now in IfOk result (λ found. IfSome found
-        (λ pair. IsPruned criterion states.now ts pair.0.items pair.1)) }
+    ensures { IfOk result (λ found. IfSome found
+        (λ pair. IsPrunedIn judged.now pair.1 pair.0.items)) }
 {
     let candidates = candidates(alloc, drawn)?;
-    let steps = close(criterion, alloc, states, window, &candidates)?;
-    let ends = ends(alloc, window, drawn)?;
-    let Some(end) = find_end(criterion, states, window, &steps, &ends) else {
+    let steps = close(alloc, judged, &candidates)?;
+    let ends = ends(alloc, judged.transactions, drawn)?;
+    let Some(end) = find_end(judged, &steps, &ends) else {
         return Ok(None);
     };
-    let kept = prune(criterion, alloc, states, window, steps, &end)?;
+    let kept = prune(alloc, judged, steps, &end)?;
     Ok(Some((kept, end)))
 }
 
@@ -65,9 +63,20 @@ pub fn find_reason(
         return Ok(None);
     }
     let part = transactions(alloc, &kept_of(alloc, marks, events)?)?;
-    let owners = owners(alloc, &places_of(alloc, marks)?, &part, &window)?;
-    let drawn = draw(alloc, &owners, &part)?;
-    let Some((steps, end)) = find_steps(criterion, alloc, states, &window, &drawn)? else {
+    let places = places_of(alloc, marks)?;
+    let drawn: Vec<Drawn> = part
+        .iter()
+        .map(|one| Drawn {
+            place: owner_in(&places, &window, one),
+            text: &one.text,
+        })
+        .collect(alloc)?;
+    let judged = Judged {
+        criterion,
+        states,
+        transactions: &window,
+    };
+    let Some((steps, end)) = find_steps(alloc, &judged, &drawn)? else {
         return Ok(None);
     };
     Ok(Some(Reason { steps, end }))

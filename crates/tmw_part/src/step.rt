@@ -1,7 +1,7 @@
 use tmw_events::Ix;
 
 /// Where a value comes from that a transaction read of a register. A transaction is given by its place among those of the window, from 0.
-#[derive(Clone, Copy)]
+#[derive(Clone, Copy, PartialEq, Eq)]
 pub struct Source {
     pub reader: usize,
     pub register: Ix,

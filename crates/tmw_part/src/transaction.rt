@@ -1,9 +1,11 @@
 ghost use Rattle.std.specs.Prelude.{◌≡◌, IfOk, OnOk, position};
+ghost use Rattle.std.specs.Iterator.{YieldsFirst, item_count};
 ghost use Rattle.tmw_defs.specs.History.{add_event, is_ended, operations, status_of, transactions};
 ghost use Rattle.tmw_defs.specs.Opaque.{precedes};
-ghost use Rattle.tmw_part.specs.Shown.{joins, txn_of, txns_of};
+ghost use Rattle.tmw_defs.proofs.OneMore.{joins};
 
 use std::alloc::{AllocError, Global};
+use std::marker::Model;
 use tmw_cuts::{operation, status_after};
 use tmw_defs::{Op, Status};
 use tmw_events::{Event, Ix, Kind};
@@ -20,19 +22,39 @@ pub struct Transaction {
     pub text: Vec<Kind>,
 }
 
-/// Returns the answered operations of a transaction, in order.
-pub fn operations(alloc: Global, text: &[Kind]) -> Result<Vec<Op>, AllocError>
-    ensures { IfOk result (λ ops. ops.items ≡ operations text.now) }
-{
-    let mut ops = Vec::new(alloc);
-    let mut rest = text;
-    while let [call, answer, more @ ..] = rest {
-        if let Some(op) = operation(*call, *answer) {
-            ops.push(op)?;
+impl Model for Transaction {
+    ghost use Rattle.tmw_defs.specs.History.{Txn};
+
+    ghost Value = { Txn };
+
+    ghost view = { λ t. record {
+      thread = t.thread.number;
+      first = t.first;
+      last = t.last;
+      text = t.text.items;
+    } };
+}
+
+/// The answered operations of a transaction with this text, in order.
+#[derive(Drop)]
+pub(crate) struct Operations<'a>(pub &'a [Kind]);
+
+impl Iterator for Operations<'_> {
+    type Item = Op;
+
+    ghost next_gives = { YieldsFirst (λ ops. operations ops.0.now) };
+
+    ghost remaining = { item_count (λ ops. operations ops.0.now) };
+
+    fn next(&mut self) -> Option<Op> {
+        while let [call, answer, more @ ..] = self.0 {
+            self.0 = more;
+            if let Some(op) = operation(*call, *answer) {
+                return Some(op);
+            }
         }
-        rest = more;
+        None
     }
-    Ok(ops)
 }
 
 /// Returns the status of a transaction with this text, by its last event.
@@ -52,17 +74,17 @@ fn is_ended(text: &[Kind]) -> bool
 /// Tells whether the one precedes the other in real time: it is completed, and its last event is before the other's
 /// first.
 pub fn precedes(one: &Transaction, other: &Transaction) -> bool
-    ensures { result ≡ precedes (txn_of one.now) (txn_of other.now) }
+    ensures { result ≡ precedes one.now other.now }
 {
     is_ended(&one.text) && one.last < other.first
 }
 
-/// The place of the thread's transaction that has not ended, if it has one.
-fn open_transaction(list: &[Transaction], thread: Ix) -> Option<usize>
-    ensures { result ≡ position (joins thread.number) list.now }
+/// The place of the transaction of the event's thread that has not ended, if it has one.
+fn open_transaction(list: &[Transaction], event: &Event) -> Option<usize>
+    ensures { result ≡ position (joins event.now) list.now }
 {
     list.iter()
-        .position(|one| one.thread == thread && !is_ended(&one.text))
+        .position(|one| one.thread == event.thread && !is_ended(&one.text))
 }
 
 /// Adds the event at this place of the history to its transaction, or begins one.
@@ -72,10 +94,9 @@ fn add(
     place: usize,
     event: &Event,
 ) -> Result<(), AllocError>
-    ensures { OnOk result (txns_of list.new.items
-        ≡ add_event place event.now (txns_of list.old.items)) }
+    ensures { OnOk result (list.new.items ≡ add_event place event.now list.old.items) }
 {
-    match open_transaction(list, event.thread) {
+    match open_transaction(list, event) {
         Some(index) => {
             let open = &mut list[index];
             open.text.push(event.kind)?;
@@ -97,7 +118,7 @@ fn add(
 
 /// Returns the transactions of a history, in the order of their first events.
 pub fn transactions(alloc: Global, events: &[Event]) -> Result<Vec<Transaction>, AllocError>
-    ensures { IfOk result (λ list. txns_of list.items ≡ transactions events.now) }
+    ensures { IfOk result (λ list. list.items ≡ transactions events.now) }
 {
     let mut list = Vec::new(alloc);
     for (place, event) in events.iter().enumerate() {

@@ -1,13 +1,12 @@
 ghost use Rattle.std.specs.Prelude.{ℕ, List, [], ◌∷◌, ◌++◌, IfOk, IfSome, IfNone, IsTrue, IsFalse};
 ghost use Rattle.tmw_events.specs.declared.event.Event.{Event};
-ghost use Rattle.tmw_cuts.specs.Members.{members};
-ghost use Rattle.tmw_part.specs.Finding.{TellsViolated};
+ghost use Rattle.tmw_part.specs.Finding.{TellsIn};
 ghost use Rattle.tmw_part.specs.Taking.{AreTaken, AreUnfit};
 
+use crate::search::Search;
 use crate::transaction::MOST_TRANSACTIONS;
-use std::alloc::{AllocError, Global};
-use tmw_cuts::{States, Window};
-use tmw_defs::Criterion;
+use std::alloc::AllocError;
+use tmw_cuts::Window;
 use tmw_events::{Event, Registers};
 use tmw_search::possible;
 
@@ -44,20 +43,13 @@ fn window_of(registers: Registers, events: &[Event]) -> Option<Window>
     Some(window)
 }
 
-/// Tells whether the events are violated: they are well-formed, have at most eight transactions, and these have no
+/// Tells whether these events are violated: they are well-formed, have at most eight transactions, and these have no
 /// serial order from any of the states.
-pub fn is_violated(
-    criterion: Criterion,
-    alloc: Global,
-    registers: Registers,
-    states: &States,
-    events: &[Event],
-) -> Result<bool, AllocError>
-    ensures { IfOk result (TellsViolated criterion registers.number (members states.now)
-        events.now) }
+pub(crate) fn is_violated(search: &Search, events: &[Event]) -> Result<bool, AllocError>
+    ensures { IfOk result (TellsIn search.now events.now) }
 {
-    let Some(window) = window_of(registers, events) else {
+    let Some(window) = window_of(search.registers, events) else {
         return Ok(false);
     };
-    Ok(!possible(criterion, alloc, states, &window)?)
+    Ok(!possible(search.criterion, search.alloc, search.states, &window)?)
 }

@@ -1,5 +1,5 @@
 -- An event joins the first of its thread's transactions that has not ended, or begins one, as the code finds it.
-use Rattle.tmw_plain_check.proofs.Shared.{Event, List, None, Some, Transaction, [], add_event, ap, arith, cases_Bool, false, get_or, inl, inr, joins, length, ltb-false, nat_lt, position, position_or_len, refl, slice_set, suc, sym, true, txn_of, txns_of, zero, ℕ, ◌++◌, ◌<◌, ◌∙◌, ◌∷◌, ◌≡◌, ◌≤◌}
+use Rattle.tmw_plain_check.proofs.Shared.{Event, List, None, Some, Transaction, [], add_event, ap, arith, cases_Bool, false, get_or, joins, length, ltb-false, nat_lt, position, position_or_len, refl, slice_set, suc, sym, true, txn_of, txns_of, zero, ℕ, ◌++◌, ◌<◌, ◌∙◌, ◌∷◌, ◌≡◌}
 use Rattle.std.proofs.lemmas.List.Sums.{fails_before_first}
 use Rattle.std.proofs.lemmas.List.Quantifiers.{position-Some}
 
@@ -39,19 +39,21 @@ pub add_event-position : (place : ℕ) (e : Event) (ts : List Transaction) (i : 
     → txn_of new ≡ record (txn_of old) { last = place; text = old.text.items ++ e.kind ∷ [] }
     → txns_of (slice_set ts i new) ≡ add_event place e (txns_of ts)
 add_event-position place e ts i old new found at is =
-    let (within, here, before) = position-Some (joins e.thread.number) ts i old (sym found) in
-    add_event-at place e ts i old new within here before (rw (← at) is)
+    grind (arith, position-Some, joins, add_event-at)
 
 pub add_event-nowhere : (place : ℕ) (e : Event) (ts : List Transaction) (new : Transaction)
     → None ≡ position (joins e.thread.number) ts
     → txn_of new ≡ record { thread = e.thread.number; first = place; last = place; text = e.kind ∷ [] }
     → txns_of (ts ++ new ∷ []) ≡ add_event place e (txns_of ts)
 add_event-nowhere place e ts new nowhere is =
-    let at_end : nat_lt (position_or_len (joins e.thread.number) ts) (length ts) ≡ false =
-    elim (cases_Bool (nat_lt (position_or_len (joins e.thread.number) ts) (length ts))) [
-      | inl below ↦ let found : None ≡ Some (position_or_len (joins e.thread.number) ts) = nowhere ∙ rw below refl in (cc)
-      | inr past ↦ past
-    ]
-    in
-    let past : length ts ≤ position_or_len (joins e.thread.number) ts = ltb-false _ _ at_end in
-    add_event-none place e ts new (λ k d h. fails_before_first (joins e.thread.number) ts k d (omega arith)) is
+    grind (
+      arith,
+      nat_lt,
+      position_or_len,
+      joins,
+      length,
+      cases_Bool,
+      ltb-false,
+      add_event-none,
+      fails_before_first,
+    )

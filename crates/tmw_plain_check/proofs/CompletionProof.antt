@@ -1,5 +1,5 @@
 -- The search through completions is sound and complete: it answers true exactly where the transactions have a strict order.
-use Rattle.tmw_plain_check.proofs.Shared.{AreHeld, HasOrder, HasStrictOrder, IsTrue, List, State, Txn, [], and_from, and_parts, ap, append-nil, append_assoc, false, goes_with, has_completion, inl, inr, is_explained-complete, is_explained-sound, may_hold, or_cases, or_left, or_right, refl, status_of, sym, true, ◌&&◌, ◌++◌, ◌∙◌, ◌∷◌, ◌≡◌}
+use Rattle.tmw_plain_check.proofs.Shared.{AreHeld, HasOrder, HasStrictOrder, IsTrue, List, State, Txn, [], and_from, and_parts, ap, append-nil, append_assoc, false, goes_with, has_completion, inl, inr, is_explained-complete, is_explained-sound, may_hold, or_cases, or_left, or_right, refl, status_of, sym, true, ◌&&◌, ◌++◌, ◌∙◌, ◌∷◌, ◌≡◌, arith}
 use Rattle.tmw_plain_check.proofs.StrictOrders.{strict-held}
 
 -- what is held behind members has, with them, a legal serial order
@@ -16,14 +16,12 @@ goes_with-sound s members (t ∷ ts) goes =
           (t ∷ held, inr (may, held, refl, are), rw append_assoc at ordered)
       | inr way ↦
           let (may, more) = and_parts (may_hold (status_of t.text) false) _ way in
-          let (held, are, ordered) = goes_with-sound s members ts more in
-          (held, inl (may, are), ordered)
+          grind (arith, (goes_with-sound s members ts more))
     ]
 
 goes_with-complete : (s : State) (members ts held : List Txn) → AreHeld ts held → HasOrder s (members ++ held) → IsTrue (goes_with s members ts)
 goes_with-complete s members [] held are ordered =
-    let none : members ++ held ≡ members = ap (λ (xs : List Txn). members ++ xs) are ∙ append-nil members in
-    is_explained-complete s members (rw none at ordered)
+    grind (arith, append-nil, is_explained-complete)
 goes_with-complete s members (t ∷ ts) held are ordered =
     elim are [
       | inl out ↦

@@ -1,11 +1,10 @@
 -- The steps of the search for a serial order, as the code makes them.
-use Rattle.tmw_plain_check.proofs.Shared.{Bool, Bor, IfOk, IfOk-weaker, IsTrue, List, Result, Some, State, Transaction, Txn, [], after_writes, ap, arith, drop, drop-map, false, found_below, has_order, is_explained, is_free, length, map-append, may_come, may_hold, ne_eqb, one_below, operations, reads_hold, refl, remove, shown, slice_get, slice_get-map, slice_get_within, status_of, suc, sym, take, take-map, true, txn_of, ℕ, ◌&&◌, ◌+◌, ◌-◌, ◌<◌, ◌==◌, ◌||◌, ◌∙◌, ◌∷◌, ◌≡◌}
+use Rattle.tmw_plain_check.proofs.Shared.{Bool, Bor, IfOk, IfOk-weaker, IsTrue, List, Result, Some, State, Transaction, Txn, after_writes, ap, arith, drop, drop-map, false, found_below, has_order, is_explained, is_free, length, map-append, may_come, may_hold, ne_eqb, one_below, operations, reads_hold, refl, remove, shown, slice_get, slice_get-map, slice_get_within, status_of, suc, take, take-map, true, txn_of, ℕ, ◌&&◌, ◌+◌, ◌-◌, ◌<◌, ◌==◌, ◌||◌, ◌∙◌, ◌≡◌}
 use Rattle.std.specs.Option.{option_map}
 use Rattle.std.proofs.lemmas.List.Edits.{length-remove}
 
 pub shown-remove : (ws : List (Bor Transaction)) (i : ℕ) → shown (remove ws i) ≡ remove (shown ws) i
-shown-remove ws i =
-    map-append (λ t. txn_of t.now) (take i ws) (drop (suc i) ws) ∙ rw (take-map, drop-map) refl
+shown-remove ws i = grind (arith, map-append, txn_of, take, drop, take-map, drop-map)
 
 -- the transaction that a reference at a place shows
 pub shown_at : (ws : List (Bor Transaction)) (i : ℕ) (w : Bor Transaction) → slice_get ws i ≡ Some w
@@ -20,18 +19,13 @@ pub explained_found : (s : State) (ts : List Txn) (n i : ℕ) → n ≡ length t
     → IsTrue (may_come (has_order (n - 1)) s ts i) → IsTrue (is_explained s ts)
 explained_found s ts n i size below may =
     let step : has_order n s ts ≡ one_below (has_order (n - 1)) s ts n = has_order-suc n (n - 1) s ts (omega arith) in
-    let found : IsTrue (has_order n s ts) = step ∙ found_below (has_order (n - 1)) s ts n i below may in
-    rw (← size) found
+    grind (arith, has_order, found_below)
 
 -- none of them can, so they have one only if there are none
 pub explained_none : (s : State) (ts : List Txn) (n : ℕ) → n ≡ length ts
     → one_below (has_order (n - 1)) s ts n ≡ false → (n == 0) ≡ is_explained s ts
-explained_none s [] n size none_below = rw size refl
-explained_none s (t ∷ ts) n size none_below =
-    let step : has_order n s (t ∷ ts) ≡ one_below (has_order (n - 1)) s (t ∷ ts) n = has_order-suc n (n - 1) s (t ∷ ts) (omega arith) in
-    let some : (n == 0) ≡ false = ne_eqb n 0 (λ zero_left. omega arith) in
-    let searched : has_order n s (t ∷ ts) ≡ is_explained s (t ∷ ts) = ap (λ k. has_order k s (t ∷ ts)) size in
-    some ∙ sym none_below ∙ sym step ∙ searched
+explained_none s ts n size none_below =
+    grind (arith, has_order, one_below, has_order-suc, ne_eqb, is_explained)
 
 -- what it takes for the one at a place to come first
 pub may_come-at : (s : State) (ts rest : List Txn) (n i : ℕ) (t : Txn) → n ≡ length ts → slice_get ts i ≡ Some t
@@ -42,8 +36,7 @@ pub may_come-at : (s : State) (ts rest : List Txn) (n i : ℕ) (t : Txn) → n �
     || may_hold (status_of t.text) false && is_explained s rest))
 may_come-at s ts rest n i t size at is =
     let one_less : length (remove ts i) + 1 ≡ length ts = length-remove ts i (slice_get_within ts i t at) in
-    let left : n - 1 ≡ length rest = rw is (omega arith) in
-    rw (at, ← is, left) refl
+    let left : n - 1 ≡ length rest = rw is (omega arith) in cc
 
 -- the answer of the code that tried the one at a place
 pub may_come-whole : {E : Type 0} (s after : State) (ts rest : List Txn) (n i : ℕ) (t : Txn) (r : Result Bool E)

@@ -1,5 +1,5 @@
 -- Transactions that have a legal serial order have one of what a completion of them holds: those that it leaves out change nothing.
-use Rattle.tmw_plain_check.proofs.Shared.{AreHeld, Explains, HasOrder, HasStrictOrder, IsTrue, List, Placed, Some, State, Txn, [], after, and_from, and_parts, ap, cases_Bool, false, inl, inr, list_all, may_hold, not, precedes, refl, remove, slice_get, status_of, subst, suc, sym, true, zero, ℕ, ◌∙◌, ◌∷◌, ◌≡◌}
+use Rattle.tmw_plain_check.proofs.Shared.{AreHeld, Explains, HasOrder, HasStrictOrder, IsTrue, List, Placed, Some, State, Txn, [], after, and_from, and_parts, ap, cases_Bool, false, inl, inr, list_all, may_hold, not, precedes, refl, remove, slice_get, status_of, subst, suc, sym, true, zero, ℕ, ◌∙◌, ◌∷◌, ◌≡◌, arith}
 use Rattle.tmw_defs.proofs.Held.{list_all-held}
 use Rattle.tmw_defs.proofs.Removals.{list_all-places}
 
@@ -24,9 +24,7 @@ held-twice (t ∷ ts) members kept are others =
 held-without : (ts : List Txn) (i : ℕ) (t : Txn) (members : List Txn) → slice_get ts i ≡ Some t → IsTrue (may_hold (status_of t.text) false)
     → AreHeld (remove ts i) members → AreHeld ts members
 held-without [] i t members at may are = absurd (cc)
-held-without (u ∷ ts) zero t members at may are =
-    let same : u ≡ t = cc in
-    inl (rw same may, are)
+held-without (u ∷ ts) zero t members at may are = grind arith
 held-without (u ∷ ts) (suc i) t members at may are =
     elim are [
       | inl out ↦ inl (out.0, held-without ts i t members at may out.1)
@@ -51,9 +49,7 @@ held-with (u ∷ ts) zero t members at may are =
     record { more = u ∷ members; are = inr (rw same may, members, refl, are); place = 0; at = at; others = refl }
 held-with (u ∷ ts) (suc i) t members at may are =
     elim are [
-      | inl out ↦
-          let too = held-with ts i t members at may out.1 in
-          record { more = too.more; are = inl (out.0, too.are); place = too.place; at = too.at; others = too.others }
+      | inl out ↦ grind (arith, (held-with ts i t members at may out.1))
       | inr held ↦
           let (may_too, rest, is, last) = held in
           let too = held-with ts i t rest at may last in
@@ -68,15 +64,7 @@ held-with (u ∷ ts) (suc i) t members at may are =
 
 -- the order with those that the completion leaves out taken out
 order-held : (s : State) (ts : List Txn) (order : List Placed) → Explains s ts order → HasStrictOrder s ts
-order-held s ts [] explains = (
-  [],
-  record {
-    members = [];
-    are = rw explains.each refl;
-    explains = record { each = refl; kept = refl; completed = refl; legal = refl };
-    held = refl;
-  },
-)
+order-held s ts [] explains = grind arith
 order-held s ts (p ∷ order) explains =
     let (i, at, each) = explains.each in
     let (first, kept) = and_parts _ _ explains.kept in
@@ -125,7 +113,4 @@ strict-opaque s ts (order, explains) = order-held s ts order explains
 -- and to be strict it is enough that what some completion holds has a legal serial order
 pub strict-held : (s : State) (ts members : List Txn) → AreHeld ts members → HasOrder s members → HasStrictOrder s ts
 strict-held s ts members are ordered =
-    let (order, a) = strict-opaque s members ordered in (
-      order,
-      record { members = a.members; are = held-twice ts members a.members are a.are; explains = a.explains; held = a.held },
-    )
+    let (order, a) = strict-opaque s members ordered in grind (arith, held-twice)

@@ -1,9 +1,9 @@
 -- From what is found of one prefix to the answer for the history.
-use Rattle.tmw_plain_check.proofs.Shared.{Bool, Criterion, Err, Event, HasNinth, HasOrderBy, IsFalse, IsFaultless, IsFirstAtFault, IsNotFinal, IsTrue, JudgesBy, List, Ok, State, Transaction, Txn, Weighs, [], ap, arith, both_ways, cases_lt, false, has_completion, inl, inr, is_explained, is_explained-complete, is_explained-sound, is_well_formed, length, length-map, length-take, refl, subst, sym, take, transactions, true, txns_of, ℕ, ◌+◌, ◌<◌, ◌∙◌, ◌≡◌, ◌≤◌}
+use Rattle.tmw_plain_check.proofs.Shared.{Bool, Criterion, Err, Event, HasOrderBy, IsFalse, IsFaultless, IsFirstAtFault, IsNotFinal, IsTrue, JudgesBy, List, Ok, State, Transaction, Txn, Weighs, [], ap, arith, both_ways, cases_lt, false, has_completion, is_explained, is_explained-complete, is_explained-sound, is_well_formed, length, length-map, length-take, refl, take, transactions, true, txns_of, ℕ, ◌+◌, ◌<◌, ◌∙◌, ◌≡◌, ◌≤◌}
 use Rattle.tmw_defs.specs.declared.criterion.Criterion.TheVariants.{Opacity, Strict}
 use Rattle.tmw_defs.specs.Criteria.{IsFinalBy}
 use Rattle.tmw_plain_check.specs.declared.whole.WholeFault.{WholeFault}
-use Rattle.tmw_plain_check.specs.declared.whole.WholeFault.TheVariants.{IllFormed, Ninth, Memory}
+use Rattle.tmw_plain_check.specs.declared.whole.WholeFault.TheVariants.{IllFormed}
 use Rattle.tmw_plain_check.proofs.CompletionProof.{has_completion-sound, has_completion-complete}
 
 -- what a history is asked by a criterion: to be well-formed, and that its transactions have an order
@@ -19,18 +19,14 @@ final_ordered Strict registers start h final = final.ordered
 -- no transactions have an order
 no_transactions : (c : Criterion) (start : State) → HasOrderBy c start []
 no_transactions Opacity start = ([], record { each = refl; kept = refl; completed = refl; legal = refl })
-no_transactions Strict start = (
-  [],
-  record { members = []; are = refl; explains = record { each = refl; kept = refl; completed = refl; legal = refl }; held = refl },
-)
+no_transactions Strict start = grind arith
 
 -- what a search for an order decides of a history of at most eight transactions
 weighs_decided : (c : Criterion) (start : State) (history : List Event) (decide : List Txn → Bool) (found : Bool)
     → ((ts : List Txn) → IsTrue (decide ts) → HasOrderBy c start ts) → ((ts : List Txn) → HasOrderBy c start ts → IsTrue (decide ts))
     → length (transactions history) ≤ 8 → found ≡ decide (transactions history) → Weighs c start history (Ok found)
-weighs_decided c start history decide true sound complete few is = (few, sound (transactions history) (sym is))
-weighs_decided c start history decide false sound complete few is =
-    (few, λ ordered. both_ways _ (sym is) (complete (transactions history) ordered))
+weighs_decided c start history decide found sound complete few is =
+    grind (arith, transactions, both_ways)
 
 module _ (start : State) (history : List Event) (list : List Transaction) (found : Bool)
     (shown : txns_of list ≡ transactions history) (few : length list ≤ 8) where
@@ -59,39 +55,23 @@ pub faultless_below_more : (c : Criterion) (registers : ℕ) (start : State) (hi
     → IsTrue (is_well_formed registers (take m history)) → Weighs c start (take m history) (Ok true)
     → FaultlessBelow c registers start history (m + 1)
 faultless_below_more c registers start history m before formed (few, ordered) k within =
-    elim (cases_lt k m) [
-      | inl shorter ↦ before k shorter
-      | inr past ↦
-          let last : k ≡ m = omega arith in
-          rw last (record { few = few; final = final-from c registers start (take m history) formed ordered })
-    ]
+    grind (arith, cases_lt, final-from, take)
 
 -- a fault of the first prefix that has one is the answer
 pub judges_ill_formed : (c : Criterion) (registers : ℕ) (start : State) (history : List Event) (m : ℕ) → m ≤ length history
     → FaultlessBelow c registers start history m → IsFalse (is_well_formed registers (take m history))
     → JudgesBy c registers start history (Err (IllFormed m))
-judges_ill_formed c registers start history m within before ill_formed = record {
-  within = within;
-  here = record { ill_formed = ill_formed };
-  before = before;
-}
+judges_ill_formed c registers start history m within before ill_formed = grind arith
 
 pub judges_weighed : (c : Criterion) (registers : ℕ) (start : State) (history : List Event) (m : ℕ) (fault : WholeFault) → m ≤ length history
     → FaultlessBelow c registers start history m → IsTrue (is_well_formed registers (take m history))
     → Weighs c start (take m history) (Err fault)
     → JudgesBy c registers start history (Err fault)
-judges_weighed c registers start history m (IllFormed k) within before formed never = absurd never
-judges_weighed c registers start history m (Ninth k) within before formed (size, ninth) =
-    let same : m ≡ k = omega (arith, length-take m history) in
-    subst (IsFirstAtFault HasNinth c registers start history) same
-    (record { within = within; here = record { formed = formed; ninth = ninth }; before = before })
-judges_weighed c registers start history m Memory within before formed weighs = tt
+judges_weighed c registers start history m fault within before formed never =
+    grind (arith, length-take)
 
 pub judges_violated : (c : Criterion) (registers : ℕ) (start : State) (history : List Event) (m : ℕ) → m ≤ length history
     → FaultlessBelow c registers start history m → IsTrue (is_well_formed registers (take m history)) → Weighs c start (take m history) (Ok false)
     → IsFirstAtFault IsNotFinal c registers start history m
-judges_violated c registers start history m within before formed (few, unordered) = record {
-  within = within;
-  here = record { formed = formed; few = few; not_final = λ final. unordered (final_ordered c registers start (take m history) final) };
-  before = before;
-}
+judges_violated c registers start history m within before formed (few, unordered) =
+    grind (arith, final_ordered, take)

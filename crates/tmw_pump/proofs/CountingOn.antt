@@ -1,5 +1,5 @@
 -- What was counted of a judged front before and after one event more is judged.
-use Rattle.tmw_pump.proofs.Shared.{Criterion, Event, Fits, IsFalse, IsOpen, IsTrue, IsVerdict, List, Malformed, Monitor, OpaqueSoFar, Rules, StrictSoFar, Undecided, Verdict, Violated, WasCounted, [], ap, both_ways, cases_Bool, criterion_of, false, inl, inr, is_open, part_by, refl, so_far, subst, sym, true, verdict-one, verdict_of, ℕ, ∥∥₁_map, ◌++◌, ◌∙◌, ◌∷◌, ◌≡◌}
+use Rattle.tmw_pump.proofs.Shared.{Criterion, Event, Fits, IsFalse, IsOpen, IsTrue, IsVerdict, List, Monitor, Rules, Verdict, WasCounted, [], ap, both_ways, cases_Bool, criterion_of, false, inl, inr, is_open, part_by, refl, so_far, subst, sym, true, verdict-one, verdict_of, ℕ, ∥∥₁_map, ◌++◌, ◌∙◌, ◌∷◌, ◌≡◌, arith, rules}
 use Rattle.tmw_counts.specs.Counting.{CountsSo}
 use Rattle.tmw_counts.specs.declared.counter.Counter.{Counter}
 use Rattle.tmw_counts.proofs.Covered.{counted-more, part-none, stays}
@@ -8,11 +8,7 @@ use Rattle.tmw_defs.specs.History.{is_well_formed}
 -- a verdict that nothing is wrong is the criterion's
 is_so_far : (rules : Rules) (h : List Event) (c : Criterion) (v : Verdict) → c ≡ rules.criterion → is_open v ≡ true → IsVerdict rules h v
     → v ≡ so_far c
-is_so_far rules h c OpaqueSoFar same is judged = sym (ap so_far (same ∙ judged.0))
-is_so_far rules h c StrictSoFar same is judged = sym (ap so_far (same ∙ judged.0))
-is_so_far rules h c (Violated m) same is judged = absurd (cc)
-is_so_far rules h c (Undecided m why) same is judged = absurd (cc)
-is_so_far rules h c (Malformed m) same is judged = absurd (cc)
+is_so_far rules h c v same is judged = grind (arith, so_far)
 
 module _ (h : List Event) (before after : Monitor) (criterion : criterion_of after ≡ criterion_of before) where
   -- a monitor with the same verdict was open before
@@ -76,10 +72,5 @@ module _ (h : List Event) (before after : Monitor) (criterion : criterion_of aft
 -- before the first event
 pub counted_none : (monitor : Monitor) (counter : Counter) (rules : Rules) (registers : ℕ) → Fits rules [] monitor
     → CountsSo registers [] counter → (IsOpen monitor → registers ≡ rules.registers) → WasCounted [] monitor counter
-counted_none monitor counter rules registers fits counts same = record {
-  rules = rules;
-  fits = fits;
-  registers = registers;
-  counts = subst (λ (xs : List Event). CountsSo registers xs counter) (sym (part-none (verdict_of monitor))) counts;
-  same = same;
-}
+counted_none monitor counter rules registers fits counts same =
+    grind (arith, part-none, verdict_of)

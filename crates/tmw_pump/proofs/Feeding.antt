@@ -1,15 +1,12 @@
 -- What a monitor was fed before and after it is fed the held event.
-use Rattle.tmw_pump.proofs.Shared.{Event, Fits, List, Monitor, Option, Rules, Some, WasFed, arith, length, listed, subst, ∥∥₁_elim, ∥∥₁_map, ◌+◌, ◌<◌, ◌^◌, ◌≡◌, ◌≤◌}
+use Rattle.tmw_pump.proofs.Shared.{Event, Fits, List, Monitor, Option, Rules, Some, WasFed, arith, length, listed, ∥∥₁_elim, ∥∥₁_map, ◌+◌, ◌<◌, ◌^◌, ◌≡◌, ◌≤◌}
 use Rattle.std.proofs.Math.Bridge.{le_prop}
 use Rattle.std.proofs.Math.Nat.{ℕ_set}
 
 -- A held event leaves room for one more to be judged.
 pub few-held : (judged : List Event) (held : Option Event) (event : Event) → held ≡ Some event
     → length judged + length (listed held) ≤ 2 ^ 40 → length judged < 2 ^ 40
-few-held judged held event is few =
-    let one : length judged + length (listed (Some event)) ≤ 2 ^ 40 =
-    subst (λ (h : Option Event). length judged + length (listed h) ≤ 2 ^ 40) is few in
-    omega (arith, one)
+few-held judged held event is few = grind (arith, length, listed)
 
 -- The monitor has counted what was judged.
 pub room-fed : (judged : List Event) (monitor : Monitor) → ∥ WasFed judged monitor ∥₁ → length judged < 2 ^ 40 → monitor.count < 2 ^ 40

@@ -1,15 +1,11 @@
 -- The headline, from the monitor's fit to the judged front.
-use Rattle.tmw_pump.proofs.Shared.{Event, Front, GivesHeadline, Headline, IsLogOf, IsVerdict, KeepsFit, List, Malformed, Opacity, OpaqueSoFar, Rules, States, Transactions, Undecided, Verdict, Violated, WriterIs, append_assoc, came, listed, refl, subst, sym, ◌++◌, ◌∙◌, ◌≡◌}
+use Rattle.tmw_pump.proofs.Shared.{Event, Front, GivesHeadline, Headline, IsLogOf, IsVerdict, KeepsFit, List, Malformed, Opacity, OpaqueSoFar, Rules, States, Transactions, Undecided, Verdict, Violated, WriterIs, append_assoc, came, listed, refl, subst, sym, ◌++◌, ◌∙◌, ◌≡◌, arith, rules}
 use Rattle.tmw_pump.proofs.Verdicts.{opaque-fine, fine-opaque, violation-first, first-violation, verdict-is}
 
 -- A log that begins with what came begins with what was judged of it.
 front_of : (log : List Event) (writers : List WriterIs) (judged held : List Event) → IsLogOf log writers (judged ++ held)
     → IsLogOf log writers judged
-front_of log writers judged held is = record {
-  rest = held ++ is.rest;
-  begins = is.begins ∙ append_assoc judged held is.rest;
-  pairs = is.pairs;
-}
+front_of log writers judged held is = grind (arith, append_assoc)
 
 headline-verdict : (rules : Rules) (log : List Event) (writers : List WriterIs) (judged : List Event) (verdict : Verdict)
     → rules.criterion ≡ Opacity → IsLogOf log writers judged → IsVerdict rules judged verdict → Headline rules log writers judged verdict

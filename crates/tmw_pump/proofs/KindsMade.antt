@@ -1,5 +1,5 @@
 -- The kinds of the events for which places were claimed: of one list of places behind another, and of a writer's places in a log.
-use Rattle.tmw_pump.proofs.Shared.{Event, List, [], ap, cases_Bool, inl, inr, made_from, refl, ℕ, ◌++◌, ◌+◌, ◌==◌, ◌∷◌, ◌≡◌}
+use Rattle.tmw_pump.proofs.Shared.{Event, List, [], ap, cases_Bool, made_from, refl, ℕ, ◌++◌, ◌+◌, ◌∷◌, ◌≡◌, arith}
 use Rattle.tmw_defs.specs.Texts.{kinds_of}
 use Rattle.tmw_events.specs.declared.event.Kind.{Kind}
 use Rattle.tmw_pump.specs.Kinds.{kinds_made}
@@ -13,8 +13,4 @@ kinds_made-append (made ∷ old) fresh = ap (λ (kinds : List Kind). made.event.
 pub kinds_made-made_from : (writer place : ℕ) (log : List Event) → kinds_made (made_from writer place log) ≡ kinds_of writer log
 kinds_made-made_from writer place [] = refl
 kinds_made-made_from writer place (event ∷ log) =
-    let rest = kinds_made-made_from writer (place + 1) log in
-    elim (cases_Bool (event.thread.number == writer)) [
-      | inl own ↦ rw own (ap (λ (l : List Kind). event.kind ∷ l) rest)
-      | inr other ↦ rw other rest
-    ]
+    grind (arith, cases_Bool, (kinds_made-made_from writer (place + 1) log))

@@ -1,8 +1,7 @@
 -- What each verdict says of a history in the field's words, from the definition of the verdict.
-use Rattle.tmw_pump.proofs.Shared.{Criterion, Event, HasMany, IsFinalBy, IsFirst, IsFirstViolation, IsTooMany, IsVerdict, IsViolated, IsWithinBounds, List, Opacity, OpaqueSoFar, Rules, States, Undecided, Verdict, Violated, arith, cases_lt, inl, inr, length, subst, sym, verdict-one, ℕ, ◌↔◌, ◌≡◌}
+use Rattle.tmw_pump.proofs.Shared.{Criterion, Event, HasMany, IsFinalBy, IsFirst, IsFirstViolation, IsTooMany, IsVerdict, IsViolated, IsWithinBounds, List, Opacity, OpaqueSoFar, Rules, States, Undecided, Verdict, Violated, arith, cases_lt, inl, inr, length, subst, sym, verdict-one, ℕ, ◌↔◌, ◌≡◌, rules}
 use Rattle.std.specs.Prelude.{take}
 use Rattle.tmw_defs.specs.Opaque.{IsFinalOpaque, IsOpaque}
-use Rattle.tmw_defs.specs.Windows.{HasWide}
 
 -- Where the criterion is opacity, final-state opacity is what is asked of a prefix.
 final-opaque : (rules : Rules) (h : List Event) → rules.criterion ≡ Opacity → IsFinalBy rules.criterion rules.registers rules.start h
@@ -21,23 +20,12 @@ opaque-fine rules h (opacity, fine) =
 
 pub fine-opaque : (rules : Rules) (h : List Event) → rules.criterion ≡ Opacity
     → IsOpaque rules.registers rules.start h × IsWithinBounds rules h (length h) → IsVerdict rules h OpaqueSoFar
-fine-opaque rules h opacity (opaque, bounds) = (
-  opacity,
-  λ k within. record {
-    narrow = (bounds k within).0;
-    few = (bounds k within).1;
-    final = opaque-final rules (take k h) opacity (opaque k within);
-  },
-)
+fine-opaque rules h opacity (opaque, bounds) = grind (arith, opaque-final, take)
 
 -- A history that is violated at a length has not too many outcomes there: else it would be undecided.
 few-violated : (rules : Rules) (h : List Event) (m : ℕ) → IsFirst IsViolated rules h m → HasMany rules (take m h) → ⊥
 few-violated rules h m first many =
-    let undecided : IsFirst IsTooMany rules h m = record {
-      within = first.within;
-      here = record { formed = first.here.formed; narrow = first.here.narrow; many = many };
-      before = first.before;
-    } in
+    let undecided : IsFirst IsTooMany rules h m = grind arith in
     absurd (cc (verdict-one rules h (Violated m) (Undecided m States) first undecided))
 
 -- violated
@@ -52,27 +40,14 @@ violation-first rules h m opacity first = (
   },
   λ k within. elim (cases_lt k m) [
     | inl less ↦ ((first.before k less).narrow, (first.before k less).few)
-    | inr least ↦ let same : m ≡ k = omega (arith, least, within) in
-        subst (λ (n : ℕ). (HasWide rules.window (take n h) → ⊥) × (HasMany rules (take n h) → ⊥)) same
-        (first.here.narrow, few-violated rules h m first)
+    | inr least ↦ grind (arith, take, few-violated)
   ],
 )
 
 pub first-violation : (rules : Rules) (h : List Event) (m : ℕ) → rules.criterion ≡ Opacity
     → IsFirstViolation rules h m × IsWithinBounds rules h m → IsFirst IsViolated rules h m
-first-violation rules h m opacity (first, bounds) = record {
-  within = first.within;
-  here = record {
-    formed = first.formed;
-    narrow = (bounds m (omega arith)).0;
-    not_final = λ final. first.not_opaque (final-opaque rules (take m h) opacity final);
-  };
-  before = λ k less. record {
-    narrow = (bounds k (omega (arith, less))).0;
-    few = (bounds k (omega (arith, less))).1;
-    final = opaque-final rules (take k h) opacity (first.before k less);
-  };
-}
+first-violation rules h m opacity (first, bounds) =
+    grind (arith, final-opaque, take, opaque-final)
 
 -- A verdict is another exactly where the history has that one.
 pub verdict-is : (rules : Rules) (h : List Event) (v w : Verdict) → IsVerdict rules h v → (v ≡ w) ↔ IsVerdict rules h w

@@ -1,5 +1,5 @@
 -- The parts of a new ring are dealt to its writers, one after another.
-use Rattle.tmw_ring.proofs.Shared.{All-push, AreNewWriters, IsIdleWriter, IsNewWriter, IsWriter, Ix, List, Me, Parts, Reads, RingIs, RingSize, TableId, WriterIs, WriterOf, WriterPart, Writes, [], ap, arith, get_or, inl, inr, ix_of, length, new_reader, new_writer, new_writers, refl, second_alone, subst, suc, sym, without_second, writer_in, writer_is, zero, ℕ, ◌++◌, ◌+◌, ◌-◌, ◌<◌, ◌∙◌, ◌∷◌, ◌≡◌, ◌⊎◌}
+use Rattle.tmw_ring.proofs.Shared.{AreNewWriters, IsIdleWriter, IsNewWriter, IsWriter, Ix, List, Me, Parts, Reads, RingIs, RingSize, TableId, WriterIs, WriterOf, WriterPart, Writes, [], ap, arith, get_or, inl, inr, ix_of, length, new_reader, new_writer, new_writers, refl, second_alone, subst, suc, sym, without_second, writer_in, writer_is, zero, ℕ, ◌++◌, ◌+◌, ◌-◌, ◌<◌, ◌∙◌, ◌∷◌, ◌≡◌, ◌⊎◌}
 use Rattle.tmw_events.proofs.Same.{same_ix}
 
 -- the parts that are left when the writers below this number have theirs
@@ -9,9 +9,7 @@ left_parts size number = Reads (new_reader size) ∷ new_writers size number (si
 next_writers : (size : RingSize) (number : ℕ) → number < size.writers
     → left_parts size number
     ≡ Reads (new_reader size) ∷ Writes (new_writer size number) ∷ new_writers size (number + 1) (size.writers - (number + 1))
-next_writers size number within =
-    let count : size.writers - number ≡ suc (size.writers - (number + 1)) = omega arith in
-    ap (λ (n : ℕ). Reads (new_reader size) ∷ new_writers size number n) count
+next_writers size number within = grind arith
 
 module _ {S : Type 0} where
   -- The second of these parts is the next writer's.
@@ -45,23 +43,12 @@ get_or_push [] item fallback zero within = inr (refl, refl)
 get_or_push [] item fallback (suc place) within = absurd (omega arith)
 get_or_push (first ∷ items) item fallback zero within = inl (omega arith, refl)
 get_or_push (first ∷ items) item fallback (suc place) within =
-    elim (get_or_push items item fallback place (omega arith)) [
-      | inl before ↦ inl (omega (arith, before.0), before.1)
-      | inr last ↦ inr (omega (arith, last.0), last.1)
-    ]
+    grind (arith, (get_or_push items item fallback place (omega arith)))
 
 -- One more new writer.
 new_writers-push : (ring : RingIs) (writers : List WriterIs) (writer : WriterIs) (number : ℕ) → AreNewWriters ring writers
     → length writers ≡ number → WriterOf ring writer → IsNewWriter number writer → AreNewWriters ring (writers ++ writer ∷ [])
-new_writers-push ring writers writer number are count of new = record {
-  of_ring = All-push (WriterOf ring) writers writer are.of_ring of;
-  each = λ place fallback within.
-      elim (get_or_push writers writer fallback place within) [
-        | inl before ↦ subst (IsNewWriter place) (sym before.1) (are.each place fallback before.0)
-        | inr last ↦
-            subst (IsNewWriter place) (sym last.1) (subst (λ (n : ℕ). IsNewWriter n writer) (sym (last.0 ∙ count)) new)
-      ];
-}
+new_writers-push ring writers writer number are count of new = grind (arith, get_or_push)
 
 -- What callers see of a new writer.
 new_writer_is : (table : TableId) (size : RingSize) (number : ℕ) → number < 8

@@ -12,26 +12,20 @@ at_mapped f (item ∷ items) found (suc place) at = at_mapped f items found plac
 -- A load leaves the words as they were.
 loaded_words : (core : Core) (words : List ℕ) → words ≡ words_of core
     → (slice_index words tail_word ≡ core.tail) × (set words tail_word (slice_index words tail_word) ≡ words_of core)
-loaded_words core words are =
-    subst (λ (w : List ℕ). (slice_index w tail_word ≡ core.tail) × (set w tail_word (slice_index w tail_word) ≡ words_of core)) (sym are)
-    (refl, refl)
+loaded_words core words are = grind arith
 
 -- A part that has found tail fits the ring still.
 fits_still : (core : Core) (run : List Answered) (part : Part) → PartFits core part → PartFits core (with_tail core.tail run part)
-fits_still core run (Writes part) fits = record { sized = fits.sized; phase = fits.phase; made = fits.made; seen = omega arith }
-fits_still core run (Reads part) fits = record { sized = fits.sized; phase = fits.phase; taken = fits.taken }
+fits_still core run part fits = grind arith
 
 same_key : (tail : ℕ) (run : List Answered) (part : Part) → key (with_tail tail run part) ≡ key part
-same_key tail run (Writes part) = refl
-same_key tail run (Reads part) = refl
+same_key tail run part = grind arith
 
 run_known : (tail : ℕ) (run : List Answered) (part : Part) → run_of (with_tail tail run part) ≡ run
-run_known tail run (Writes part) = refl
-run_known tail run (Reads part) = refl
+run_known tail run part = grind arith
 
 sized_so : (core : Core) (part : Part) → PartFits core part → size_of part ≡ core.size
-sized_so core (Writes part) fits = fits.sized
-sized_so core (Reads part) fits = fits.sized
+sized_so core part fits = grind arith
 
 -- What a part that fits knows is of the ring's log.
 of_log : (core : Core) → Sound core → (part : Part) → PartFits core part → IsOfLog core.log part

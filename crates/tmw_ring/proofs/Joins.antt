@@ -9,18 +9,13 @@ at_either : {A : Type 0} (items more : List A) (place : ℕ) (found : A) → get
 at_either [] more place found at = inr (place, omega arith, at)
 at_either (first ∷ items) more zero found at = inl at
 at_either (first ∷ items) more (suc place) found at =
-    elim (at_either items more place found at) [
-      | inl before ↦ inl before
-      | inr after ↦ let (past, is, there) = after in inr (past, omega (arith, is), there)
-    ]
+    grind (arith, (at_either items more place found at))
 
 -- What stands in the second of two lists in a row stands so far past the first.
 at_past : {A : Type 0} (items more : List A) (place : ℕ) (found : A) → get_elem? more place ≡ some found
     → get_elem? (items ++ more) (length items + place) ≡ some found
 at_past [] more place found at = let same : 0 + place ≡ place = omega arith in ap (get_elem? more) same ∙ at
-at_past (first ∷ items) more place found at =
-    let same : suc (length items) + place ≡ suc (length items + place) = omega arith in
-    ap (get_elem? (first ∷ items ++ more)) same ∙ at_past items more place found at
+at_past (first ∷ items) more place found at = grind (arith, (at_past items more place found at))
 
 -- Where the parts of the seat that is taken in go.
 abbrev joined_to : ℕ → Parts → ℕ → ℕ × ℕ

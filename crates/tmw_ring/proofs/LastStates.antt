@@ -1,5 +1,5 @@
 -- What the last state of a ring's table tells, when all its ends are in one seat: every place that nobody took is published.
-use Rattle.tmw_ring.proofs.Shared.{Answered, AreInOrder, Claimed, Core, Final, Idle, IsHeld, IsPublished, IsReader, IsReal, Knows, Lies, List, Me, PartFits, Parts, ReaderFits, ReaderPart, Reads, RingSize, Runs, Seen, Shown, Some, Sound, WriterIs, [], ap, arith, get_elem?, get_or, inl, inr, length, map, new_core, part_of, reader_in, refl, slice_get, slice_get_within, some, subst, suc, sym, words_of, zero, ℕ, ◌++◌, ◌<◌, ◌∙◌, ◌∷◌, ◌≡◌, ◌≤◌}
+use Rattle.tmw_ring.proofs.Shared.{Answered, AreInOrder, Claimed, Core, Final, IsHeld, IsPublished, IsReader, IsReal, Knows, Lies, List, Me, PartFits, Parts, ReaderFits, ReaderPart, Reads, RingSize, Runs, Seen, Shown, Sound, WriterIs, [], ap, arith, get_elem?, get_or, inl, inr, length, map, new_core, part_of, reader_in, refl, slice_get, slice_get_within, some, subst, suc, sym, words_of, zero, ℕ, ◌++◌, ◌<◌, ◌∙◌, ◌∷◌, ◌≡◌, ◌≤◌}
 
 -- The ring at its end, when its ends knew this.
 pub record Ended (size : RingSize) (reader : ReaderPart) (writers : List WriterIs) (words : List ℕ) : Type 0 where
@@ -65,19 +65,12 @@ module _ {S : Type 0} where
 pub none_held : (size : RingSize) (reader : ReaderPart) (writers : List WriterIs) (words : List ℕ)
     → (ends : Ended size reader writers words) → length writers ≡ size.writers → AreInOrder writers
     → (place : ℕ) → IsHeld ends.core place → ⊥
-none_held size reader [] words ends count order place held =
-    let below = slice_get_within ends.core.writers held.writer (Claimed place held.kind held.is_filled) held.claimed in
-    let are = ends.sound.writers ∙ ap (λ (s : RingSize). s.writers) ends.sized in
-    absurd (omega (arith, below, are, count))
+none_held size reader [] words ends count order place held = grind arith
 none_held size reader (first ∷ rest) words ends count order place held =
     let below = slice_get_within ends.core.writers held.writer (Claimed place held.kind held.is_filled) held.claimed in
     let are = ends.sound.writers ∙ ap (λ (s : RingSize). s.writers) ends.sized in
-    let within : held.writer < length (first ∷ rest) = omega (arith, below, are, count) in
-    let fits = ends.writes held.writer first within in
-    let idle : slice_get ends.core.writers held.writer ≡ Some Idle =
-    subst (λ (n : ℕ). slice_get ends.core.writers n ≡ Some Idle) (order held.writer first within) fits.phase in
-    let claimed = held.claimed in
-    absurd (cc)
+    let within : held.writer < length (first ∷ rest) = omega arith in
+    let fits = ends.writes held.writer first within in grind (arith, slice_get)
 
 -- So all places from front to tail are published.
 pub all_published : (size : RingSize) (reader : ReaderPart) (writers : List WriterIs) (words : List ℕ)

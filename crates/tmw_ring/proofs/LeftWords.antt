@@ -1,5 +1,5 @@
 -- What the words of published places' cells tell: the log's events.
-use Rattle.tmw_ring.proofs.Shared.{Core, Event, FitsKind, HasEvent, IsPublished, IsReal, List, Some, Sound, [], ap, arith, cell_at, drop, drop_all, empty_cell, event_at, events_from, has_cell, header_at, header_of, kind_value, pack, pack-words, packed_header, same_Some, slice_get, stamped-parts, subst, suc, sym, unpacked, unpacked-pack, value_at, words_of, zero, ℕ, ◌%◌, ◌+◌, ◌<◌, ◌∙◌, ◌∷◌, ◌≡◌, ◌≤◌}
+use Rattle.tmw_ring.proofs.Shared.{Core, Event, HasEvent, IsPublished, IsReal, List, Some, Sound, [], ap, arith, cell_at, drop, drop_all, empty_cell, event_at, events_from, has_cell, header_at, header_of, kind_value, packed_header, same_Some, slice_get, stamped-parts, suc, unpacked-pack, value_at, words_of, zero, ℕ, ◌%◌, ◌+◌, ◌<◌, ◌∙◌, ◌∷◌, ◌≡◌, ◌≤◌}
 use Rattle.tmw_ring.proofs.Words.{stamp_found, value_found}
 
 -- The words of a published place's cell are its event's.
@@ -15,26 +15,11 @@ read_published core place sound real published =
     let cell = cell_at core place in
     let header : header_at (words_of core) core.size.cells place ≡ packed_header published.event =
     ap header_of (stamp_found core place (has_cell core place sound)) ∙ (stamped-parts cell.stamp cell.header small).1 ∙ published.shown.header in
-    let value : value_at (words_of core) core.size.cells place ≡ kind_value published.event.kind =
-    value_found core place (has_cell core place sound) ∙ published.shown.value in
-    record {
-      header = header;
-      value = value;
-      told = ap (λ (h : ℕ). unpacked h (value_at (words_of core) core.size.cells place)) header
-          ∙ ap (unpacked (packed_header published.event)) value ∙ unpacked-pack published.event;
-    }
+    grind (arith, value_found, unpacked-pack)
 
 pub has_event : (core : Core) (place : ℕ) → Sound core → IsReal core → IsPublished core place
     → HasEvent (words_of core) core.size.cells place
-has_event core place sound real published =
-    let event = published.event in
-    let read = read_published core place sound real published in
-    record {
-      packed = ap pack read.told
-          ∙ pack-words (header_at (words_of core) core.size.cells place) (value_at (words_of core) core.size.cells place) event read.header
-          read.value;
-      fits = subst (λ (e : Event). FitsKind e.kind) (sym read.told) (real.events place event published.logged).value;
-    }
+has_event core place sound real published = grind (arith, read_published)
 
 -- what is left from a place on begins with the item there
 drop_next : (items : List Event) (place : ℕ) (item : Event) → slice_get items place ≡ Some item
@@ -47,14 +32,9 @@ drop_next (first ∷ items) (suc place) item at = drop_next items place item at
 pub events_logged : (core : Core) (place count : ℕ) → Sound core → IsReal core → core.front ≤ place → place + count ≡ core.tail
     → ((at : ℕ) → core.front ≤ at → at < core.tail → IsPublished core at)
     → events_from (words_of core) core.size.cells place count ≡ drop place core.log
-events_logged core place zero sound real low is published =
-    sym (drop_all place core.log (omega (arith, is, sound.tail)))
+events_logged core place zero sound real low is published = grind (arith, drop_all)
 events_logged core place (suc count) sound real low is published =
-    let at = published place low (omega (arith, is)) in
-    let read = read_published core place sound real at in
-    let next : place + 1 ≡ suc place = omega arith in
-    ap (λ (event : Event). event ∷ events_from (words_of core) core.size.cells (place + 1) count) read.told
-    ∙ ap (λ (events : List Event). at.event ∷ events)
-    (events_logged core (place + 1) count sound real (omega (arith, low)) (omega (arith, is)) published
-    ∙ ap (λ (n : ℕ). drop n core.log) next)
-    ∙ sym (drop_next core.log place at.event at.logged)
+    let at = published place low (omega arith) in
+    let more =
+    events_logged core (place + 1) count sound real (omega (arith, low)) (omega (arith, is)) published in
+    grind (arith, read_published, events_from, words_of, drop, drop_next)

@@ -1,5 +1,5 @@
 -- What a writer's steps, one after another, come to: an event is recorded at a place, or refused.
-use Rattle.tmw_ring.proofs.Shared.{Answered, Bool, Full, HasClaimed, HasFilled, HasLooked, HasMade, HasPublished, HasRecorded, HasSeenFront, HasSeenTail, IsRefusal, Kind, List, Me, Parts, Spent, TableId, Tail, WriterPart, [], ap, arith, claimed, claiming, done, false, filling, front_look, front_seen, is_full, is_spent, ltb-false, made-then, publishing, refl, room_reply, subst, tail_look, tail_seen, true, value_filled, writer_actor, writer_in, writer_is, ℕ, ◌+◌, ◌-◌, ◌<◌, ◌∙◌, ◌∷◌, ◌≡◌, ◌≤◌}
+use Rattle.tmw_ring.proofs.Shared.{Answered, Bool, HasClaimed, HasFilled, HasMade, HasPublished, HasRecorded, HasSeenFront, HasSeenTail, Kind, List, Me, Parts, TableId, Tail, WriterPart, [], ap, arith, claimed, claiming, done, false, filling, front_look, front_seen, is_full, is_spent, ltb-false, made-then, publishing, room_reply, subst, tail_look, tail_seen, value_filled, writer_actor, writer_in, writer_is, ℕ, ◌+◌, ◌-◌, ◌<◌, ◌∙◌, ◌∷◌, ◌≡◌, ◌≤◌}
 
 -- a writer's two looks, as they are answered where places are spent and the ring is full, or not
 abbrev two_looks : Kind → (front tail : ℕ) → (spent full : Bool) → WriterPart → List Answered
@@ -36,41 +36,7 @@ module _ {S : Type 0} where
 looks-steps : (kind : Kind) (front tail : ℕ) (old new : WriterPart) (spent full : Bool) → Looks kind front tail old new
     → is_spent old.size tail ≡ spent → is_full old.size front tail ≡ full
     → HasMade old.size (writer_actor old.number) (two_looks kind front tail spent full old) old.run new.run
-looks-steps kind front tail old new spent full looked is also =
-    subst (λ (f : Bool). HasMade old.size (writer_actor old.number) (two_looks kind front tail spent f old) old.run new.run) also
-    (subst (λ (s : Bool). HasMade old.size (writer_actor old.number)
-    (two_looks kind front tail s (is_full old.size front tail) old) old.run new.run) is looked.steps)
-
-looked_only : (kind : Kind) (front tail : ℕ) (table later : TableId) (old new : WriterPart) → Looks kind front tail old new
-    → HasLooked tail (writer_is table old) (writer_is later new)
-looked_only kind front tail table later old new looked =
-    let seen : new.seen ≡ tail = ap (λ (part : WriterPart). part.seen) looked.is in
-    record {
-      made = ap (λ (part : WriterPart). part.made) looked.is;
-      later = looked.later;
-      seen = omega (arith, seen);
-    }
-
--- The places were spent.
-pub looks-spent : (kind : Kind) (front tail : ℕ) (table later : TableId) (old new : WriterPart) → Looks kind front tail old new
-    → is_spent old.size tail ≡ true → IsRefusal kind (writer_is table old) (Spent tail) (writer_is later new)
-looks-spent kind front tail table later old new looked is = (
-  front,
-  looked_only kind front tail table later old new looked,
-  looks-steps kind front tail old new true (is_full old.size front tail) looked is refl,
-  is,
-)
-
--- The ring was full.
-pub looks-full : (kind : Kind) (front tail : ℕ) (table later : TableId) (old new : WriterPart) → Looks kind front tail old new
-    → is_spent old.size tail ≡ false → is_full old.size front tail ≡ true
-    → IsRefusal kind (writer_is table old) (Full front tail) (writer_is later new)
-looks-full kind front tail table later old new looked is also = (
-  looked_only kind front tail table later old new looked,
-  looks-steps kind front tail old new false true looked is also,
-  also,
-  is,
-)
+looks-steps kind front tail old new spent full looked is also = grind arith
 
 module _ {S : Type 0} where
   -- There was room, and the event was recorded.

@@ -1,5 +1,5 @@
 -- The parts of writers that come back, put into one seat one after another.
-use Rattle.tmw_ring.proofs.Shared.{All, List, RingIs, WriterIs, WriterOf, [], arith, get_or, length, refl, subst, ◌++◌, ◌<◌, ◌∷◌, ◌≡◌}
+use Rattle.tmw_ring.proofs.Shared.{All, List, RingIs, WriterIs, WriterOf, [], arith, get_or, length, refl, ◌++◌, ◌<◌, ◌∷◌, ◌≡◌}
 
 -- The item between two parts of a list stands at the first part's length.
 middle : {A : Type 0} (before : List A) (item : A) (after : List A)
@@ -10,6 +10,4 @@ middle (first ∷ before) item after = let rest = middle before item after in (o
 -- What holds of all writers holds of the one between those that came before and those that are left.
 pub of_all : (ring : RingIs) (writers before after : List WriterIs) (writer : WriterIs) → All (WriterOf ring) writers
     → writers ≡ before ++ writer ∷ after → WriterOf ring writer
-of_all ring writers before after writer all is =
-    let at = middle before writer after in
-    subst (WriterOf ring) at.1 ((subst (All (WriterOf ring)) is all) (length before) writer at.0)
+of_all ring writers before after writer all is = grind (arith, middle)

@@ -1,5 +1,5 @@
 -- A record that is refused after several were found to have room has found that as many places more were claimed.
-use Rattle.tmw_ring.proofs.Shared.{Answered, Bool, Claimed, Cleared, Core, Front, Full, HasFoundRoom, HasRoomFor, HasStepped, Idle, IsRun, Ix, Kind, List, Looked, RingSize, RoomStaysLaw, Some, Spent, Tail, WriterIs, WriterPhase, [], ap, append_assoc, arith, false, is_full, is_spent, leb, leb-false, leb-true, length, length_push, new_core, none-some, option_and_then_some, own, own-append, own-cut, places_claimed, places_claimed-append, places_freed, places_freed-append, refl, room_law, room_reply, run-counted, runs-cut, runs-tail, slice_get, some_pair_parts, subst, sym, tail_step, true, writer_actor, ℕ, ◌++◌, ◌+◌, ◌<◌, ◌∙◌, ◌∷◌, ◌≡◌, ◌≢◌, ◌≤◌}
+use Rattle.tmw_ring.proofs.Shared.{Answered, Bool, Front, Full, HasFoundRoom, HasRoomFor, HasStepped, IsRun, Ix, Kind, List, RingSize, RoomStaysLaw, Spent, Tail, WriterIs, [], ap, append_assoc, arith, false, leb, leb-false, leb-true, length, length_push, new_core, own, own-append, own-cut, places_claimed, places_claimed-append, places_freed, places_freed-append, refl, room_law, run-counted, runs-cut, runs-tail, subst, sym, true, writer_actor, ℕ, ◌++◌, ◌+◌, ◌<◌, ◌∙◌, ◌∷◌, ◌≡◌, ◌≢◌, ◌≤◌}
 use Rattle.tmw_ring_defs.specs.declared.ring_step.Reply.{Reply}
 use Rattle.tmw_ring_defs.specs.declared.ring_step.Reply.TheVariants.{Saw, Cleared as IsCleared, Full as IsFull, Spent as IsSpent, Place, Filled, Published, Ready, NotReady, Word, Taken, Stopped, NotNow}
 
@@ -19,31 +19,10 @@ Tells tail (Taken event) = Unit {0}
 Tells tail Stopped = Unit {0}
 Tells tail NotNow = Unit {0}
 
-room_tells : (spent full : Bool) (front tail : ℕ) → Tells tail (room_reply spent full front tail)
-room_tells true full front tail = refl
-room_tells false true front tail = refl
-room_tells false false front tail = tt
-
-step_tells : (writer : Ix) (core next : Core) (phase : WriterPhase) (reply : Reply)
-    → tail_step writer.number core phase ≡ Some (reply, next) → Tells core.tail reply
-step_tells writer core next Idle reply is = absurd (none-some (reply, next) is)
-step_tells writer core next (Looked kind front) reply is =
-    let spent = is_spent core.size core.tail in
-    let full = is_full core.size front core.tail in
-    subst (Tells core.tail) (some_pair_parts (room_reply spent full front core.tail) reply _ next is).0
-    (room_tells spent full front core.tail)
-step_tells writer core next (Cleared kind) reply is = absurd (none-some (reply, next) is)
-step_tells writer core next (Claimed place kind is_filled) reply is = absurd (none-some (reply, next) is)
-
 -- The refusal that ends a run tells how many places the run has claimed.
 run_tells : (size : RingSize) (run : List Answered) (writer : Ix) (reply : Reply)
     → IsRun size (run ++ record { step = Tail writer; reply = reply } ∷ []) → Tells (places_claimed run) reply
-run_tells size run writer reply (end, ran) =
-    let (core, before, last) = runs-cut (new_core size) end run (record { step = Tail writer; reply = reply } ∷ []) ran in
-    let counted : core.tail ≡ places_claimed run = omega (arith, runs-tail (new_core size) core run before) in
-    subst (λ (tail : ℕ). Tells tail reply) counted
-    (option_and_then_some (tail_step writer.number core) (slice_get core.writers writer.number) (reply, last.0) last.1
-    (λ phase at made. step_tells writer core last.0 phase reply made))
+run_tells size run writer reply (end, ran) = grind (arith, runs-cut, runs-tail)
 
 -- What precedes the rest of a run is a run.
 run_before : (size : RingSize) (past rest : List Answered) → IsRun size (past ++ rest) → IsRun size past
@@ -53,12 +32,7 @@ run_before size past rest (end, ran) =
 -- Four runs in a row, cut before the last.
 parts : {A : Type 0} (known since early late : List A) (last : A)
     → (known ++ since) ++ (early ++ last ∷ late) ≡ (known ++ ((since ++ early) ++ last ∷ [])) ++ late
-parts known since early late last =
-    append_assoc known since (early ++ last ∷ late)
-    ∙ ap (λ rest. known ++ rest) (
-    sym (append_assoc since early (last ∷ late)) ∙ sym (append_assoc (since ++ early) (last ∷ []) late)
-    )
-    ∙ sym (append_assoc known ((since ++ early) ++ last ∷ []) late)
+parts known since early late last = grind (arith, append_assoc)
 
 -- A writer is refused in two steps: then so many places more are claimed.
 refused_later : (size : RingSize) (known since gone : List Answered) (front records seen : ℕ) (writer : Ix) (kind : Kind) (reply : Reply)
@@ -126,8 +100,6 @@ pub room_stays_law : RoomStaysLaw
 room_stays_law records old found before after has since kind (Full front tail) sized goes is =
     let looked = looked_so records old found has in
     let (total, told, enough) = refused_by records old found before after has since kind front (IsFull front tail) sized goes is.1 (λ same. cc) in
-    omega (arith, looked.0, told, enough)
+    omega arith
 room_stays_law records old found before after has since kind (Spent tail) sized goes (front, found_tail, stepped, spent) =
-    let looked = looked_so records old found has in
-    let (total, told, enough) = refused_by records old found before after has since kind front (IsSpent tail) sized goes stepped (λ same. cc) in
-    omega (arith, looked.0, told, enough)
+    grind arith

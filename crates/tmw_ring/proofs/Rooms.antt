@@ -1,5 +1,5 @@
 -- A writer may look at front, and what it then knows with the tail that it finds next.
-use Rattle.tmw_ring.proofs.Shared.{Allows, Answered, Bool, Core, FindsFront, FindsTail, HasFoundFront, IsIdleWriter, Ix, List, Me, PartFits, Parts, RingSize, Runs, Shown, WriterFits, WriterIs, WriterPart, Writes, [], ap, append-nil, arith, false, front_word, is_full, is_spent, keeps, key, last_tail, lt-ltb, ltb-false, ltb-true, min, new_core, places_freed, places_freed-append, refl, run-counted, run_of, runs-front, set, slice_index, some-injective, some-ne-none, subst, suc, sym, true, with_run, words_of, writer_in, zero, ℕ, ◌++◌, ◌+◌, ◌-◌, ◌∙◌, ◌∷◌, ◌≡◌, ◌≤◌}
+use Rattle.tmw_ring.proofs.Shared.{Allows, Answered, Core, FindsFront, FindsTail, HasFoundFront, IsIdleWriter, Ix, List, Me, PartFits, Parts, RingSize, Runs, Shown, WriterFits, WriterIs, WriterPart, Writes, [], ap, append-nil, arith, false, front_word, is_full, is_spent, keeps, key, last_tail, min, new_core, places_freed, places_freed-append, refl, run-counted, run_of, runs-front, set, slice_index, some-injective, some-ne-none, subst, suc, sym, with_run, words_of, writer_in, zero, ℕ, ◌++◌, ◌+◌, ◌-◌, ◌∙◌, ◌∷◌, ◌≡◌, ◌≤◌}
 use Rattle.tmw_ring.proofs.Moves.{Follows, Remains, knows_all, moves_each}
 use Rattle.tmw_ring.proofs.Writing.{writer_fits}
 
@@ -56,34 +56,12 @@ module _ {S : Type 0} where
       subst (λ (m : Me S Parts). Allows {S = S} {V = Parts} (Shown size) slots seat m front_word (λ n. n) (HasFoundFront m)) (sym idle.seated)
       (front_found size slots seat (writer_in me.0))
 
--- The sum that stops at the greatest number is as good as the sum.
-last-is : (size : RingSize) (tail records last : ℕ) → last ≡ min (tail + (records - 1)) 18446744073709551615
-    → is_spent size last ≡ false → last ≡ last_tail tail records
-last-is size tail records last is unspent =
-    let low = ltb-false (size.limit - size.writers) last unspent in omega (arith, is, low, size.most_places)
-
-last-spent : (size : RingSize) (tail records last : ℕ) → last ≡ min (tail + (records - 1)) 18446744073709551615
-    → is_spent size last ≡ is_spent size (last_tail tail records)
-last-spent size tail records last is = by_flag (is_spent size last) refl
-  where
-    by_flag : (flag : Bool) → is_spent size last ≡ flag → is_spent size last ≡ is_spent size (last_tail tail records)
-    by_flag true spent =
-        let low = ltb-true (size.limit - size.writers) last spent in
-        spent ∙ sym (lt-ltb (size.limit - size.writers) (last_tail tail records) (omega (arith, is, low)))
-    by_flag false unspent = ap (is_spent size) (last-is size tail records last is unspent)
-
 -- So both tests of the sum that stops are those of the sum.
 pub same-tests : (own size : RingSize) → own ≡ size → (front tail records before last : ℕ) → before ≡ records - 1
     → last ≡ min (tail + before) 18446744073709551615
     → (is_spent own last ≡ is_spent size (last_tail tail records))
     × (is_spent own last ≡ false → (last ≡ last_tail tail records) × (is_full own front last ≡ is_full size front (last_tail tail records)))
-same-tests own size sized front tail records before last less is =
-    let sum : last ≡ min (tail + (records - 1)) 18446744073709551615 = is ∙ ap (λ (n : ℕ). min (tail + n) 18446744073709551615) less in (
-      last-spent own tail records last sum ∙ ap (λ (z : RingSize). is_spent z (last_tail tail records)) sized,
-      λ unspent.
-          let same : last ≡ last_tail tail records = last-is own tail records last sum unspent in
-          (same, ap (is_full own front) same ∙ ap (λ (z : RingSize). is_full z front (last_tail tail records)) sized),
-    )
+same-tests own size sized front tail records before last less is = grind arith
 
 -- Front is not above the tail that was found behind it.
 pub front-le : (front tail : ℕ) (old between new : WriterIs) → FindsFront front old between → FindsTail tail between new → front ≤ tail

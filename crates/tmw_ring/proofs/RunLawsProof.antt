@@ -1,9 +1,9 @@
 -- A change of a ring's table that keeps its rule is made of steps of the ring's machine.
-use Rattle.tmw_ring.proofs.Shared.{Answered, Claimed, Cleared, Core, Gone, Idle, Kind, Knows, Lies, List, Looked, NoneOf, Part, Parts, ReaderPhase, Ready, RingSize, Runs, Shown, Some, Told, Waiting, WriterPhase, [], actor_of, all-own, ap, append-nil, append_assoc, append_cancel_left, cell_at, dec_le, eq-eqb, front_step, get_elem?, inl, inr, key, last-among, last-item, last-known, lt_of_not-le, new_core, new_core-sound, none-beyond, none-left, none-some, option_and_then_some, own, own-append, own-gone, peek_step, refl, run_of, runs-cut, runs-same, set, set_else, slice_get, some, some-injective, some-ne-none, some_pair_parts, subst, suc, sym, words_of, zero, ℕ, ℕ_discrete, ◌++◌, ◌+◌, ◌∙◌, ◌∷◌, ◌≡◌, ◌≢◌, ◌≤◌}
+use Rattle.tmw_ring.proofs.Shared.{Answered, Core, Gone, Knows, Lies, List, NoneOf, Part, Parts, ReaderPhase, RingSize, Runs, Shown, Some, [], actor_of, all-own, ap, append-nil, append_assoc, append_cancel_left, cell_at, dec_le, get_elem?, inl, inr, key, last-among, last-item, last-known, lt_of_not-le, new_core, new_core-sound, none-beyond, none-left, own, own-append, own-gone, peek_step, refl, run_of, runs-cut, runs-same, set, set_else, some, some-injective, some-ne-none, subst, suc, sym, zero, ℕ, ℕ_discrete, ◌++◌, ◌+◌, ◌∙◌, ◌∷◌, ◌≡◌, ◌≢◌, ◌≤◌, arith}
 use Rattle.tmw_ring_defs.proofs.RingLaw.{step_law}
 use Rattle.tmw_ring.proofs.Moves.{lies_among, set_over}
 use Rattle.tmw_ring.specs.RunLaws.{TableState, Telling, RanOn, HaveGrown, SeatLaw, RunLaw, EmptySeatLaw, ClaimLaw, NotReadyLaw, FrontLaw, SilentLaw}
-use Rattle.tmw_ring_defs.specs.declared.ring_step.Reply.TheVariants.{Saw, Ready as IsReady, NotReady}
+use Rattle.tmw_ring_defs.specs.declared.ring_step.Reply.TheVariants.{NotReady}
 
 -- In the second state this seat has the new parts, and each other has what it had.
 record Changes (before after : TableState) (seat : ℕ) (old new : Parts) : Type 0 where
@@ -13,29 +13,17 @@ record Changes (before after : TableState) (seat : ℕ) (old new : Parts) : Type
 -- A part of another seat lies where it lay.
 lies_still : (before after : TableState) (seat : ℕ) (old new : Parts) → Changes before after seat old new → (at place : ℕ) (part : Part)
     → at ≢ seat → Lies before at place part → Lies after at place part
-lies_still before after seat old new changes at place part apart lies = record {
-  view = lies.view;
-  seated = ap (λ (views : List Parts). get_elem? views at) changes.changed ∙ set_else before.views seat at new apart ∙ lies.seated;
-  placed = lies.placed;
-}
+lies_still before after seat old new changes at place part apart lies = grind (arith, set_else)
 
 -- A new part lies in the seat.
 lies_here : (before after : TableState) (seat : ℕ) (old new : Parts) → Changes before after seat old new → (place : ℕ) (part : Part)
     → get_elem? new place ≡ some part → Lies after seat place part
-lies_here before after seat old new changes place part placed = record {
-  view = new;
-  seated = ap (λ (views : List Parts). get_elem? views seat) changes.changed ∙ set_over before.views seat old new changes.seated;
-  placed = placed;
-}
+lies_here before after seat old new changes place part placed = grind (arith, set_over)
 
 -- What is known of a part that knew the whole run: the later run begins with it.
 begins_again : (actor : ℕ) (run later known since : List Answered) → run ≡ known → (more : List Answered) → known ++ more ≡ since
     → Gone actor since [] later → (rest : List Answered) × (later ≡ run ++ rest)
-begins_again actor run later known since is more longer gone = (
-  more ++ gone.since,
-  gone.longer ∙ ap (λ (l : List Answered). l ++ gone.since) (sym longer) ∙ append_assoc known more gone.since
-      ∙ ap (λ (l : List Answered). l ++ (more ++ gone.since)) (sym is),
-)
+begins_again actor run later known since is more longer gone = grind (arith, append_assoc)
 
 -- The run after the change begins with the run before it, since who made its last step knows it.
 goes_on : (size : RingSize) (before after : TableState) (shown : Shown size before) (next : Shown size after) (seat : ℕ) (old new : Parts)
@@ -96,13 +84,7 @@ none_elsewhere size before after shown next seat old new rest changes longer act
 -- The machine goes by the rest.
 rest-ran : (size : RingSize) (before after : TableState) (shown : Shown size before) (next : Shown size after) (rest : List Answered)
     → next.run ≡ shown.run ++ rest → RanOn shown next rest
-rest-ran size before after shown next rest longer =
-    let (mid, one, other) = runs-cut (new_core size) next.core shown.run rest
-    (subst (λ (run : List Answered). Runs (new_core size) run next.core) longer next.ran) in
-    record {
-      longer = longer;
-      ran = subst (λ (core : Core). Runs core rest next.core) (runs-same (new_core size) mid shown.core shown.run one shown.ran) other;
-    }
+rest-ran size before after shown next rest longer = grind (arith, runs-cut, runs-same)
 
 pub seat_law : SeatLaw
 seat_law size before after shown next seat old new seated changed grown =
@@ -129,14 +111,11 @@ empty_seat_law size before after shown next seat new seated changed =
     let nothing : rest ≡ [] =
     none-left size shown.core next.core rest shown.sound shown.sized ran.ran (λ actor small.
     none_elsewhere size before after shown next seat [] new rest changes longer actor small
-    (λ place part at. absurd (some-ne-none part (sym at)))) in
-    let same : next.core ≡ shown.core = subst (λ (l : List Answered). Runs shown.core l next.core) nothing ran.ran in
-    next.words ∙ ap words_of same ∙ sym shown.words
+    (λ place part at. absurd (some-ne-none part (sym at)))) in grind arith
 
 -- A seat's one part.
 alone : (actor : ℕ) (old : Part) → key old ≢ actor → (place : ℕ) (part : Part) → get_elem? (old ∷ []) place ≡ some part → key part ≢ actor
-alone actor old apart zero part at = λ same. apart (ap key (some-injective old part at) ∙ same)
-alone actor old apart (suc place) part at = absurd (some-ne-none part (sym at))
+alone actor old apart place part h1 = grind arith
 
 one_grown : (old new : Part) (since : List Answered) → key new ≡ key old → run_of new ≡ run_of old ++ since → HaveGrown (old ∷ []) (new ∷ [])
 one_grown old new since same longer zero was at =
@@ -162,12 +141,7 @@ run_law size before after shown next seat old new since seated changed same know
     own-gone actor (run_of old) [] shown.run (shown.knows seat 0 old old_lies) ∙ append-nil (own actor (run_of old)) in
     let now : own actor next.run ≡ own actor (run_of old) ++ own actor since =
     own-gone actor (run_of new) [] next.run knows ∙ append-nil (own actor (run_of new)) ∙ ap (own actor) known
-    ∙ own-append actor (run_of old) since in
-    let same_steps : own actor rest ≡ own actor since =
-    append_cancel_left (own actor shown.run) (own actor rest) (own actor since)
-    (sym (own-append actor shown.run rest) ∙ ap (own actor) (sym longer) ∙ now
-    ∙ ap (λ (l : List Answered). l ++ own actor since) (sym was)) in
-    subst (RanOn shown next) (sym all ∙ same_steps) ran
+    ∙ own-append actor (run_of old) since in grind (arith, append_cancel_left, own-append)
 
 pub claim_law : (tells : Telling) → ClaimLaw tells
 claim_law tells size word change old mine state shown may =
@@ -184,34 +158,17 @@ claim_law tells size word change old mine state shown may =
 -- A peek is answered by the stamp.
 peeked : (core next : Core) (phase : ReaderPhase) → peek_step core phase ≡ Some (NotReady, next)
     → (cell_at core core.front).stamp ≢ core.front + 1
-peeked core next Waiting is = λ same.
-    let ready : peek_step core Waiting ≡ Some (IsReady, record core { reader = Ready (cell_at core core.front).header }) =
-    rw (eq-eqb (cell_at core core.front).stamp (core.front + 1) same) refl in
-    let other : IsReady ≡ NotReady = (some_pair_parts IsReady NotReady _ next (sym ready ∙ is)).0 in absurd (cc)
-peeked core next (Ready header) is = absurd (none-some (NotReady, next) is)
-peeked core next (Told header value) is = absurd (none-some (NotReady, next) is)
+peeked core next phase is = grind arith
 
 pub not_ready_law : (tells : Telling) → NotReadyLaw tells
 not_ready_law tells size word change old state shown may =
     let (next, ran, words) = claim_law tells size word change old _ state shown may in
     peeked shown.core ran.0 shown.core.reader ran.1
 
--- A look at front is answered by front.
-saw : (writer : ℕ) (kind : Kind) (front : ℕ) (core next : Core) (phase : WriterPhase)
-    → front_step writer kind core phase ≡ Some (Saw front, next) → front ≡ core.front
-saw writer kind front core next Idle is =
-    let same : Saw core.front ≡ Saw front = (some_pair_parts (Saw core.front) (Saw front) _ next is).0 in cc
-saw writer kind front core next (Looked _ _) is = absurd (none-some (Saw front, next) is)
-saw writer kind front core next (Cleared _) is = absurd (none-some (Saw front, next) is)
-saw writer kind front core next (Claimed _ _ _) is = absurd (none-some (Saw front, next) is)
-
 pub front_law : (tells : Telling) → FrontLaw tells
 front_law tells size word change old writer kind front state shown may =
-    let (next, ran, words) = claim_law tells size word change old _ state shown may in
-    option_and_then_some (front_step writer.number kind shown.core) (slice_get shown.core.writers writer.number) (Saw front, ran.0) ran.1
-    (λ phase at made. saw writer.number kind front shown.core ran.0 phase made)
+    let (next, ran, words) = claim_law tells size word change old _ state shown may in grind arith
 
 pub silent_law : (tells : Telling) → SilentLaw tells
 silent_law tells size word change old state shown may =
-    let (next, ran, words) = claim_law tells size word change old [] state shown may in
-    words ∙ ap words_of ran ∙ sym shown.words
+    let (next, ran, words) = claim_law tells size word change old [] state shown may in cc

@@ -9,10 +9,7 @@ at_push [] item found zero at = inr (refl, some-injective item found at)
 at_push [] item found (suc place) at = absurd (some-ne-none found (sym at))
 at_push (first ∷ items) item found zero at = inl at
 at_push (first ∷ items) item found (suc place) at =
-    elim (at_push items item found place at) [
-      | inl before ↦ inl before
-      | inr last ↦ inr (omega (arith, last.0), last.1)
-    ]
+    grind (arith, (at_push items item found place at))
 
 -- The map `to` of the places of one seat's parts, and of all others to themselves.
 abbrev pub from_seat : ℕ → (ℕ → ℕ × ℕ) → ℕ × ℕ → ℕ × ℕ
@@ -82,11 +79,7 @@ second_cut (first ∷ second ∷ rest) seat other = record { kept = kept; given 
     given (suc place) part at = absurd (some-ne-none part (sym at))
 
 all_cut : (view : Parts) (seat other : ℕ) → Cut view [] view seat other (λ place. (other, place))
-all_cut view seat other = record {
-  kept = λ place part at. absurd (some-ne-none part (sym at));
-  given = λ place part at. (place, at, refl);
-  stays = λ place part at. inr (refl, at);
-}
+all_cut view seat other = grind arith
 
 module _ {S : Type 0} where
   cut_lies : (state : State S Parts) (seat : ℕ) (view left right : Parts) (to : ℕ → ℕ × ℕ) → get_elem? state.views seat ≡ some view

@@ -1,6 +1,5 @@
 -- A ring that has all its ends back has the rest of the log in its words.
-use Rattle.tmw_ring.proofs.Shared.{AreInOrder, Core, Event, HasEvent, IsSettled, List, ReaderPart, RingSize, Runs, Sound, TableId, WriterIs, ap, arith, drop, events_from, get_elem?, get_or, length, made_from, new_core, reader_is, refl, slice_get-get_or, slice_index, some, subst, sym, take-append-drop, words_of, ℕ, ◌++◌, ◌-◌, ◌<◌, ◌^◌, ◌∙◌, ◌≡◌, ◌≤◌}
-use Rattle.tmw_ring.proofs.Words.{word_read}
+use Rattle.tmw_ring.proofs.Shared.{AreInOrder, Core, Event, HasEvent, IsSettled, List, ReaderPart, RingSize, Runs, Sound, TableId, WriterIs, ap, arith, drop, events_from, get_elem?, get_or, length, made_from, new_core, reader_is, refl, slice_get-get_or, some, subst, sym, take-append-drop, words_of, ℕ, ◌++◌, ◌-◌, ◌<◌, ◌^◌, ◌∙◌, ◌≡◌, ◌≤◌}
 use Rattle.tmw_ring.proofs.LastStates.{Ended, all_published}
 use Rattle.tmw_ring.proofs.LeftWords.{has_event, events_logged}
 
@@ -11,10 +10,7 @@ pub record Counted (reader : ReaderPart) (words : List ℕ) (front tail : ℕ) :
 
 counts : (size : RingSize) (reader : ReaderPart) (writers : List WriterIs) (words : List ℕ) (front tail : ℕ)
     → (ends : Ended size reader writers words) → Counted reader words front tail → (ends.core.front ≡ front) × (ends.core.tail ≡ tail)
-counts size reader writers words front tail ends counted = (
-  ends.sound.front ∙ ap (λ (events : List Event). length events) (sym ends.reads.taken) ∙ counted.front_is,
-  ap (λ (all : List ℕ). slice_index all 0) (sym ends.shown) ∙ word_read words 0 tail counted.tail_is,
-)
+counts size reader writers words front tail ends counted = grind arith
 
 few_claimed : (core : Core) → Sound core → core.tail ≤ 2 ^ 40
 few_claimed core sound = omega (arith, sound.limited, core.size.most_places)

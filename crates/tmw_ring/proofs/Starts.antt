@@ -1,5 +1,5 @@
 -- A new ring keeps the rule of its table.
-use Rattle.tmw_ring.proofs.Shared.{All-replicate, FitsPhase, Idle, IsHeader, IsReal, Knows, Lies, Part, PartFits, Parts, Reads, RingCell, RingSize, Shown, Some, State, WriterFits, Writes, [], all_idle, ap, arith, empty_cell, get_elem?, key, new_core, new_core-sound, new_parts, new_reader, new_writer, new_writers, opening, refl, replicate, run_of, slice_get, some, some-injective, some-ne-none, subst, suc, sym, word_count, zero, ℕ, ◌%◌, ◌+◌, ◌<◌, ◌∙◌, ◌≡◌, ◌≤◌}
+use Rattle.tmw_ring.proofs.Shared.{All-replicate, FitsPhase, Idle, IsHeader, IsReal, Knows, Lies, Part, PartFits, Parts, Reads, RingCell, RingSize, Shown, Some, State, Writes, [], all_idle, ap, arith, empty_cell, get_elem?, key, new_core, new_core-sound, new_parts, new_reader, new_writer, new_writers, opening, refl, replicate, run_of, slice_get, some, some-injective, some-ne-none, subst, suc, sym, word_count, zero, ℕ, ◌+◌, ◌<◌, ◌∙◌, ◌≡◌, ◌≤◌}
 use Rattle.tmw_ring.proofs.Moves.{knows_all}
 use Rattle.tmw_ring.proofs.Words.{new_words}
 
@@ -12,28 +12,21 @@ idle_at (suc count) (suc writer) within = idle_at count writer (omega arith)
 writers_at : (size : RingSize) (from count place : ℕ) (part : Part) → get_elem? (new_writers size from count) place ≡ some part
     → (place < count) × (part ≡ Writes (new_writer size (from + place)))
 writers_at size from zero place part at = absurd (some-ne-none part (sym at))
-writers_at size from (suc count) zero part at =
-    let same : from + 0 ≡ from = omega arith in
-    (omega arith, sym (some-injective (Writes (new_writer size from)) part at) ∙ ap (λ (n : ℕ). Writes (new_writer size n)) (sym same))
+writers_at size from (suc count) zero part at = grind arith
 writers_at size from (suc count) (suc place) part at =
-    let later = writers_at size (from + 1) count place part at in
-    let same : from + 1 + place ≡ from + suc place = omega arith in
-    (omega (arith, later.0), later.1 ∙ ap (λ (n : ℕ). Writes (new_writer size n)) same)
+    let later = writers_at size (from + 1) count place part at in grind arith
 
 writer_there : (size : RingSize) (from count place : ℕ) → place < count
     → get_elem? (new_writers size from count) place ≡ some (Writes (new_writer size (from + place)))
-writer_there size from zero place within = absurd (omega (arith, within))
-writer_there size from (suc count) zero within =
-    let same : from ≡ from + 0 = omega arith in ap (λ (n : ℕ). some (Writes (new_writer size n))) same
+writer_there size from zero place within = absurd (omega arith)
+writer_there size from (suc count) zero within = grind arith
 writer_there size from (suc count) (suc place) within =
     let same : from + 1 + place ≡ from + suc place = omega arith in
     writer_there size (from + 1) count place (omega (arith, within)) ∙ ap (λ (n : ℕ). some (Writes (new_writer size n))) same
 
 new_part_there : (size : RingSize) (number : ℕ) → number < size.writers
     → get_elem? (new_parts size) (suc number) ≡ some (Writes (new_writer size number))
-new_part_there size number within =
-    let same : 0 + number ≡ number = omega arith in
-    writer_there size 0 size.writers number within ∙ ap (λ (n : ℕ). some (Writes (new_writer size n))) same
+new_part_there size number within = grind (arith, writer_there)
 
 new_core-real : (size : RingSize) → IsReal (new_core size)
 new_core-real size = record {
@@ -45,28 +38,11 @@ new_core-real size = record {
 -- A new writer knows what is so.
 new_writer-fits : (size : RingSize) (number : ℕ) → number < size.writers
     → PartFits (new_core size) (Writes (new_writer size number)) × (key (Writes (new_writer size number)) ≡ suc number)
-new_writer-fits size number within =
-    let few = size.most_writers in
-    let same : number % 8 ≡ number = omega (arith, few) in
-    let fits : WriterFits (new_core size) (new_writer size number) = record {
-      sized = refl;
-      phase = idle_at size.writers (number % 8) (omega (arith, same));
-      made = refl;
-      seen = omega arith;
-    } in
-    (fits, omega (arith, same))
+new_writer-fits size number within = grind (arith, idle_at)
 
 part_at : (size : RingSize) (place : ℕ) (part : Part) → get_elem? (new_parts size) place ≡ some part
     → PartFits (new_core size) part × (key part ≡ place) × (run_of part ≡ [])
-part_at size zero part at =
-    subst (λ (found : Part). PartFits (new_core size) found × (key found ≡ 0) × (run_of found ≡ []))
-    (some-injective (Reads (new_reader size)) part at) (record { sized = refl; phase = refl; taken = refl }, refl, refl)
-part_at size (suc place) part at =
-    let (within, new) = writers_at size 0 size.writers place part at in
-    let from : 0 + place ≡ place = omega arith in
-    let known = new_writer-fits size place within in
-    subst (λ (found : Part). PartFits (new_core size) found × (key found ≡ suc place) × (run_of found ≡ []))
-    (ap (λ (n : ℕ). Writes (new_writer size n)) (sym from) ∙ sym new) (known.0, known.1, refl)
+part_at size place part h1 = grind (arith, writers_at, new_writer-fits)
 
 module _ {S : Type 0} where
   -- The words and the one seat of a new table.

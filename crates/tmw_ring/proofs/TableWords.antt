@@ -1,5 +1,5 @@
 -- Where a word of a place's cell stands in a ring's table, from where it stands in the ring that callers see.
-use Rattle.tmw_ring.proofs.Shared.{IsRingTable, RingIs, RingSize, TableId, ap, arith, sym, word_count, ℕ, ◌<◌, ◌∙◌, ◌≡◌}
+use Rattle.tmw_ring.proofs.Shared.{IsRingTable, RingIs, RingSize, TableId, arith, word_count, ℕ, ◌<◌, ◌≡◌}
 
 -- The word is within the table, and is that of the size that the table was told.
 pub record InTable (stands : ℕ → ℕ → ℕ) (told : RingSize) (table : TableId) (place word : ℕ) : Type 0 where
@@ -9,10 +9,4 @@ pub record InTable (stands : ℕ → ℕ → ℕ) (told : RingSize) (table : Tab
 pub in_table : (stands : ℕ → ℕ → ℕ) → ((cells place : ℕ) → 0 < cells → stands cells place < word_count cells)
     → (size told : RingSize) (table : TableId) (ring : RingIs) (place word : ℕ) → IsRingTable size told table
     → record { table = table; size = size } ≡ ring → word ≡ stands ring.size.cells place → InTable stands told table place word
-in_table stands below size told table ring place word is seen at =
-    let here : word ≡ stands size.cells place = at ∙ ap (λ (r : RingIs). stands r.size.cells place) (sym seen) in
-    let some : 0 < size.cells = omega (arith, size.some_writers, size.enough_cells) in
-    record {
-      within = omega (arith, here, below size.cells place some, is.words);
-      told_at = here ∙ ap (λ (s : RingSize). stands s.cells place) (sym is.told_it);
-    }
+in_table stands below size told table ring place word is seen at = grind arith

@@ -1,5 +1,5 @@
 -- Each step of the reader keeps the rule of a ring's table, and tells the reader what it finds.
-use Rattle.tmw_ring.proofs.Shared.{Allows, Answered, Bool, Core, Event, HasRead, IsHeader, IsReadyReader, IsReal, IsRun, IsToldEvent, IsToldReader, IsWaitingReader, List, Me, Part, PartFits, Parts, PlaceFreed, ReaderFits, ReaderMade, ReaderPart, ReaderPhase, Reads, Ready, RingCell, RingSize, Shown, Some, Sound, StampSeen, State, Stepped, Told, ValueRead, Waiting, Writes, [], after_free, after_look, after_read, ap, apart, arith, cell_at, cell_words, empty_cell, false, free_step, freeing, front_word, get_elem?, gone-step, has_cell, header_of, if◌then◌else◌, keeps, key, length, new_core, next_event, pack-words, peek_step, peeking, phase_after, phase_with, read_step, reader_actor, reader_in, reading, refl, runs-append, set, set-get_or, slice_index, some, stamp_of, stamp_word, stamped-parts, standing, stepped, subst, sym, true, unpacked, value_word, whole, words_of, ℕ, ◌%◌, ◌++◌, ◌+◌, ◌==◌, ◌^◌, ◌∙◌, ◌∷◌, ◌≡◌, ◌≢◌, ◌≤◌}
+use Rattle.tmw_ring.proofs.Shared.{Allows, Answered, Bool, Core, Event, HasRead, IsHeader, IsReadyReader, IsReal, IsRun, IsToldEvent, IsToldReader, IsWaitingReader, List, Me, Part, PartFits, Parts, PlaceFreed, ReaderFits, ReaderMade, ReaderPart, ReaderPhase, Reads, Ready, RingCell, RingSize, Shown, Some, Sound, StampSeen, State, Stepped, Told, ValueRead, Waiting, [], after_free, after_look, after_read, ap, apart, arith, cell_at, cell_words, empty_cell, false, free_step, freeing, front_word, get_elem?, gone-step, has_cell, header_of, if◌then◌else◌, keeps, key, length, new_core, next_event, pack-words, peek_step, peeking, phase_after, phase_with, read_step, reader_actor, reader_in, reading, refl, runs-append, set, set-get_or, slice_index, some, stamp_of, stamp_word, stamped-parts, standing, stepped, subst, sym, true, unpacked, value_word, whole, words_of, ℕ, ◌%◌, ◌++◌, ◌+◌, ◌==◌, ◌^◌, ◌∙◌, ◌∷◌, ◌≡◌, ◌≢◌, ◌≤◌}
 use Rattle.tmw_ring_defs.proofs.RingTakes.{peek_keeps, read_keeps, free_keeps}
 use Rattle.tmw_ring.proofs.Moves.{Makes, moves}
 use Rattle.tmw_ring.proofs.Words.{stamp_found, value_found}
@@ -12,13 +12,7 @@ with_reader core front phase taken = record core { front = front; reader = phase
 -- The writers' parts fit it.
 others_fit : (core : Core) (front : ℕ) (phase : ReaderPhase) (taken : List Event) (other : Part) → key other ≢ 0 → PartFits core other
     → PartFits (with_reader core front phase taken) other
-others_fit core front phase taken (Writes part) apart fits = record {
-  sized = fits.sized;
-  phase = fits.phase;
-  made = fits.made;
-  seen = fits.seen;
-}
-others_fit core front phase taken (Reads part) apart fits = absurd (apart refl)
+others_fit core front phase taken other apart fits = grind arith
 
 -- Its numbers are real.
 reader_real : (core : Core) (front : ℕ) (phase : ReaderPhase) (taken : List Event) → IsReal core
@@ -28,26 +22,12 @@ reader_real core front phase taken real = record { headers = real.headers; event
 when_true : {A : Type 0} (test : Bool) (a b : A) → test ≡ true → (if test then a else b) ≡ a
 when_true test a b is = rw is refl
 
-when_false : {A : Type 0} (test : Bool) (a b : A) → test ≡ false → (if test then a else b) ≡ b
-when_false test a b is = rw is refl
-
 -- A waiting reader's look at the next place's stamp and header, and what it is answered.
 peek_makes : (core : Core) (stamp header : ℕ) (test : Bool) → core.reader ≡ Waiting → (cell_at core core.front).stamp ≡ stamp
     → (cell_at core core.front).header ≡ header → (stamp == core.front + 1) ≡ test
     → peek_step core core.reader
     ≡ Some (if test then IsReady else NotReady, with_reader core core.front (if test then Ready header else Waiting) core.taken)
-peek_makes core stamp header true waiting is_stamp is_header is =
-    let cell : RingCell = cell_at core core.front in
-    let tested : (cell.stamp == core.front + 1) ≡ true = ap (λ (n : ℕ). n == core.front + 1) is_stamp ∙ is in
-    ap (peek_step core) waiting
-    ∙ when_true (cell.stamp == core.front + 1) (Some (IsReady, record core { reader = Ready cell.header })) (Some (NotReady, core)) tested
-    ∙ ap (λ (h : ℕ). let next : Stepped = Some (IsReady, record core { reader = Ready h }) in next) is_header
-peek_makes core stamp header false waiting is_stamp is_header is =
-    let cell : RingCell = cell_at core core.front in
-    let tested : (cell.stamp == core.front + 1) ≡ false = ap (λ (n : ℕ). n == core.front + 1) is_stamp ∙ is in
-    ap (peek_step core) waiting
-    ∙ when_false (cell.stamp == core.front + 1) (Some (IsReady, record core { reader = Ready cell.header })) (Some (NotReady, core)) tested
-    ∙ ap (λ (phase : ReaderPhase). let next : Stepped = Some (NotReady, record core { reader = phase }) in next) waiting
+peek_makes core stamp header test waiting is_stamp is_header is = grind arith
 
 -- A look at the next place's stamp and header leaves a sound ring.
 look_sound : (core : Core) (stamp header : ℕ) (test : Bool) → Sound core → core.reader ≡ Waiting

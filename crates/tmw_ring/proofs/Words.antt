@@ -1,5 +1,5 @@
 -- What a ring's words tell of its state, and what a store to one of them leaves.
-use Rattle.tmw_ring.proofs.Shared.{Core, Event, Kind, List, RingCell, RingSize, [], ap, apart, ap₂, arith, cell_at, cell_words, crossed, empty_cell, filled, get_elem?, get_or, get_or-set_other, get_or-set_same, joined, kind_value, length, length-replicate, length-set, new_core, packed_header, published, refl, replicate, set, slice_index, some, some-injective, some-ne-none, stamp_word, stamped, standing, subst, suc, sym, value_word, whole, with_cell, word_count, words_of, zero, ℕ, ◌%◌, ◌*◌, ◌+◌, ◌<◌, ◌∙◌, ◌∷◌, ◌≡◌, ◌≢◌}
+use Rattle.tmw_ring.proofs.Shared.{Core, Event, Kind, List, RingCell, RingSize, [], ap, apart, ap₂, arith, cell_at, cell_words, crossed, empty_cell, filled, get_elem?, get_or, get_or-set_other, get_or-set_same, joined, kind_value, length, length-replicate, length-set, new_core, packed_header, published, refl, replicate, set, slice_index, some, some-injective, some-ne-none, stamp_word, stamped, standing, suc, sym, value_word, whole, with_cell, word_count, words_of, zero, ℕ, ◌%◌, ◌*◌, ◌+◌, ◌<◌, ◌∙◌, ◌∷◌, ◌≡◌, ◌≢◌}
 use Rattle.std.proofs.Math.Nat.{mod-lt}
 
 -- Each cell stands within the table, and the cell that stands there is that cell.
@@ -22,9 +22,8 @@ value_word-within cells place any = omega (arith, crossed-within cells (place % 
 -- which cell stands at a place
 stands : (cells : List RingCell) (from count at place : ℕ) → at < count → place ≡ from + at
     → get_or (standing cells from count) at empty_cell ≡ get_or cells (crossed place) empty_cell
-stands cells from zero at place low is = absurd (omega (arith, low))
-stands cells from (suc count) zero place low is =
-    let same : from ≡ place = omega (arith, is) in ap (λ (n : ℕ). get_or cells (crossed n) empty_cell) same
+stands cells from zero at place low is = absurd (omega arith)
+stands cells from (suc count) zero place low is = grind arith
 stands cells from (suc count) (suc at) place low is = stands cells (from + 1) count at place (omega (arith, low)) (omega (arith, is))
 
 -- A cell that stands before the places changes none.
@@ -32,22 +31,17 @@ none_stands : (cells : List RingCell) (new : RingCell) (from count place : ℕ) 
     → standing (set cells (crossed place) new) from count ≡ standing cells from count
 none_stands cells new from zero place low = refl
 none_stands cells new from (suc count) place low =
-    let other = apart-crossed from place (λ same. absurd (omega (arith, low, same))) in
-    ap₂ (λ (c : RingCell) (l : List RingCell). c ∷ l) (get_or-set_other cells (crossed place) (crossed from) new empty_cell other)
-    (none_stands cells new (from + 1) count place (omega (arith, low)))
+    let more = none_stands cells new (from + 1) count place (omega arith) in
+    grind (arith, apart-crossed, ap₂, get_or-set_other, crossed, empty_cell)
 
 -- A cell that changes does so where it stands.
 one_stands : (cells : List RingCell) (new : RingCell) (from count at place : ℕ) → at < count → place ≡ from + at → crossed place < length cells
     → set (standing cells from count) at new ≡ standing (set cells (crossed place) new) from count
-one_stands cells new from zero at place low is there = absurd (omega (arith, low))
+one_stands cells new from zero at place low is there = absurd (omega arith)
 one_stands cells new from (suc count) zero place low is there =
-    let same : place ≡ from = omega (arith, is) in
-    ap₂ (λ (c : RingCell) (l : List RingCell). c ∷ l)
-    (sym (get_or-set_same cells (crossed place) new empty_cell there)
-    ∙ ap (λ (n : ℕ). get_or (set cells (crossed place) new) (crossed n) empty_cell) same)
-    (sym (none_stands cells new (from + 1) count place (omega (arith, same))))
+    grind (arith, get_or-set_same, none_stands)
 one_stands cells new from (suc count) (suc at) place low is there =
-    let other = apart-crossed from place (λ same. absurd (omega (arith, is, same))) in
+    let other = apart-crossed from place (λ same. absurd (omega (arith, same))) in
     ap₂ (λ (c : RingCell) (l : List RingCell). c ∷ l) (sym (get_or-set_other cells (crossed place) (crossed from) new empty_cell other))
     (one_stands cells new (from + 1) count at place (omega (arith, low)) (omega (arith, is)) there)
 
@@ -62,12 +56,7 @@ in_table cells cell there =
 
 set_table : (cells : List RingCell) (cell : ℕ) (new : RingCell) → cell < length cells
     → set (table cells) (crossed cell) new ≡ table (set cells cell new)
-set_table cells cell new there =
-    let back = crossed-crossed cell in
-    one_stands cells new 0 (whole (length cells)) (crossed cell) (crossed cell) (crossed-within (length cells) cell there) (omega arith)
-    (subst (λ (n : ℕ). n < length cells) (sym back) there)
-    ∙ ap (λ (n : ℕ). standing (set cells n new) 0 (whole (length cells))) back
-    ∙ ap (λ (n : ℕ). standing (set cells cell new) 0 (whole n)) (sym (length-set cells cell new))
+set_table cells cell new there = grind (arith, one_stands, length-set)
 
 -- sixteen more
 abbrev more : ℕ → ℕ
@@ -90,16 +79,14 @@ pub stamp_found : (core : Core) (place : ℕ) → place % core.size.cells < leng
 stamp_found core place there =
     let k : ℕ = place % core.size.cells in
     let e : 32 + 2 * crossed k ≡ more (more (2 * crossed k)) = omega arith in
-    ap (slice_index (words_of core)) e ∙ first_at (table core.cells) (crossed k)
-    ∙ ap (λ (cell : RingCell). stamped cell.stamp cell.header) (in_table core.cells k there)
+    grind (arith, first_at, in_table)
 
 pub value_found : (core : Core) (place : ℕ) → place % core.size.cells < length core.cells
     → slice_index (words_of core) (value_word core.size.cells place) ≡ (cell_at core place).value
 value_found core place there =
     let k : ℕ = place % core.size.cells in
     let e : 33 + 2 * crossed k ≡ more (more (suc (2 * crossed k))) = omega arith in
-    ap (slice_index (words_of core)) e ∙ second_at (table core.cells) (crossed k)
-    ∙ ap (λ (cell : RingCell). cell.value) (in_table core.cells k there)
+    grind (arith, second_at, in_table)
 
 -- what a store to the words of the cell with this index leaves
 first_set : (cells : List RingCell) (k stamp header : ℕ)
@@ -107,17 +94,13 @@ first_set : (cells : List RingCell) (k stamp header : ℕ)
     ≡ cell_words (set cells k (record (get_or cells k empty_cell) { stamp = stamp; header = header }))
 first_set [] k stamp header = refl
 first_set (cell ∷ cells) zero stamp header = refl
-first_set (cell ∷ cells) (suc k) stamp header =
-    let e : 2 * suc k ≡ suc (suc (2 * k)) = omega arith in
-    rw e (ap (λ (words : List ℕ). stamped cell.stamp cell.header ∷ cell.value ∷ words) (first_set cells k stamp header))
+first_set (cell ∷ cells) (suc k) stamp header = grind (arith, (first_set cells k stamp header))
 
 second_set : (cells : List RingCell) (k value : ℕ)
     → set (cell_words cells) (suc (2 * k)) value ≡ cell_words (set cells k (record (get_or cells k empty_cell) { value = value }))
 second_set [] k value = refl
 second_set (cell ∷ cells) zero value = refl
-second_set (cell ∷ cells) (suc k) value =
-    let e : 2 * suc k ≡ suc (suc (2 * k)) = omega arith in
-    rw e (ap (λ (words : List ℕ). stamped cell.stamp cell.header ∷ cell.value ∷ words) (second_set cells k value))
+second_set (cell ∷ cells) (suc k) value = grind (arith, (second_set cells k value))
 
 -- The words after a fill.
 pub filled_words : (core : Core) (place : ℕ) (kind : Kind) → place % core.size.cells < length core.cells
@@ -148,8 +131,7 @@ published_words core place event there =
 cell_words-empty : (count : ℕ) → cell_words (replicate count empty_cell) ≡ replicate (2 * count) 0
 cell_words-empty zero = refl
 cell_words-empty (suc count) =
-    let e : 2 * suc count ≡ suc (suc (2 * count)) = omega arith in
-    rw e (ap (λ (words : List ℕ). 0 ∷ 0 ∷ words) (cell_words-empty count))
+    let e : 2 * suc count ≡ suc (suc (2 * count)) = omega arith in cc (cell_words-empty count)
 
 empty_at : (count at : ℕ) → get_or (replicate count empty_cell) at empty_cell ≡ empty_cell
 empty_at zero at = refl
@@ -167,11 +149,7 @@ pub new_words : (size : RingSize) → replicate (word_count size.cells) 0 ≡ wo
 new_words size =
     let count : ℕ = whole size.cells in
     let e : 32 + 2 * count ≡ more (more (2 * count)) = omega arith in
-    let many : size.cells ≡ length (replicate size.cells empty_cell) = sym (length-replicate size.cells empty_cell) in
-    ap (λ (n : ℕ). replicate n 0) e
-    ∙ ap (λ (words : List ℕ). 0 ∷ apart (0 ∷ apart words))
-    (sym (cell_words-empty count) ∙ ap cell_words (sym (standing-empty size.cells 0 count))
-    ∙ ap (λ (n : ℕ). cell_words (standing (replicate size.cells empty_cell) 0 (whole n))) many)
+    grind (arith, length-replicate, cell_words-empty, standing-empty)
 
 -- a word that was read from the words themselves
 pub word_read : (words : List ℕ) (word found : ℕ) → get_elem? words word ≡ some found → slice_index words word ≡ found

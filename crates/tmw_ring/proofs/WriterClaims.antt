@@ -1,5 +1,5 @@
 -- A writer may claim a place.
-use Rattle.tmw_ring.proofs.Shared.{Allows, Answered, Bool, Cleared, Core, Event, FitsKind, HasClaimed, IsIn, IsReal, IsRecorded, IsSeatOf, Ix, Kind, List, Me, Parts, Place, RingSize, Shown, Some, Sound, WriterFits, WriterMade, WriterPart, WriterPhase, Writes, [], ap, arith, by_writer-in, claim_step, claimed, claiming, cleared, eq-eqb, event_of, false, if◌then◌else◌, keeps, length, made_at, made_from, ne_eqb, refl, set, slice_get, slice_get_within, slice_index, subst, suc, sym, true, words_of, writer_actor, writer_in, zero, ℕ, ◌%◌, ◌++◌, ◌+◌, ◌<◌, ◌==◌, ◌∙◌, ◌∷◌, ◌≡◌, ◌≢◌, ◌≤◌}
+use Rattle.tmw_ring.proofs.Shared.{Allows, Answered, Cleared, Core, Event, FitsKind, HasClaimed, IsIn, IsReal, IsRecorded, IsSeatOf, Ix, Kind, List, Me, Parts, Place, RingSize, Shown, Some, Sound, WriterFits, WriterMade, WriterPart, WriterPhase, Writes, [], ap, arith, claimed, claiming, cleared, event_of, keeps, length, made_at, made_from, ne_eqb, refl, set, slice_get, slice_get_within, slice_index, subst, suc, sym, words_of, writer_actor, writer_in, zero, ℕ, ◌%◌, ◌++◌, ◌+◌, ◌<◌, ◌∙◌, ◌∷◌, ◌≡◌, ◌≢◌, ◌≤◌}
 use Rattle.tmw_ring_defs.proofs.RingClaims.{with_claim, claim_keeps}
 use Rattle.tmw_ring.specs.declared.part.Made.{Made}
 use Rattle.tmw_ring.proofs.Moves.{Makes}
@@ -10,30 +10,16 @@ made_from-own : (writer : Ix) (kind : Kind) (from : ℕ) (log : List Event)
     → made_from writer.number from (log ++ event_of writer kind ∷ [])
     ≡ made_from writer.number from log ++ made_at writer kind (from + length log) ∷ []
 made_from-own writer kind from [] =
-    let last : from + 0 ≡ from = omega arith in
-    rw (eq-eqb writer.number writer.number refl) (ap (λ (place : ℕ). made_at writer kind place ∷ []) (sym last))
+    let last : from + 0 ≡ from = omega arith in grind arith
 made_from-own writer kind from (event ∷ log) =
-    let next : from + 1 + length log ≡ from + suc (length log) = omega arith in
-    let later : made_from writer.number (from + 1) (log ++ event_of writer kind ∷ [])
-    ≡ made_from writer.number (from + 1) log ++ made_at writer kind (from + suc (length log)) ∷ [] =
-    made_from-own writer kind (from + 1) log
-    ∙ ap (λ (place : ℕ). made_from writer.number (from + 1) log ++ made_at writer kind place ∷ []) next in
-    by_test (event.thread.number == writer.number) (made_from writer.number (from + 1) (log ++ event_of writer kind ∷ []))
-    (made_from writer.number (from + 1) log) (made_at writer kind (from + suc (length log))) later
-  where
-    by_test : (test : Bool) (longer rest : List Made) (last : Made) → longer ≡ rest ++ last ∷ []
-        → (if test then record { place = from; event = event } ∷ longer else longer)
-        ≡ (if test then record { place = from; event = event } ∷ rest else rest) ++ last ∷ []
-    by_test true longer rest last later = ap (λ (all : List Made). record { place = from; event = event } ∷ all) later
-    by_test false longer rest last later = later
+    grind (arith, (made_from-own writer kind (from + 1) log))
 
 -- and another's adds nothing.
 made_from-other : (writer : Ix) (kind : Kind) (other from : ℕ) (log : List Event) → other ≢ writer.number
     → made_from other from (log ++ event_of writer kind ∷ []) ≡ made_from other from log
 made_from-other writer kind other from [] apart = rw (ne_eqb writer.number other (λ same. apart (sym same))) refl
 made_from-other writer kind other from (event ∷ log) apart =
-    ap (λ (rest : List Made). if event.thread.number == other then record { place = from; event = event } ∷ rest else rest)
-    (made_from-other writer kind other (from + 1) log apart)
+    cc (made_from-other writer kind other (from + 1) log apart)
 
 -- The longer log has its events, and the new one.
 log_cases : (log : List Event) (last : Event) (place : ℕ) (event : Event) → (P : Event → Type 0)
@@ -47,10 +33,7 @@ log_cases (first ∷ log) last (suc place) event P before now at =
 
 claim_makes : (kind : Kind) (core : Core) (part : WriterPart) → WriterFits core part → part.phase ≡ Cleared kind
     → Makes (writer_actor part.number) core (claiming core.tail part) (with_claim part.number kind core)
-claim_makes kind core part fits is_cleared = record {
-  step = by_writer-in part.number core (claim_step part.number core) (Cleared kind) (fits.phase ∙ ap Some is_cleared);
-  whose = refl;
-}
+claim_makes kind core part fits is_cleared = grind arith
 
 claim_goes : (kind : Kind) (core : Core) (part : WriterPart) (run : List Answered) → Sound core → IsReal core → WriterFits core part
     → part.phase ≡ Cleared kind → Goes core (with_claim part.number kind core) part (claimed kind core.tail run part)

@@ -1,15 +1,12 @@
 -- A writer may look at front and at tail.
-use Rattle.tmw_ring.proofs.Shared.{Allows, Answered, Bool, Core, FitsKind, FitsPhase, HasSeenFront, HasSeenTail, Idle, IsIn, IsReal, IsSeatOf, Kind, List, Looked, Me, Parts, RingSize, Saw, Shown, Some, Sound, Stepped, WriterFits, WriterMade, WriterPart, WriterPhase, Writes, [], ap, arith, by_writer-in, false, front_in, front_look, front_seen, front_step, front_word, is_full, is_spent, keeps, refl, room_phase, room_reply, set, slice_index, subst, sym, tail_look, tail_seen, tail_step, true, with_phase, words_of, writer_actor, writer_in, ℕ, ◌++◌, ◌∙◌, ◌∷◌, ◌≡◌, ◌≤◌}
+use Rattle.tmw_ring.proofs.Shared.{Allows, Answered, Bool, Core, FitsKind, FitsPhase, HasSeenFront, HasSeenTail, Idle, IsIn, IsReal, IsSeatOf, Kind, List, Looked, Me, Parts, RingSize, Saw, Shown, Some, Sound, WriterFits, WriterMade, WriterPart, WriterPhase, Writes, [], ap, arith, front_in, front_look, front_seen, front_word, is_full, is_spent, keeps, refl, room_phase, room_reply, set, slice_index, subst, sym, tail_look, tail_seen, with_phase, words_of, writer_actor, writer_in, ℕ, ◌++◌, ◌∙◌, ◌∷◌, ◌≡◌, ◌≤◌}
 use Rattle.tmw_ring_defs.proofs.RingLooks.{front_keeps, tail_keeps}
 use Rattle.tmw_ring.proofs.Moves.{Makes}
 use Rattle.tmw_ring.proofs.Writing.{Goes, cells_go, writer_fits, writer_moves, writer_made}
 
 front_makes : (kind : Kind) (core : Core) (part : WriterPart) → WriterFits core part → part.phase ≡ Idle
     → Makes (writer_actor part.number) core (front_look kind core.front part) (with_phase part.number.number (Looked kind core.front) core)
-front_makes kind core part fits idle = record {
-  step = by_writer-in part.number core (front_step part.number.number kind core) Idle (fits.phase ∙ ap Some idle);
-  whose = refl;
-}
+front_makes kind core part fits idle = grind arith
 
 front_goes : (kind : Kind) (core : Core) (part : WriterPart) (run : List Answered) → Sound core → IsReal core → WriterFits core part
     → part.phase ≡ Idle → FitsKind kind
@@ -21,25 +18,13 @@ front_goes kind core part run sound real fits idle fits_kind =
     cells_go core core.cells part (front_seen kind core.front run part) fits real sound_next real.headers refl refl refl fits.seen fits_kind
 
 room_fits : (spent full : Bool) (kind : Kind) → FitsKind kind → FitsPhase (room_phase spent full kind)
-room_fits true full kind fits_kind = tt
-room_fits false true kind fits_kind = tt
-room_fits false false kind fits_kind = fits_kind
+room_fits spent full kind fits_kind = grind arith
 
 tail_makes : (kind : Kind) (front : ℕ) (core : Core) (part : WriterPart) (run : List Answered) → WriterFits core part
     → part.phase ≡ Looked kind front
     → Makes (writer_actor part.number) core (tail_look core.tail part)
     (with_phase part.number.number (tail_seen kind core.tail run part).phase core)
-tail_makes kind front core part run fits looked =
-    let answer : RingSize → ℕ → Stepped = λ size seen.
-    Some (
-      room_reply (is_spent size core.tail) (is_full size seen core.tail) seen core.tail,
-      with_phase part.number.number (room_phase (is_spent size core.tail) (is_full size seen core.tail) kind) core,
-    ) in
-    record {
-      step = by_writer-in part.number core (tail_step part.number.number core) (Looked kind front) (fits.phase ∙ ap Some looked)
-          ∙ sym (ap (λ size. answer size (front_in part.phase)) fits.sized ∙ ap (λ phase. answer core.size (front_in phase)) looked);
-      whose = refl;
-    }
+tail_makes kind front core part run fits looked = grind arith
 
 tail_goes : (kind : Kind) (front : ℕ) (core : Core) (part : WriterPart) (run : List Answered) → Sound core → IsReal core
     → WriterFits core part → part.phase ≡ Looked kind front

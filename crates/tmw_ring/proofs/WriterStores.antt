@@ -1,10 +1,10 @@
 -- A writer may fill and publish the place that it has claimed.
-use Rattle.tmw_ring.proofs.Shared.{All-set, Allows, Answered, Claimed, Core, Filled, FitsPhase, HasFilled, HasPublished, Idle, IsHeader, IsIn, IsReal, IsSeatOf, Kind, List, Me, Parts, Published, RingCell, RingSize, Shown, Some, Sound, Stepped, WriterFits, WriterPart, WriterPhase, Writes, [], ap, arith, by_writer-in, cell_at, done, empty_cell, event_of, false, fill_step, filled, filling, has_cell, joined, keeps, kind_value, packed_header, packed_header-small, place_in, publish_step, published, publishing, refl, set, set_cell, stamp_word, subst, sym, true, value_filled, value_word, with_cell, with_phase, words_of, writer_actor, writer_in, ℕ, ◌%◌, ◌++◌, ◌∙◌, ◌∷◌, ◌≡◌}
+use Rattle.tmw_ring.proofs.Shared.{Allows, Answered, Claimed, Core, Filled, FitsPhase, HasFilled, HasPublished, Idle, IsHeader, IsIn, IsReal, IsSeatOf, Kind, List, Me, Parts, Published, RingCell, RingSize, Shown, Some, Sound, WriterFits, WriterPart, WriterPhase, Writes, [], ap, arith, cell_at, done, empty_cell, event_of, false, filled, filling, has_cell, joined, keeps, kind_value, packed_header, packed_header-small, place_in, published, publishing, refl, set, stamp_word, subst, sym, true, value_filled, value_word, with_cell, with_phase, words_of, writer_actor, writer_in, ℕ, ◌%◌, ◌++◌, ◌∙◌, ◌∷◌, ◌≡◌, rules}
 use Rattle.tmw_ring_defs.proofs.RingFills.{fill_keeps}
 use Rattle.tmw_ring_defs.proofs.RingPublishes.{publish_keeps}
 use Rattle.tmw_ring.proofs.Words.{filled_words, published_words}
 use Rattle.tmw_ring.proofs.Moves.{Makes}
-use Rattle.tmw_ring.proofs.Writing.{Goes, cells_go, writer_fits, writer_moves, writer_made}
+use Rattle.tmw_ring.proofs.Writing.{Goes, writer_fits, writer_moves, writer_made}
 
 -- the state after a store to the place's cell, by a writer that goes on to the phase
 abbrev with_store : ℕ → ℕ → RingCell → WriterPhase → Core → Core
@@ -16,9 +16,7 @@ store_goes : (core : Core) (place : ℕ) (cell : RingCell) (old new : WriterPart
     → new.size ≡ old.size → new.number ≡ old.number → new.made ≡ old.made → new.seen ≡ old.seen → FitsPhase new.phase
     → Goes core (with_store old.number.number place cell new.phase core) old new
 store_goes core place cell old new sound fits real sound_next header same_size same_number made seen phase_fits =
-    cells_go core (set_cell core.size.cells place cell core.cells) old new fits real sound_next
-    (All-set (λ (c : RingCell). IsHeader c.header) core.cells (place % core.size.cells) cell header real.headers)
-    same_size same_number made (omega (arith, seen, fits.seen)) phase_fits
+    search rules
 
 -- The place's cell has a real header.
 cell_header : (core : Core) (place : ℕ) → Sound core → IsReal core → IsHeader (cell_at core place).header
@@ -28,14 +26,7 @@ fill_makes : (kind : Kind) (place : ℕ) (core : Core) (part : WriterPart) (run 
     → part.phase ≡ Claimed place kind false
     → Makes (writer_actor part.number) core (filling part)
     (with_store part.number.number place (filled kind (cell_at core place)) (value_filled kind run part).phase core)
-fill_makes kind place core part run fits is_claimed =
-    let cell : RingCell = filled kind (cell_at core place) in
-    let answer : WriterPhase → Stepped = λ phase. Some (Filled, with_store part.number.number place cell (Claimed (place_in phase) kind true) core) in
-    record {
-      step = by_writer-in part.number core (fill_step part.number.number core) (Claimed place kind false) (fits.phase ∙ ap Some is_claimed)
-          ∙ sym (ap answer is_claimed);
-      whose = refl;
-    }
+fill_makes kind place core part run fits is_claimed = grind arith
 
 fill_goes : (kind : Kind) (place : ℕ) (core : Core) (part : WriterPart) (run : List Answered) → Sound core → IsReal core
     → WriterFits core part → part.phase ≡ Claimed place kind false
@@ -56,14 +47,7 @@ fill_goes kind place core part run sound real fits is_claimed =
 publish_makes : (kind : Kind) (place : ℕ) (core : Core) (part : WriterPart) → WriterFits core part → part.phase ≡ Claimed place kind true
     → Makes (writer_actor part.number) core (publishing part)
     (with_store part.number.number place (published place (event_of part.number kind) (cell_at core place)) Idle core)
-publish_makes kind place core part fits is_claimed =
-    let cell : RingCell = published place (event_of part.number kind) (cell_at core place) in
-    let answer : WriterPhase → Stepped = λ phase. Some (Published (place_in phase), with_store part.number.number place cell Idle core) in
-    record {
-      step = by_writer-in part.number core (publish_step part.number core) (Claimed place kind true) (fits.phase ∙ ap Some is_claimed)
-          ∙ sym (ap answer is_claimed);
-      whose = refl;
-    }
+publish_makes kind place core part fits is_claimed = grind arith
 
 publish_goes : (kind : Kind) (place : ℕ) (core : Core) (part : WriterPart) (run : List Answered) → Sound core → IsReal core
     → WriterFits core part → part.phase ≡ Claimed place kind true

@@ -1,5 +1,5 @@
 -- A writer's step keeps the rule of a ring's table, if what the writer then knows is so.
-use Rattle.tmw_ring.proofs.Shared.{All, Answered, Core, Event, FitsPhase, IsHeader, IsReal, IsRecorded, IsRun, List, Part, PartFits, Parts, Reads, RingCell, RingSize, Shown, Some, Sound, State, WriterFits, WriterMade, WriterPart, Writes, [], ap, arith, get_elem?, gone-step, inl, inr, keeps, key, made_from, new_core, phase_cases, phase_kept, phase_set, refl, runs-append, set, slice_get, slice_get_within, slice_set, some, stepped, subst, sym, words_of, writer_actor, ℕ, ◌++◌, ◌+◌, ◌∙◌, ◌∷◌, ◌≡◌, ◌≢◌, ◌≤◌}
+use Rattle.tmw_ring.proofs.Shared.{All, Answered, Core, Event, FitsPhase, IsHeader, IsReal, IsRecorded, IsRun, List, Part, PartFits, Parts, RingCell, RingSize, Shown, Some, Sound, State, WriterFits, WriterMade, WriterPart, Writes, [], ap, arith, get_elem?, gone-step, keeps, key, made_from, new_core, phase_cases, phase_kept, phase_set, refl, runs-append, set, slice_get, slice_get_within, slice_set, some, stepped, subst, sym, words_of, writer_actor, ℕ, ◌++◌, ◌∙◌, ◌∷◌, ◌≡◌, ◌≢◌, ◌≤◌}
 use Rattle.tmw_ring.proofs.Moves.{Makes, moves}
 
 -- By a step of the writer with this part the ring goes on to the next state, in which the writer knows the new part.
@@ -25,64 +25,18 @@ pub cells_go : (core : Core) (cells : List RingCell) (old new : WriterPart) → 
     → All (λ cell. IsHeader cell.header) cells → new.size ≡ old.size → new.number ≡ old.number → new.made ≡ old.made
     → new.seen ≤ core.tail → FitsPhase new.phase
     → Goes core (record core { cells = cells; writers = slice_set core.writers old.number.number new.phase }) old new
-cells_go core cells old new fits real sound headers same_size same_number made seen phase_fits = record {
-  sized = refl;
-  sound = sound;
-  same_size = same_size;
-  same_number = same_number;
-  writers = refl;
-  reader = refl;
-  taken = refl;
-  made = made ∙ fits.made;
-  others = λ other apart. refl;
-  seen = seen;
-  later = omega arith;
-  headers = headers;
-  events = real.events;
-  phase_fits = phase_fits;
-}
+cells_go core cells old new fits real sound headers same_size same_number made seen phase_fits =
+    grind arith
 
 next-real : (core next : Core) (old new : WriterPart) → WriterFits core old → IsReal core → Goes core next old new → IsReal next
-next-real core next old new fits real goes = record {
-  headers = goes.headers;
-  events = λ place event at. subst (λ (size : RingSize). IsRecorded size event) (sym goes.sized) (goes.events place event at);
-  phases = λ writer phase at.
-      let found : slice_get (slice_set core.writers old.number.number new.phase) writer ≡ Some phase =
-      ap (λ phases. slice_get phases writer) (sym goes.writers) ∙ at in
-      elim (phase_cases core.writers old.number.number writer new.phase phase found) [
-        | inl set ↦ subst FitsPhase set.1 goes.phase_fits
-        | inr kept ↦ real.phases writer phase kept.1
-      ];
-}
+next-real core next old new fits real goes = grind (arith, phase_cases)
 
 new-fits : (core next : Core) (old new : WriterPart) → WriterFits core old → Goes core next old new → WriterFits next new
-new-fits core next old new fits goes =
-    let within = slice_get_within core.writers old.number.number old.phase fits.phase in
-    record {
-      sized = goes.same_size ∙ fits.sized ∙ sym goes.sized;
-      phase = ap (λ phases. slice_get phases new.number.number) goes.writers
-          ∙ ap (λ ix. slice_get (slice_set core.writers old.number.number new.phase) ix.number) goes.same_number
-          ∙ phase_set core.writers old.number.number new.phase within;
-      made = goes.made ∙ ap (λ ix. made_from ix.number 0 next.log) (sym goes.same_number);
-      seen = goes.seen;
-    }
+new-fits core next old new fits goes = grind (arith, slice_get_within, phase_set)
 
 others-fit : (core next : Core) (old new : WriterPart) → Goes core next old new → (other : Part) → key other ≢ key (Writes old)
     → PartFits core other → PartFits next other
-others-fit core next old new goes (Writes part) apart fits =
-    let another : part.number.number ≢ old.number.number = λ same. apart (ap (λ (n : ℕ). n + 1) same) in
-    record {
-      sized = fits.sized ∙ sym goes.sized;
-      phase = ap (λ phases. slice_get phases part.number.number) goes.writers
-          ∙ phase_kept core.writers old.number.number part.number.number new.phase another ∙ fits.phase;
-      made = fits.made ∙ sym (goes.others part.number.number another);
-      seen = omega (arith, fits.seen, goes.later);
-    }
-others-fit core next old new goes (Reads part) apart fits = record {
-  sized = fits.sized ∙ sym goes.sized;
-  phase = fits.phase ∙ sym goes.reader;
-  taken = fits.taken ∙ sym goes.taken;
-}
+others-fit core next old new goes other apart fits = grind (arith, phase_kept)
 
 module _ {S : Type 0} where
   -- What the writer of a seat knows is so.

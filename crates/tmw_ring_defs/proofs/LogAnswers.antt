@@ -1,7 +1,6 @@
 -- Each step of a sound ring is answered as the sequential log would answer it, where what its writers announced is known.
-use Rattle.tmw_ring_defs.proofs.Shared.{Announced, Asks, Bool, Claim, Claimed, Cleared, Core, Event, Fill, Free, Front, HasRead, Idle, IsIn, Ix, Kind, Looked, None, Option, Peek, Publish, Read, ReaderPhase, Ready, Sequential, Some, Sound, Step, Stepped, Stop, Tail, Told, Waiting, WriterPhase, [], announced_by, announces, ap, appended, by_writer, cell_at, claim_step, core_step, eq-eqb, false, fill_step, free_step, front_step, if◌then◌else◌, inl, inr, is_full, is_spent, length, length-append, ne_eqb, option_and_then, packed_header, peek_step, publish_step, read_step, refl, room_phase, room_reply, sequential_of, slice_get, sym, tail_step, true, unpacked, unpacked-pack, with_phase, ℕ, ◌+◌, ◌==◌, ◌∙◌, ◌∷◌, ◌≡◌}
+use Rattle.tmw_ring_defs.proofs.Shared.{Announced, Asks, Bool, Claim, Claimed, Cleared, Core, Fill, Free, Front, HasRead, Idle, IsIn, Ix, Kind, Looked, None, Peek, Publish, Read, ReaderPhase, Ready, Sequential, Some, Sound, Step, Stepped, Stop, Tail, Told, Waiting, WriterPhase, announced_by, announces, ap, appended, by_writer, claim_step, core_step, false, fill_step, free_step, front_step, is_full, is_spent, length-append, packed_header, peek_step, publish_step, read_step, refl, room_phase, room_reply, sequential_of, sym, tail_step, true, unpacked, unpacked-pack, with_phase, ℕ, ◌∙◌, ◌≡◌, arith}
 use Rattle.tmw_ring_defs.proofs.RingPhases.{phase_cases}
-use Rattle.tmw_ring_defs.specs.declared.ring_step.Reply.TheVariants.{Ready as IsReady, NotReady}
 
 -- A writer that has looked or is cleared has this kind to record.
 abbrev pub IsAnnounced : Kind → WriterPhase → Type 0
@@ -24,27 +23,17 @@ IsAnswered kinds step core (Some (reply, next)) =
 knows_phase : (kinds : Announced) (core : Core) (writer : ℕ) (phase : WriterPhase) → Knows kinds core → IsAnnounced (kinds writer) phase
     → Knows kinds (with_phase writer phase core)
 knows_phase kinds core writer phase knows is other found at =
-    elim (phase_cases core.writers writer other phase found at) [
-      | inl set ↦ rw (set.0, ← set.1) is
-      | inr kept ↦ knows other found kept.1
-    ]
+    grind (arith, phase_cases)
 
 -- The writer that looks at front announces its kind, and the others' stay.
 knows_front : (kinds : Announced) (writer : Ix) (kind : Kind) (core : Core) → Knows kinds core
     → Knows (announced_by (Front writer kind) kinds) (with_phase writer.number (Looked kind core.front) core)
-knows_front kinds writer kind core knows other found at =
-    elim (phase_cases core.writers writer.number other (Looked kind core.front) found at) [
-      | inl set ↦ let own : (other == writer.number) ≡ true = eq-eqb other writer.number set.0 in rw (own, ← set.1) refl
-      | inr kept ↦ let past : (other == writer.number) ≡ false = ne_eqb other writer.number kept.0 in rw past (knows other found kept.1)
-    ]
+knows_front kinds writer kind core knows other found at = grind (arith, phase_cases)
 
 -- The steps, kind by kind: first the writers', then the reader's.
 pub front-answered : (kinds : Announced) (writer : Ix) (kind : Kind) (core : Core) → Knows kinds core
     → (phase : WriterPhase) → IsAnswered kinds (Front writer kind) core (front_step writer.number kind core phase)
-front-answered kinds writer kind core knows Idle = (refl, knows_front kinds writer kind core knows)
-front-answered kinds writer kind core knows (Looked _ _) = tt
-front-answered kinds writer kind core knows (Cleared _) = tt
-front-answered kinds writer kind core knows (Claimed _ _ _) = tt
+front-answered kinds writer kind core knows phase = grind (arith, knows_front)
 
 pub tail-answered : (kinds : Announced) (writer : Ix) (core : Core) → Knows kinds core
     → (phase : WriterPhase) → IsIn core writer.number phase → IsAnswered kinds (Tail writer) core (tail_step writer.number core phase)
@@ -91,20 +80,13 @@ publish-answered kinds writer core knows (Claimed place kind true) = (refl, know
 
 pub peek-answered : (kinds : Announced) (core : Core) → Knows kinds core
     → (phase : ReaderPhase) → IsAnswered kinds Peek core (peek_step core phase)
-peek-answered kinds core knows Waiting = by_stamp ((cell_at core core.front).stamp == core.front + 1)
-  where
-    by_stamp : (is : Bool) → IsAnswered kinds Peek core (
-        if is then Some (IsReady, record core { reader = Ready (cell_at core core.front).header }) else Some (NotReady, core))
-    by_stamp true = (refl, knows)
-    by_stamp false = (refl, knows)
+peek-answered kinds core knows Waiting = grind arith
 peek-answered kinds core knows (Ready _) = tt
 peek-answered kinds core knows (Told _ _) = tt
 
 pub read-answered : (kinds : Announced) (core : Core) → Knows kinds core
     → (phase : ReaderPhase) → IsAnswered kinds Read core (read_step core phase)
-read-answered kinds core knows Waiting = tt
-read-answered kinds core knows (Ready header) = (refl, knows)
-read-answered kinds core knows (Told _ _) = tt
+read-answered kinds core knows phase = grind arith
 
 pub free-answered : (kinds : Announced) (core : Core) → Sound core → Knows kinds core
     → (phase : ReaderPhase) → HasRead core phase → IsAnswered kinds Free core (free_step core phase)
@@ -114,19 +96,12 @@ free-answered kinds core sound knows (Told header value) reads =
     let event = reads.0.event in
     let told : event ≡ unpacked header value =
     sym (ap (λ first. unpacked first value) reads.1 ∙ ap (unpacked (packed_header event)) reads.2 ∙ unpacked-pack event) in
-    let next : slice_get core.log (length core.taken) ≡ Some (unpacked header value) =
-    ap (slice_get core.log) (sym sound.front) ∙ reads.0.logged ∙ ap (λ (found : Event). Some found) told in
-    let log : ℕ → Sequential = λ count. record { items = core.log; count = count } in
-    ((refl, next, ap log (length-append core.taken (unpacked header value ∷ []))), knows)
+    grind (arith, length-append)
 
 -- What holds where the ring has no such writer, and from each phase that it may be in, holds of its step.
 by_writer-each : (P : Stepped → Type 0) (writer : Ix) (core : Core) (step : WriterPhase → Stepped) → P None
     → ((phase : WriterPhase) → IsIn core writer.number phase → P (step phase)) → P (by_writer writer core step)
-by_writer-each P writer core step missing each = by_phase (slice_get core.writers writer.number) refl
-  where
-    by_phase : (found : Option WriterPhase) → slice_get core.writers writer.number ≡ found → P (option_and_then step found)
-    by_phase None is = missing
-    by_phase (Some phase) is = each phase is
+by_writer-each P writer core step missing each = grind arith
 
 pub core_step-answered : (kinds : Announced) (step : Step) (core : Core) → Sound core → Knows kinds core
     → IsAnswered kinds step core (core_step step core)

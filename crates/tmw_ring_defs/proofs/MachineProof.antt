@@ -1,38 +1,12 @@
 -- A ring's machine: runs join end to end, and each step leaves the ring sound and spares the published places.
-use Rattle.tmw_ring_defs.proofs.Shared.{Bool, Claim, Core, Fill, Free, Front, List, Machine, None, NotNow, Peek, Publish, Read, Reply, Some, Sound, Spares, Step, StepLaw, Stepped, Stop, Stopped, Tail, [], after, answered, ap, arith, core_step, false, has_stopped, if◌then◌else◌, length, machine_step, moved, refl, replies, slice_set, subst, suc, take, true, writer_of, zero, ℕ, ◌++◌, ◌+◌, ◌<◌, ◌∷◌, ◌≡◌}
-
--- What holds of the machine as it is and of each that the ring's step may make of it holds of the one that answers.
-answered_each : (P : Reply × Machine → Type 0) (machine : Machine) (stepped : Stepped) → P (NotNow, machine)
-    → ((reply : Reply) (core : Core) → stepped ≡ Some (reply, core) → P (reply, record machine { core = core }))
-    → P (answered machine stepped)
-answered_each P machine None kept each = kept
-answered_each P machine (Some (reply, core)) kept each = each reply core refl
-
-moved_each : (P : Reply × Machine → Type 0) (step : Step) (machine : Machine) → P (NotNow, machine)
-    → ((stopped : List Bool) → P (Stopped, record machine { stopped = stopped }))
-    → ((reply : Reply) (core : Core) → core_step step machine.core ≡ Some (reply, core) → P (reply, record machine { core = core }))
-    → P (moved step machine)
-moved_each P (Front writer kind) machine kept stops each = answered_each P machine (core_step (Front writer kind) machine.core) kept each
-moved_each P (Tail writer) machine kept stops each = answered_each P machine (core_step (Tail writer) machine.core) kept each
-moved_each P (Claim writer) machine kept stops each = answered_each P machine (core_step (Claim writer) machine.core) kept each
-moved_each P (Fill writer) machine kept stops each = answered_each P machine (core_step (Fill writer) machine.core) kept each
-moved_each P (Publish writer) machine kept stops each = answered_each P machine (core_step (Publish writer) machine.core) kept each
-moved_each P Peek machine kept stops each = answered_each P machine (core_step Peek machine.core) kept each
-moved_each P Read machine kept stops each = answered_each P machine (core_step Read machine.core) kept each
-moved_each P Free machine kept stops each = answered_each P machine (core_step Free machine.core) kept each
-moved_each P (Stop writer) machine kept stops each = stops (slice_set machine.stopped writer.number true)
+use Rattle.tmw_ring_defs.proofs.Shared.{Bool, Core, List, Machine, NotNow, Reply, Some, Sound, Spares, Step, StepLaw, Stopped, [], after, ap, arith, core_step, length, machine_step, refl, replies, subst, suc, take, zero, ℕ, ◌++◌, ◌+◌, ◌<◌, ◌∷◌, ◌≡◌}
 
 -- A machine's step changes nothing, or stops a writer, or is a step of its ring: what holds in each of these holds of it.
 pub machine_step-each : (P : Reply × Machine → Type 0) (step : Step) (machine : Machine) → P (NotNow, machine)
     → ((stopped : List Bool) → P (Stopped, record machine { stopped = stopped }))
     → ((reply : Reply) (core : Core) → core_step step machine.core ≡ Some (reply, core) → P (reply, record machine { core = core }))
     → P (machine_step step machine)
-machine_step-each P step machine kept stops each =
-    by_flag (has_stopped machine.stopped (writer_of step)) (moved_each P step machine kept stops each)
-  where
-    by_flag : (flag : Bool) → P (moved step machine) → P (if flag then (NotNow, machine) else moved step machine)
-    by_flag true goes = kept
-    by_flag false goes = goes
+machine_step-each P step machine kept stops each = grind arith
 
 pub machine_step-sound : StepLaw → (step : Step) (machine : Machine) → Sound machine.core
     → Sound (machine_step step machine).1.core × Spares machine.core (machine_step step machine).1.core

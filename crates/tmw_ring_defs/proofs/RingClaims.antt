@@ -1,6 +1,6 @@
 -- A claim from a sound state leaves a sound state: the new place is tail's, its event is the log's last, and its cell is free.
 use Rattle.tmw_ring_defs.proofs.Shared.{All-weaker, Bool, Claimed, Cleared, Core, Event, Holds, Idle, IsHeld, IsIn, IsPublished, Ix, Kind, List, Looked, Place, Reply, RingCell, Some, Sound, Spares, WriterPhase, [], ap, arith, cases_lt, claim_step, cleared, false, inl, inr, length, length-set, length_push, none-some, refl, slice_get, slice_get_within, slice_set, some_pair_parts, subst, suc, sym, take-append-le, zero, ℕ, ◌++◌, ◌+◌, ◌<◌, ◌∙◌, ◌∷◌, ◌≡◌, ◌≢◌, ◌≤◌, ◌⊎◌}
-use Rattle.tmw_ring_defs.proofs.RingPhases.{phase_set, phase_kept, phase_cases, two_writers, claimed_parts, cleared-set}
+use Rattle.tmw_ring_defs.proofs.RingPhases.{phase_set, phase_kept, phase_cases, claimed_parts, cleared-set}
 use Rattle.tmw_ring_defs.proofs.RingPlaces.{event_of, published_still, holds_still, read_still}
 use Rattle.tmw_ring_defs.proofs.RingStores.{held_stands, stamp_low}
 
@@ -32,15 +32,7 @@ claim-places : (writer : Ix) (kind : Kind) (old : Core) → Sound old → IsIn o
 claim-places writer kind old sound at place low high =
     elim (cases_lt place old.tail) [
       | inl below ↦ elim (sound.places place low below) [
-        | inl held ↦
-            let apart = two_writers old.writers held.writer writer.number (Claimed place held.kind held.is_filled) (Cleared kind) held.claimed at
-            (λ same. absurd (cc)) in
-            inl (record {
-              writer = held.writer;
-              kind = held.kind;
-              is_filled = held.is_filled;
-              claimed = phase_kept old.writers writer.number held.writer (Claimed old.tail kind false) apart ∙ held.claimed;
-            })
+        | inl held ↦ grind (arith, phase_kept)
         | inr published ↦
             inr (published_still old (with_claim writer kind old) place (logs_more old.log (event_of writer kind ∷ [])) refl published)
       ]
@@ -48,12 +40,7 @@ claim-places writer kind old sound at place low high =
           let last : old.tail ≡ place = omega arith in
           let set = phase_set old.writers writer.number (Claimed old.tail kind false)
           (slice_get_within old.writers writer.number (Cleared kind) at) in
-          inl (record {
-            writer = writer.number;
-            kind = kind;
-            is_filled = false;
-            claimed = set ∙ ap (λ (p : ℕ). Some (Claimed p kind false)) last;
-          })
+          grind arith
     ]
 
 -- The new place's cell isn't stamped for it, since no stamp was ahead of tail.

@@ -1,5 +1,5 @@
 -- What the phases of a ring's writers are after one was set, and how many of them are cleared.
-use Rattle.tmw_ring_defs.proofs.Shared.{Bool, Claimed, Cleared, Idle, Kind, List, Looked, Some, WriterPhase, [], ap, arith, cleared, inl, inr, length, one_if_cleared, refl, replicate, same_Some, slice_get, slice_set, suc, zero, ℕ, ◌+◌, ◌<◌, ◌∷◌, ◌≡◌, ◌≢◌, ◌≤◌, ◌⊎◌}
+use Rattle.tmw_ring_defs.proofs.Shared.{Bool, Claimed, Idle, Kind, List, Some, WriterPhase, [], ap, arith, cleared, inl, inr, length, one_if_cleared, refl, replicate, same_Some, slice_get, slice_set, suc, zero, ℕ, ◌+◌, ◌<◌, ◌∷◌, ◌≡◌, ◌≢◌, ◌≤◌, ◌⊎◌}
 
 -- The set writer has the new phase.
 pub phase_set : (phases : List WriterPhase) (writer : ℕ) (phase : WriterPhase) → writer < length phases
@@ -23,13 +23,14 @@ pub phase_cases : (phases : List WriterPhase) (writer other : ℕ) (phase found 
     → ((other ≡ writer) × (phase ≡ found)) ⊎ ((other ≢ writer) × (slice_get phases other ≡ Some found))
 phase_cases [] writer other phase found at = absurd (cc)
 phase_cases (first ∷ phases) zero zero phase found at = inl (refl, (cc))
-phase_cases (first ∷ phases) zero (suc other) phase found at = inr ((λ same. absurd (omega (arith, same))), at)
+phase_cases (first ∷ phases) zero (suc other) phase found at = inr (
+  (λ same. absurd (
+      omega arith)),
+  at,
+)
 phase_cases (first ∷ phases) (suc writer) zero phase found at = inr ((λ same. absurd (omega (arith, same))), at)
 phase_cases (first ∷ phases) (suc writer) (suc other) phase found at =
-    elim (phase_cases phases writer other phase found at) [
-      | inl set ↦ inl (omega (arith, set.0), set.1)
-      | inr kept ↦ inr ((λ same. absurd (kept.0 (omega (arith, same)))), kept.1)
-    ]
+    grind (arith, (phase_cases phases writer other phase found at))
 
 -- Those who have two phases are two.
 pub two_writers : (phases : List WriterPhase) (a b : ℕ) (p q : WriterPhase) → slice_get phases a ≡ Some p → slice_get phases b ≡ Some q
@@ -44,16 +45,12 @@ claimed_parts p q k l f g same = (cc, cc, cc)
 pub cleared-set : (phases : List WriterPhase) (writer : ℕ) (old new : WriterPhase) → slice_get phases writer ≡ Some old
     → cleared (slice_set phases writer new) + one_if_cleared old ≡ cleared phases + one_if_cleared new
 cleared-set [] writer old new at = absurd (cc)
-cleared-set (first ∷ phases) zero old new at =
-    let same : first ≡ old = cc in rw same (omega arith)
+cleared-set (first ∷ phases) zero old new at = grind arith
 cleared-set (first ∷ phases) (suc writer) old new at =
-    let rest = cleared-set phases writer old new at in omega (arith, rest)
+    let rest = cleared-set phases writer old new at in omega arith
 
 one_if_cleared-le : (phase : WriterPhase) → one_if_cleared phase ≤ 1
-one_if_cleared-le Idle = omega arith
-one_if_cleared-le (Looked kind front) = omega arith
-one_if_cleared-le (Cleared kind) = omega arith
-one_if_cleared-le (Claimed place kind is_filled) = omega arith
+one_if_cleared-le phase = grind arith
 
 cleared-le : (phases : List WriterPhase) → cleared phases ≤ length phases
 cleared-le [] = omega arith
@@ -63,9 +60,7 @@ cleared-le (first ∷ phases) = omega (arith, one_if_cleared-le first, cleared-l
 pub cleared-lt : (phases : List WriterPhase) (writer : ℕ) (phase : WriterPhase) → slice_get phases writer ≡ Some phase
     → one_if_cleared phase ≡ 0 → cleared phases < length phases
 cleared-lt [] writer phase at other = absurd (cc)
-cleared-lt (first ∷ phases) zero phase at other =
-    let same : one_if_cleared first ≡ one_if_cleared phase = ap one_if_cleared (same_Some first phase at) in
-    omega (arith, same, other, cleared-le phases)
+cleared-lt (first ∷ phases) zero phase at other = grind (arith, cleared-le)
 cleared-lt (first ∷ phases) (suc writer) phase at other =
     omega (arith, one_if_cleared-le first, cleared-lt phases writer phase at other)
 

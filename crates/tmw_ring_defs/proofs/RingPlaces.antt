@@ -1,5 +1,5 @@
 -- What holds at a place holds in every state in which the log has the same event there and its cell the same words.
-use Rattle.tmw_ring_defs.proofs.Shared.{Bool, Core, Event, HasRead, Holds, IsPublished, Ix, Kind, ReaderPhase, Ready, RingCell, Shows, Some, Told, Waiting, ap, cell_at, kind_code, kind_register, kind_value, packed_header, slice_get, subst, sym, true, ℕ, ◌*◌, ◌+◌, ◌∙◌, ◌≡◌, ◌≢◌, ◌≤◌}
+use Rattle.tmw_ring_defs.proofs.Shared.{Bool, Core, Event, HasRead, Holds, IsPublished, Ix, Kind, ReaderPhase, Ready, RingCell, Shows, Some, Told, Waiting, ap, cell_at, kind_value, packed_header, slice_get, subst, sym, true, ℕ, ◌+◌, ◌∙◌, ◌≡◌, ◌≢◌, ◌≤◌}
 
 -- The log of the new state has the events that the old one has.
 abbrev pub Logs : Core → Core → Type 0
@@ -35,12 +35,6 @@ read_still old new (Ready header) still read =
 read_still old new (Told header value) still read =
     let (next, same) = still read.0 in
     (next, read.1 ∙ ap packed_header (sym same), read.2 ∙ ap (λ (event : Event). kind_value event.kind) (sym same))
-
--- The header of an event is made of its thread's number and its kind.
-pub same_header : (a b : Event) → a.thread.number ≡ b.thread.number → a.kind ≡ b.kind → packed_header a ≡ packed_header b
-same_header a b same_thread same_kind =
-    ap (λ (thread : ℕ). kind_code a.kind * 64 + thread * 8 + kind_register a.kind) same_thread
-    ∙ ap (λ (kind : Kind). kind_code kind * 64 + b.thread.number * 8 + kind_register kind) same_kind
 
 -- the writer's event of this kind
 abbrev pub event_of : Ix → Kind → Event

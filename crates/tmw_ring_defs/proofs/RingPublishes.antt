@@ -1,6 +1,6 @@
 -- A publish from a sound state leaves a sound state: the cell of the place shows the log's event there.
-use Rattle.tmw_ring_defs.proofs.Shared.{Claimed, Cleared, Core, Event, Idle, IsIn, IsPublished, Ix, Kind, Looked, Published, Reply, RingCell, Shows, Some, Sound, Spares, WriterPhase, ap, arith, cell_at, false, inr, kind_value, none-some, publish_step, published, refl, some_pair_parts, subst, sym, true, ℕ, ◌∙◌, ◌≡◌}
-use Rattle.tmw_ring_defs.proofs.RingPlaces.{event_of, same_header}
+use Rattle.tmw_ring_defs.proofs.Shared.{Claimed, Cleared, Core, Event, Idle, IsIn, IsPublished, Ix, Kind, Looked, Published, Reply, RingCell, Shows, Some, Sound, Spares, WriterPhase, arith, cell_at, false, none-some, publish_step, published, some_pair_parts, subst, sym, true, ℕ, ◌≡◌}
+use Rattle.tmw_ring_defs.proofs.RingPlaces.{event_of}
 use Rattle.tmw_ring_defs.proofs.RingStores.{held_stands, cell_stored}
 use Rattle.tmw_ring_defs.proofs.RingWrites.{stored, IsFit, store_keeps}
 
@@ -15,11 +15,8 @@ publish-shows : (writer : Ix) (place : ℕ) (kind : Kind) (old : Core) → Sound
 publish-shows writer place kind old sound at =
     let was = sound.holds writer.number place kind true at in
     let cell = cell_stored old place (published_at old place (event_of writer kind)) sound in
-    let shows : Shows (published_at old place (event_of writer kind)) place was.event = record {
-      stamp = refl;
-      header = same_header (event_of writer kind) was.event (sym was.own) (sym was.same);
-      value = was.value refl ∙ ap kind_value (sym was.same);
-    } in
+    let shows : Shows (published_at old place (event_of writer kind)) place was.event =
+    grind arith in
     record {
       event = was.event;
       logged = was.logged;
@@ -28,15 +25,7 @@ publish-shows writer place kind old sound at =
 
 publish-fit : (writer : Ix) (place : ℕ) (kind : Kind) (old : Core) → Sound old → IsIn old writer.number (Claimed place kind true)
     → IsFit old writer.number place (published_at old place (event_of writer kind)) Idle
-publish-fit writer place kind old sound at =
-    let stands = held_stands old writer.number place kind true sound at in
-    record {
-      low = omega (arith, stands.high);
-      uncleared = refl;
-      unlooked = λ found front same. absurd (cc);
-      left = inr (publish-shows writer place kind old sound at);
-      holds = λ p found is_filled same. absurd (cc);
-    }
+publish-fit writer place kind old sound at = grind (arith, held_stands, publish-shows)
 
 pub publish_keeps : (writer : Ix) (old : Core) (phase : WriterPhase) (reply : Reply) (new : Core) → Sound old → IsIn old writer.number phase
     → publish_step writer old phase ≡ Some (reply, new) → Sound new × Spares old new

@@ -1,7 +1,5 @@
 -- The cells of a ring after a store: the cell of the place has the new words, and that of any other place in the same turn is as before.
-use Rattle.tmw_ring_defs.proofs.Shared.{Bool, Claimed, Core, Event, IsIn, Kind, List, RingCell, Some, Sound, ap, arith, cases_lt, cell_at, cell_of, empty_cell, get_or-set_other, get_or-set_same, inl, inr, length, length-set, set_cell, slice_get, slice_get_within, suc, sym, with_cell, ℕ, ◌%◌, ◌*◌, ◌+◌, ◌/◌, ◌<◌, ◌∙◌, ◌≡◌, ◌≢◌, ◌≤◌}
-use Rattle.std.proofs.Math.Nat.{mod-lt, mul-le-mul_right}
-use Rattle.std.proofs.lemmas.Nat.{div-add-mod'}
+use Rattle.tmw_ring_defs.proofs.Shared.{Bool, Claimed, Core, Event, IsIn, Kind, List, RingCell, Some, Sound, arith, cell_at, cell_of, empty_cell, get_or-set_other, get_or-set_same, length, length-set, set_cell, slice_get, slice_get_within, with_cell, ℕ, ◌%◌, ◌+◌, ◌<◌, ◌≡◌, ◌≢◌, ◌≤◌}
 
 -- the new words
 pub cell_of-set : (count place : ℕ) (cell : RingCell) (cells : List RingCell) → place % count < length cells
@@ -19,16 +17,7 @@ length-set_cell count place cell cells = length-set cells (place % count) cell
 
 -- Two places less than a turn apart that use one cell are one place.
 pub one_turn : (count a b : ℕ) → a ≤ b → b < a + count → a % count ≡ b % count → a ≡ b
-one_turn count a b above near same =
-    turns (a / count) (b / count) (b % count) count a b (ap (λ (rest : ℕ). a / count * count + rest) (sym same) ∙ div-add-mod' a count)
-    (div-add-mod' b count) above near
-  where
-    turns : (p q rest count a b : ℕ) → p * count + rest ≡ a → q * count + rest ≡ b → a ≤ b → b < a + count → a ≡ b
-    turns p q rest count a b is_a is_b above near =
-        elim (cases_lt p q) [
-          | inl below ↦ let more : suc p * count ≤ q * count = mul-le-mul_right count below in omega (arith, more)
-          | inr past ↦ let less : q * count ≤ p * count = mul-le-mul_right count past in omega (arith, less)
-        ]
+one_turn count a b above near same = grind arith
 
 -- The place was claimed, as far as tail knows, and not taken.
 pub record Stands (core : Core) (place : ℕ) : Type 0 where
@@ -38,11 +27,7 @@ pub record Stands (core : Core) (place : ℕ) : Type 0 where
 -- Standing places that use one cell are one place.
 pub one_standing : (core : Core) (a b : ℕ) → core.tail ≤ core.front + core.size.cells → Stands core a → Stands core b
     → a % core.size.cells ≡ b % core.size.cells → a ≡ b
-one_standing core a b near at_a at_b same =
-    elim (cases_lt a b) [
-      | inl below ↦ one_turn core.size.cells a b (omega arith) (omega (arith, near, at_a.low, at_b.high)) same
-      | inr past ↦ sym (one_turn core.size.cells b a past (omega (arith, near, at_b.low, at_a.high)) (sym same))
-    ]
+one_standing core a b near at_a at_b same = grind (arith, one_turn)
 
 -- an event of the log has its place below tail
 pub logged_below : (core : Core) (place : ℕ) (event : Event) → Sound core → slice_get core.log place ≡ Some event → place < core.tail
@@ -57,9 +42,7 @@ held_stands core writer place kind is_filled sound at =
 
 -- Each place has a cell.
 pub has_cell : (core : Core) (place : ℕ) → Sound core → place % core.size.cells < length core.cells
-has_cell core place sound =
-    let some : 0 < core.size.cells = omega (arith, core.size.some_writers, core.size.enough_cells) in
-    omega (arith, mod-lt place some, sound.cells)
+has_cell core place sound = grind arith
 
 -- Its stamp is not ahead of tail.
 pub stamp_low : (core : Core) (place : ℕ) → Sound core → (cell_at core place).stamp ≤ core.tail
@@ -71,5 +54,4 @@ cell_stored core place cell sound = cell_of-set core.size.cells place cell core.
 pub cell_spared : (core : Core) (place other : ℕ) (cell : RingCell) → Sound core → Stands core place → Stands core other → other ≢ place
     → cell_at (with_cell place cell core) other ≡ cell_at core other
 cell_spared core place other cell sound at_place at_other apart =
-    cell_of-kept core.size.cells place other cell core.cells
-    (λ same. apart (one_standing core other place (omega (arith, sound.room)) at_other at_place same))
+    grind (arith, cell_of-kept, one_standing)

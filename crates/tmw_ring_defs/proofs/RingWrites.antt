@@ -24,29 +24,16 @@ store-spares : (old : Core) (writer place : ℕ) (kind : Kind) (is_filled : Bool
     → cell_at (with_cell place cell old) other ≡ cell_at old other
 store-spares old writer place kind is_filled cell sound at other low published =
     let mine = sound.holds writer place kind is_filled at in
-    let apart : other ≢ place =
-    λ same. mine.unstamped (subst (λ (p : ℕ). (cell_at old p).stamp ≡ p + 1) same published.shown.stamp) in
-    cell_spared old place other cell sound (held_stands old writer place kind is_filled sound at)
-    (record { low = low; high = logged_below old other published.event sound published.logged }) apart
+    grind (arith, cell_spared, held_stands, logged_below)
 
 store-places : (old : Core) (writer place : ℕ) (kind : Kind) (is_filled : Bool) (cell : RingCell) (phase : WriterPhase) → Sound old
     → IsIn old writer (Claimed place kind is_filled) → IsFit old writer place cell phase → (other : ℕ) → old.front ≤ other → other < old.tail
     → IsHeld (stored writer place cell phase old) other ⊎ IsPublished (stored writer place cell phase old) other
 store-places old writer place kind is_filled cell phase sound at fit other low high =
     elim (cases_eq other place) [
-      | inl same ↦
-          subst (λ (p : ℕ). IsHeld (stored writer place cell phase old) p ⊎ IsPublished (stored writer place cell phase old) p) (sym same)
-          fit.left
+      | inl same ↦ grind arith
       | inr apart ↦ elim (sound.places other low high) [
-        | inl held ↦
-            let two = two_writers old.writers held.writer writer (Claimed other held.kind held.is_filled) (Claimed place kind is_filled)
-            held.claimed at (λ same. apart (claimed_parts other place held.kind kind held.is_filled is_filled same).0) in
-            inl (record {
-              writer = held.writer;
-              kind = held.kind;
-              is_filled = held.is_filled;
-              claimed = phase_kept old.writers writer held.writer phase two ∙ held.claimed;
-            })
+        | inl held ↦ grind (arith, two_writers, claimed_parts, phase_kept)
         | inr published ↦
             inr (published_still old (stored writer place cell phase old) other (λ p event logged. logged)
             (store-spares old writer place kind is_filled cell sound at other low published) published)

@@ -1,24 +1,17 @@
 -- Whose steps a run has: each is the reader's or one of the ring's writers', and who makes the last step knows the whole run.
-use Rattle.tmw_ring_defs.proofs.Shared.{Answered, Bool, Claim, Core, Fill, Free, Front, Gone, Ix, List, NoneOf, Peek, Publish, Read, Reply, RingSize, Runs, Some, Sound, Step, StepLaw, Stepped, Stop, Tail, WriterPhase, [], actor_of, ap, append-nil, append_assoc, arith, by_writer, claim_step, core_step, eq-eqb, false, fill_step, front_step, if◌then◌else◌, inl, inr, length, length_push, ne_eqb, new_core, none-some, option_and_then_some, own, publish_step, refl, slice_get, slice_get_within, subst, sym, tail_step, true, ℕ, ◌++◌, ◌+◌, ◌<◌, ◌==◌, ◌∙◌, ◌∷◌, ◌≡◌, ◌≢◌, ◌≤◌, ◌⊎◌}
+use Rattle.tmw_ring_defs.proofs.Shared.{Answered, Bool, Core, Gone, Ix, List, NoneOf, Reply, RingSize, Runs, Some, Sound, Step, StepLaw, Stepped, WriterPhase, [], actor_of, ap, append_assoc, arith, by_writer, core_step, eq-eqb, false, if◌then◌else◌, inl, inr, length, length_push, new_core, own, refl, slice_get_within, subst, true, ℕ, ◌++◌, ◌+◌, ◌<◌, ◌==◌, ◌∙◌, ◌∷◌, ◌≡◌, ◌≢◌, ◌≤◌, ◌⊎◌}
 use native.Mathlib.Decide.{ℕ_discrete}
 use Rattle.tmw_ring_defs.proofs.RingSizes.{SameSize, core_step-size}
 use Rattle.tmw_ring_defs.proofs.RunsProof.{own-append, runs-cut, runs-sound}
 
 -- The own steps of a run that has gone on.
 pub own-gone : (actor : ℕ) (old mine new : List Answered) → Gone actor old mine new → own actor new ≡ own actor old ++ mine
-own-gone actor old mine new gone =
-    ap (own actor) gone.longer ∙ own-append actor old gone.since
-    ∙ ap (λ (run : List Answered). own actor old ++ run) gone.own_steps
+own-gone actor old mine new gone = grind (arith, own-append)
 
 -- Who has made none of the steps has not made the first, and none of the others.
 none-parts : (actor : ℕ) (first : Answered) (run : List Answered) → NoneOf actor (first ∷ run)
     → (actor_of first.step ≢ actor) × NoneOf actor run
-none-parts actor first run none = by_test (actor_of first.step == actor) refl none
-  where
-    by_test : (test : Bool) → (actor_of first.step == actor) ≡ test → (if test then first ∷ own actor run else own actor run) ≡ []
-        → (actor_of first.step ≢ actor) × NoneOf actor run
-    by_test true is none = absurd (cc)
-    by_test false is none = (λ same. let also = eq-eqb (actor_of first.step) actor same in absurd (cc), none)
+none-parts actor first run none = grind arith
 
 -- A step that is among an actor's own stands in the run, behind those of its own that precede it.
 pub own-cut : (actor : ℕ) (run past : List Answered) (mine : Answered) (rest : List Answered) → own actor run ≡ past ++ mine ∷ rest
@@ -71,36 +64,22 @@ last-known known [] past last is none = refl
 last-known known (first ∷ since) past last is none =
     let parts = none-parts (actor_of last.step) first since none in
     let moved : (known ++ first ∷ []) ++ since ≡ past ++ last ∷ [] = append_assoc known (first ∷ []) since ∙ is in
-    let rest : since ≡ [] = last-known (known ++ first ∷ []) since past last moved parts.1 in
-    let same : known ++ first ∷ [] ≡ past ++ last ∷ [] =
-    sym (append-nil (known ++ first ∷ [])) ∙ ap (λ (run : List Answered). (known ++ first ∷ []) ++ run) (sym rest) ∙ moved in
-    absurd (parts.0 (ap (λ (answered : Answered). actor_of answered.step) (last-same known past first last same)))
+    let more = last-known (known ++ first ∷ []) since past last moved parts.1 in
+    grind (arith, last-same)
 
 -- The writer that steps is one of the ring's.
 writer-among : (writer : Ix) (core next : Core) (reply : Reply) (step : WriterPhase → Stepped)
     → by_writer writer core step ≡ Some (reply, next) → writer.number + 1 ≤ length core.writers
-writer-among writer core next reply step is =
-    option_and_then_some step (slice_get core.writers writer.number) (reply, next) is
-    (λ phase at made. omega (arith, slice_get_within core.writers writer.number phase at))
+writer-among writer core next reply step is = grind (arith, slice_get_within)
 
 step-among : (step : Step) (core next : Core) (reply : Reply) → core_step step core ≡ Some (reply, next)
     → actor_of step ≤ length core.writers
-step-among (Front writer kind) core next reply is = writer-among writer core next reply (front_step writer.number kind core) is
-step-among (Tail writer) core next reply is = writer-among writer core next reply (tail_step writer.number core) is
-step-among (Claim writer) core next reply is = writer-among writer core next reply (claim_step writer core) is
-step-among (Fill writer) core next reply is = writer-among writer core next reply (fill_step writer.number core) is
-step-among (Publish writer) core next reply is = writer-among writer core next reply (publish_step writer core) is
-step-among Peek core next reply is = omega arith
-step-among Read core next reply is = omega arith
-step-among Free core next reply is = omega arith
-step-among (Stop writer) core next reply is = absurd (none-some (reply, next) is)
+step-among step core next reply is = grind (arith, writer-among)
 
 -- In a sound ring of this size.
 pub among : (size : RingSize) (core next : Core) (first : Answered) → Sound core → core.size ≡ size
     → core_step first.step core ≡ Some (first.reply, next) → actor_of first.step ≤ size.writers
-among size core next first sound sized is =
-    let count : core.size.writers ≡ size.writers = ap (λ (z : RingSize). z.writers) sized in
-    omega (arith, step-among first.step core next first.reply is, sound.writers, count)
+among size core next first sound sized is = grind (arith, step-among)
 
 pub same_size : (size : RingSize) (core next : Core) (first : Answered) → core.size ≡ size
     → core_step first.step core ≡ Some (first.reply, next) → next.size ≡ size
@@ -125,10 +104,8 @@ pub none-beyond : StepLaw → (size : RingSize) (actor : ℕ) (core end : Core) 
 none-beyond law size actor core end [] sound sized ran beyond = refl
 none-beyond law size actor core end (first ∷ run) sound sized (next, is, ran) beyond =
     let small = among size core next first sound sized is in
-    let apart : actor_of first.step ≢ actor = λ same. absurd (omega (arith, small, same, beyond)) in
-    rw (ne_eqb (actor_of first.step) actor apart)
-    (none-beyond law size actor next end run (law first.step core next first.reply sound is).0 (same_size size core next first sized is) ran
-    beyond)
+    let more = none-beyond law size actor next end run (law first.step core next first.reply sound is).0 (same_size size core next first sized is) ran beyond in
+    grind arith
 
 -- A run in which no actor makes a step has none.
 pub none-left : (size : RingSize) (core end : Core) (run : List Answered) → Sound core → core.size ≡ size → Runs core run end

@@ -1,7 +1,6 @@
 -- What a step adds to tail and to front, and that a writer which looks at front sees none that was there before.
-use Rattle.tmw_ring_defs.proofs.Shared.{Bool, Claim, Claimed, Cleared, Core, Fill, Free, Front, Idle, Ix, Kind, List, Looked, None, Option, Peek, Publish, Read, ReaderPhase, Ready, Some, Step, Stepped, Stop, Tail, Told, Waiting, WriterPhase, actor_of, arith, by_writer, cell_at, claim_step, claims, core_step, false, fill_step, free_step, frees, front_step, if◌then◌else◌, inl, inr, is_full, is_spent, option_and_then, peek_step, publish_step, read_step, room_phase, slice_get, slice_set, tail_step, true, ℕ, ◌+◌, ◌==◌, ◌≡◌, ◌≤◌, ◌⊎◌}
+use Rattle.tmw_ring_defs.proofs.Shared.{Bool, Claim, Claimed, Cleared, Core, Fill, Free, Front, Idle, Ix, Kind, List, Looked, None, Peek, Publish, Read, ReaderPhase, Ready, Some, Step, Stepped, Stop, Tail, Told, Waiting, WriterPhase, actor_of, arith, by_writer, claim_step, claims, core_step, false, fill_step, free_step, frees, front_step, is_full, is_spent, peek_step, publish_step, read_step, room_phase, slice_get, slice_set, tail_step, true, ℕ, ◌+◌, ◌≡◌, ◌≤◌, ◌⊎◌}
 use Rattle.tmw_ring_defs.proofs.RingPhases.{phase_cases}
-use Rattle.tmw_ring_defs.specs.declared.ring_step.Reply.TheVariants.{Ready as IsReady, NotReady}
 
 -- If this phase looked at front, it saw at least so much.
 abbrev pub SawFrom : ℕ → WriterPhase → Type 0
@@ -27,30 +26,13 @@ CountsIn step core (Some (reply, next)) = Counts step core next
 
 by_writer-counts : (step : Step) (writer : Ix) (core : Core) (goes : WriterPhase → Stepped)
     → ((phase : WriterPhase) → CountsIn step core (goes phase)) → CountsIn step core (by_writer writer core goes)
-by_writer-counts step writer core goes each = by_phase (slice_get core.writers writer.number)
-  where
-    by_phase : (found : Option WriterPhase) → CountsIn step core (option_and_then goes found)
-    by_phase None = tt
-    by_phase (Some phase) = each phase
+by_writer-counts step writer core goes each = grind arith
 
 -- A writer goes on to a phase in which it has seen so much.
 looks_set : (phases : List WriterPhase) (low stepped writer : ℕ) (phase : WriterPhase) → SawFrom low phase
     → (stepped + 1 ≡ writer + 1) ⊎ LooksFrom low writer phases → LooksFrom low writer (slice_set phases stepped phase)
 looks_set phases low stepped writer phase saw before found at =
-    elim (phase_cases phases stepped writer phase found at) [
-      | inl set ↦ rw (← set.1) saw
-      | inr kept ↦ elim before [
-        | inl same ↦ absurd (kept.0 (omega (arith, same)))
-        | inr was ↦ was found kept.1
-      ]
-    ]
-
--- The reader makes no writer's step.
-looks_kept : (phases : List WriterPhase) (low writer : ℕ) → (0 ≡ writer + 1) ⊎ LooksFrom low writer phases → LooksFrom low writer phases
-looks_kept phases low writer before = elim before [
-  | inl same ↦ absurd (omega (arith, same))
-  | inr was ↦ was
-]
+    grind (arith, phase_cases)
 
 front-counts : (writer : Ix) (kind : Kind) (core : Core) (phase : WriterPhase)
     → CountsIn (Front writer kind) core (front_step writer.number kind core phase)
@@ -64,9 +46,7 @@ front-counts writer kind core (Cleared _) = tt
 front-counts writer kind core (Claimed _ _ _) = tt
 
 saw_room : (low : ℕ) (spent full : Bool) (kind : Kind) → SawFrom low (room_phase spent full kind)
-saw_room low true full kind = tt
-saw_room low false true kind = tt
-saw_room low false false kind = tt
+saw_room low spent full kind = grind arith
 
 tail-counts : (writer : Ix) (core : Core) (phase : WriterPhase) → CountsIn (Tail writer) core (tail_step writer.number core phase)
 tail-counts writer core Idle = tt
@@ -115,40 +95,15 @@ publish-counts writer core (Claimed place kind true) = record {
 }
 
 peek-counts : (core : Core) (phase : ReaderPhase) → CountsIn Peek core (peek_step core phase)
-peek-counts core Waiting = by_stamp ((cell_at core core.front).stamp == core.front + 1)
-  where
-    by_stamp : (is : Bool) → CountsIn Peek core (
-        if is then Some (IsReady, record core { reader = Ready (cell_at core core.front).header }) else Some (NotReady, core))
-    by_stamp true = record {
-      tail_counts = omega arith;
-      front_counts = omega arith;
-      looks = λ low other within before. looks_kept core.writers low other before;
-    }
-    by_stamp false = record {
-      tail_counts = omega arith;
-      front_counts = omega arith;
-      looks = λ low other within before. looks_kept core.writers low other before;
-    }
+peek-counts core Waiting = grind arith
 peek-counts core (Ready _) = tt
 peek-counts core (Told _ _) = tt
 
 read-counts : (core : Core) (phase : ReaderPhase) → CountsIn Read core (read_step core phase)
-read-counts core Waiting = tt
-read-counts core (Ready header) = record {
-  tail_counts = omega arith;
-  front_counts = omega arith;
-  looks = λ low other within before. looks_kept core.writers low other before;
-}
-read-counts core (Told _ _) = tt
+read-counts core phase = grind arith
 
 free-counts : (core : Core) (phase : ReaderPhase) → CountsIn Free core (free_step core phase)
-free-counts core Waiting = tt
-free-counts core (Ready _) = tt
-free-counts core (Told header value) = record {
-  tail_counts = omega arith;
-  front_counts = omega arith;
-  looks = λ low other within before. looks_kept core.writers low other before;
-}
+free-counts core phase = grind arith
 
 pub core_step-counts : (step : Step) (core : Core) → CountsIn step core (core_step step core)
 core_step-counts (Front writer kind) core =

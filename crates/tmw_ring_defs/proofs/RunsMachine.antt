@@ -1,5 +1,5 @@
 -- A run of a new ring is one of its machine, of which no writer stops.
-use Rattle.tmw_ring_defs.proofs.Shared.{Answered, Claim, Core, Fill, Free, Front, IsOneLog, List, Machine, OneRunLaw, Peek, Publish, Read, Reply, RingSize, Runs, Some, Sound, Step, StepLaw, Stop, Tail, [], actor_of, after, answered, ap, arith, core_step, false, get_or, machine_step, new_core, new_machine, none-some, refl, replicate, replies, replies_of, steps_of, subst, suc, sym, true, zero, ℕ, ◌<◌, ◌∙◌, ◌∷◌, ◌≡◌, ◌≤◌}
+use Rattle.tmw_ring_defs.proofs.Shared.{Answered, Core, IsOneLog, List, Machine, OneRunLaw, Reply, RingSize, Runs, Some, Sound, Step, StepLaw, [], actor_of, after, ap, arith, core_step, false, get_or, machine_step, new_core, new_machine, refl, replicate, replies, replies_of, steps_of, subst, suc, sym, true, zero, ℕ, ◌<◌, ◌∷◌, ◌≡◌, ◌≤◌}
 use Rattle.tmw_ring_defs.proofs.OneLogProof.{one_log_law}
 use Rattle.tmw_ring_defs.proofs.RunsActors.{among, same_size}
 
@@ -14,20 +14,7 @@ none_stopped (suc count) (suc writer) within = none_stopped count writer (omega 
 
 machine_goes : (size : RingSize) (core next : Core) (step : Step) (reply : Reply) → actor_of step ≤ size.writers
     → core_step step core ≡ Some (reply, next) → machine_step step (unstopped size core) ≡ (reply, unstopped size next)
-machine_goes size core next (Front writer kind) reply small is =
-    rw (none_stopped size.writers writer.number (omega (arith, small))) (ap (answered (unstopped size core)) is)
-machine_goes size core next (Tail writer) reply small is =
-    rw (none_stopped size.writers writer.number (omega (arith, small))) (ap (answered (unstopped size core)) is)
-machine_goes size core next (Claim writer) reply small is =
-    rw (none_stopped size.writers writer.number (omega (arith, small))) (ap (answered (unstopped size core)) is)
-machine_goes size core next (Fill writer) reply small is =
-    rw (none_stopped size.writers writer.number (omega (arith, small))) (ap (answered (unstopped size core)) is)
-machine_goes size core next (Publish writer) reply small is =
-    rw (none_stopped size.writers writer.number (omega (arith, small))) (ap (answered (unstopped size core)) is)
-machine_goes size core next Peek reply small is = ap (answered (unstopped size core)) is
-machine_goes size core next Read reply small is = ap (answered (unstopped size core)) is
-machine_goes size core next Free reply small is = ap (answered (unstopped size core)) is
-machine_goes size core next (Stop writer) reply small is = absurd (none-some (reply, next) is)
+machine_goes size core next step reply small is = grind (arith, none_stopped)
 
 runs-machine : StepLaw → (size : RingSize) (core end : Core) (run : List Answered) → Sound core → core.size ≡ size → Runs core run end
     → (replies (steps_of run) (unstopped size core) ≡ replies_of run) × (after (steps_of run) (unstopped size core) ≡ unstopped size end)
@@ -35,11 +22,8 @@ runs-machine law size core end [] sound sized ran = (refl, ap (unstopped size) (
 runs-machine law size core end (first ∷ run) sound sized (next, is, ran) =
     let steps : List Step = steps_of run in
     let goes = machine_goes size core next first.step first.reply (among size core next first sound sized is) is in
-    let rest =
-    runs-machine law size next end run (law first.step core next first.reply sound is).0 (same_size size core next first sized is) ran in (
-      ap (λ (made : Reply × Machine). made.0 ∷ replies steps made.1) goes ∙ ap (λ (said : List Reply). first.reply ∷ said) rest.0,
-      ap (λ (made : Reply × Machine). after steps made.1) goes ∙ rest.1,
-    )
+    let more = runs-machine law size next end run (law first.step core next first.reply sound is).0 (same_size size core next first sized is) ran in
+    grind arith
 
 pub one_run_law : StepLaw → ((size : RingSize) → Sound (new_core size)) → OneRunLaw
 one_run_law law starts size run core ran =

@@ -1,16 +1,10 @@
 -- Runs join end to end, lead to one state each, and are told apart by whose steps they have.
-use Rattle.tmw_ring_defs.proofs.Shared.{Answered, Bool, Core, Gone, HasMade, IsIn, Ix, List, NoneOf, RingSize, Runs, Sound, StepLaw, Stepped, WriterPhase, [], actor_of, ap, append-nil, append_assoc, by_writer, eq-eqb, false, if◌then◌else◌, ne_eqb, option_and_then, own, refl, some_pair_parts, subst, sym, true, ℕ, ◌++◌, ◌==◌, ◌∙◌, ◌∷◌, ◌≡◌, ◌≢◌}
+use Rattle.tmw_ring_defs.proofs.Shared.{Answered, Core, Gone, HasMade, IsIn, Ix, List, NoneOf, RingSize, Runs, Sound, StepLaw, Stepped, WriterPhase, [], actor_of, ap, append-nil, append_assoc, by_writer, eq-eqb, ne_eqb, option_and_then, own, refl, some_pair_parts, subst, sym, ℕ, ◌++◌, ◌∙◌, ◌∷◌, ◌≡◌, ◌≢◌, arith}
 
 -- The own steps of two runs in a row are those of the first and then those of the second.
 pub own-append : (actor : ℕ) (past rest : List Answered) → own actor (past ++ rest) ≡ own actor past ++ own actor rest
 own-append actor [] rest = refl
-own-append actor (first ∷ past) rest = by_test (actor_of first.step == actor) (own-append actor past rest)
-  where
-    by_test : (test : Bool) → own actor (past ++ rest) ≡ own actor past ++ own actor rest
-        → (if test then first ∷ own actor (past ++ rest) else own actor (past ++ rest))
-        ≡ (if test then first ∷ own actor past else own actor past) ++ own actor rest
-    by_test true later = ap (λ (run : List Answered). first ∷ run) later
-    by_test false later = later
+own-append actor (first ∷ past) rest = grind (arith, (own-append actor past rest))
 
 -- One step is its actor's own, and no other's.
 pub own-mine : (actor : ℕ) (answered : Answered) → actor_of answered.step ≡ actor → own actor (answered ∷ []) ≡ answered ∷ []
@@ -50,12 +44,7 @@ gone-none actor run = record { since = []; longer = sym (append-nil run); own_st
 -- A run that goes on twice.
 pub gone-then : (actor : ℕ) (old first mid second new : List Answered) → Gone actor old first mid → Gone actor mid second new
     → Gone actor old (first ++ second) new
-gone-then actor old first mid second new one other = record {
-  since = one.since ++ other.since;
-  longer = other.longer ∙ ap (λ (run : List Answered). run ++ other.since) one.longer ∙ append_assoc old one.since other.since;
-  own_steps = own-append actor one.since other.since ∙ ap (λ (run : List Answered). run ++ own actor other.since) one.own_steps
-      ∙ ap (λ (run : List Answered). first ++ run) other.own_steps;
-}
+gone-then actor old first mid second new one other = grind (arith, append_assoc, own-append)
 
 -- Who has made none of the last steps, and then makes one.
 pub gone-step : (actor : ℕ) (old run : List Answered) (answered : Answered) → actor_of answered.step ≡ actor → Gone actor old [] run
@@ -72,8 +61,7 @@ gone-others actor old run since none gone =
 -- Steps that were made one after another.
 pub made-then : (size : RingSize) (actor : ℕ) (old first mid second new : List Answered) → HasMade size actor first old mid
     → HasMade size actor second mid new → HasMade size actor (first ++ second) old new
-made-then size actor old first mid second new one other =
-    record { gone = gone-then actor old first mid second new one.gone other.gone; is_run = other.is_run }
+made-then size actor old first mid second new one other = grind (arith, gone-then)
 
 -- A writer that is so far steps from there.
 pub by_writer-in : (writer : Ix) (core : Core) (step : WriterPhase → Stepped) (phase : WriterPhase) → IsIn core writer.number phase

@@ -1,5 +1,5 @@
 -- Room for several records holds good until so many places more are claimed.
-use Rattle.tmw_ring_defs.proofs.Shared.{Answered, Bool, Claimed, Cleared, Core, Event, HasRoomFor, Idle, IsRunTo, Ix, List, Looked, Reply, RingSize, RoomLaw, Runs, Some, Sound, Tail, WriterPhase, [], actor_of, ap, arith, core_step, eqb-true, false, false_from_ne_true, if◌then◌else◌, inl, inr, is_full, is_spent, last_tail, length, ltb-false, ltb-true, new_core, none-some, option_and_then_some, own, places_claimed, places_freed, refl, room_phase, room_reply, slice_get, some_pair_parts, subst, sym, tail_step, true, with_phase, ℕ, ◌++◌, ◌+◌, ◌-◌, ◌==◌, ◌∙◌, ◌∷◌, ◌≡◌, ◌≢◌, ◌≤◌}
+use Rattle.tmw_ring_defs.proofs.Shared.{Answered, Bool, Claimed, Cleared, Core, Event, HasRoomFor, Idle, IsRunTo, Ix, List, Looked, Reply, RingSize, RoomLaw, Runs, Some, Sound, Tail, WriterPhase, [], actor_of, ap, arith, core_step, eqb-true, false, if◌then◌else◌, inl, inr, is_full, is_spent, last_tail, length, new_core, none-some, option_and_then_some, own, places_claimed, places_freed, refl, room_phase, room_reply, slice_get, some_pair_parts, subst, sym, tail_step, true, with_phase, ℕ, ◌++◌, ◌+◌, ◌==◌, ◌∙◌, ◌∷◌, ◌≡◌, ◌≢◌, ◌≤◌}
 use Rattle.tmw_ring_defs.proofs.RingLaw.{step_law}
 use Rattle.tmw_ring_defs.proofs.RingStart.{new_core-sound}
 use Rattle.tmw_ring_defs.proofs.RunsActors.{runs-size}
@@ -50,14 +50,7 @@ runs-looks low writer core end (first ∷ run) within some (next, is, ran) =
 -- There is room at a tail that is no further, with a front that is no less.
 room_earlier : (size : RingSize) (low tail records front late : ℕ) → HasRoomFor size low tail records → low ≤ front
     → late ≤ last_tail tail records → room_reply (is_spent size late) (is_full size front late) front late ≡ IsCleared
-room_earlier size low tail records front late has seen early =
-    let given = ltb-false (size.limit - size.writers) (last_tail tail records) has.given in
-    let free = ltb-false (size.cells - size.writers) (last_tail tail records - low) has.free in
-    let unspent : is_spent size late ≡ false = false_from_ne_true (is_spent size late) (λ is.
-    absurd (omega (arith, given, early, ltb-true (size.limit - size.writers) late is))) in
-    let unfilled : is_full size front late ≡ false = false_from_ne_true (is_full size front late) (λ is.
-    absurd (omega (arith, free, early, seen, ltb-true (size.cells - size.writers) (late - front) is))) in
-    rw (unspent, unfilled) refl
+room_earlier size low tail records front late has seen early = grind arith
 
 -- A writer that saw this front at least, and is answered its look at tail, finds room there.
 cleared_by : (size : RingSize) (low tail records : ℕ) (writer : Ix) (core next : Core) (phase : WriterPhase) (reply : Reply)
@@ -102,7 +95,4 @@ pub run-counted : (size : RingSize) (run : List Answered) (log : List Event) →
     → (length log ≡ places_claimed run) × (places_freed run ≤ length log)
 run-counted size run log (core, ran, is) =
     let sound : Sound core = runs-sound step_law (new_core size) core run (new_core-sound size) ran in
-    let counted : length core.log ≡ length log = ap (λ (events : List Event). length events) is in (
-      omega (arith, counted, sound.tail, runs-tail (new_core size) core run ran),
-      omega (arith, counted, sound.tail, sound.order, runs-front (new_core size) core run ran),
-    )
+    grind (arith, runs-tail, runs-front)

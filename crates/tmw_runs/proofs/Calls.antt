@@ -1,25 +1,15 @@
 -- The calls of scripts: those of transactions are calls, and what is left of calls are calls.
-use Rattle.tmw_runs.proofs.Shared.{A, IsTrue, Kind, List, N, R, T, W, X, [], and_from, and_parts, answers, are_calls, are_transactions, is_call, is_operation, is_request, is_transaction, list_all, refl, ℕ, ◌∷◌}
+use Rattle.tmw_runs.proofs.Shared.{A, IsTrue, Kind, List, [], and_from, and_parts, answers, are_calls, are_transactions, is_call, is_operation, is_request, is_transaction, list_all, refl, ℕ, ◌∷◌, arith}
 
 -- a call may be answered by an abort event
 pub answers_abort : (registers : ℕ) (call : Kind) → IsTrue (is_call registers call) → IsTrue (answers call A)
-answers_abort registers (R r) asks = refl
-answers_abort registers (W r v) asks = refl
-answers_abort registers (N r d) asks = refl
-answers_abort registers T asks = refl
-answers_abort registers X asks = refl
-answers_abort registers _ asks = absurd (cc)
+answers_abort registers call asks = grind arith
 
 operation_is_call : (registers : ℕ) (call : Kind) → IsTrue (is_operation registers call) → IsTrue (is_call registers call)
-operation_is_call registers (R r) asks = asks
-operation_is_call registers (W r v) asks = asks
-operation_is_call registers (N r d) asks = asks
-operation_is_call registers _ asks = absurd (cc)
+operation_is_call registers call asks = grind arith
 
 request_is_call : (registers : ℕ) (call : Kind) → IsTrue (is_request call) → IsTrue (is_call registers call)
-request_is_call registers T asks = refl
-request_is_call registers X asks = refl
-request_is_call registers _ asks = absurd (cc)
+request_is_call registers call asks = grind arith
 
 transaction_calls : (registers : ℕ) (calls : List Kind) → IsTrue (is_transaction registers calls)
     → IsTrue (list_all (is_call registers) calls)

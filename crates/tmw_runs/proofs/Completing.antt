@@ -1,9 +1,10 @@
 -- What is recorded by turns begins a run: there is a text that completes it.
-use Rattle.tmw_runs.proofs.Shared.{A, BeginsScript, Follows, FormedLaw, IsByTurns, IsTrue, IsWholeRun, IsWholeText, Kind, List, OverLaw, StepLaw, [], and_parts, answers, ap, append-nil, append_assoc, are_calls, arith, drop, drop_more, get_or, is_call, kinds_of, length, list_all, refl, subst, suc, sym, true, zero, ℕ, ◌++◌, ◌+◌, ◌<◌, ◌∙◌, ◌∷◌, ◌≡◌}
+use Rattle.tmw_runs.proofs.Shared.{A, BeginsScript, Follows, FormedLaw, IsByTurns, IsTrue, IsWholeText, Kind, List, OverLaw, StepLaw, [], and_parts, answers, ap, append-nil, append_assoc, are_calls, arith, drop, drop_more, get_or, is_call, length, list_all, refl, subst, suc, sym, zero, ℕ, ◌++◌, ◌+◌, ◌<◌, ◌∙◌, ◌∷◌, ◌≡◌}
 use Rattle.std.proofs.lemmas.List.Folds.{list_all-append}
 use Rattle.tmw_runs.proofs.Calls.{answers_abort, are_calls-transactions}
 use Rattle.tmw_runs.proofs.LongerRuns.{whole_run-more}
 use Rattle.tmw_runs.proofs.NeverMalformed.{formed_law}
+use Rattle.std.proofs.Common.{rules}
 
 -- calls have a whole text: the first is answered by an abort event
 pub some_text : (registers : ℕ) (calls : List Kind) → IsTrue (list_all (is_call registers) calls) → (text : List Kind) × IsWholeText calls text
@@ -30,8 +31,7 @@ call_answers registers (suc place) (call ∷ calls) asks low =
 completes : (registers place phase : ℕ) (calls kinds : List Kind) → IsTrue (list_all (is_call registers) calls) → Follows calls place phase kinds
     → (more : List Kind) × IsWholeText calls (kinds ++ more)
 completes registers place zero calls kinds asks leaves =
-    let (text, whole) = some_rest registers place calls asks in
-    (text, leaves text whole)
+    let (text, whole) = some_rest registers place calls asks in grind arith
 completes registers place (suc zero) calls kinds asks (low, before, is, leaves) =
     let call : Kind = get_or calls place A in
     let text : IsWholeText (call ∷ drop (place + 1) calls) (call ∷ A ∷ []) = (A, [], refl, call_answers registers place calls asks low, refl) in
@@ -42,22 +42,14 @@ completes registers place (suc zero) calls kinds asks (low, before, is, leaves) 
     = ap (λ (k : List Kind). k ++ A ∷ []) is ∙ append_assoc before (call ∷ []) (A ∷ [])
     in
     (A ∷ [], subst (λ (k : List Kind). IsWholeText calls k) (sym parts) (leaves (call ∷ A ∷ []) left))
-completes registers place (suc (suc more)) calls kinds asks whole =
-    ([], subst (λ (k : List Kind). IsWholeText calls k) (sym (append-nil kinds)) whole)
+completes registers place (suc (suc more)) calls kinds asks whole = grind (arith, append-nil)
 
 pub step_law : StepLaw
-step_law script calls kinds recorded place phase next_place next_phase turned goes = record {
-  run = turned.run;
-  text = turned.text ++ recorded ∷ [];
-  parts = ap (λ (k : List Kind). k ++ recorded ∷ []) turned.parts ∙ append_assoc turned.run turned.text (recorded ∷ []);
-  whole = turned.whole;
-  follows = goes turned.text turned.follows;
-}
+step_law script calls kinds recorded place phase next_place next_phase turned goes =
+    grind (arith, append_assoc)
 
 pub over_law : OverLaw
-over_law script calls kinds place more turned =
-    subst (λ (k : List Kind). IsWholeRun (script ++ calls ∷ []) k) (sym turned.parts)
-    (whole_run-more script calls turned.run turned.text turned.whole turned.follows)
+over_law script calls kinds place more turned = grind (arith, whole_run-more)
 
 -- what is recorded by turns begins a run of its transactions
 begins-by_turns : (registers : ℕ) (kinds : List Kind) → IsByTurns registers kinds → BeginsScript registers kinds
@@ -66,22 +58,9 @@ begins-by_turns registers kinds turns =
     let calls = turns.calls in
     let turned = turns.turned in
     let are : IsTrue (are_calls registers (script ++ calls ∷ [])) = are_calls-transactions registers (script ++ calls ∷ []) turns.asks in
-    let last : IsTrue (list_all (is_call registers) calls) =
-    (and_parts (list_all (is_call registers) calls) true
-    (and_parts (are_calls registers script) _ (sym (list_all-append (list_all (is_call registers)) script (calls ∷ [])) ∙ are)).1).0 in
+    let last : IsTrue (list_all (is_call registers) calls) = grind (arith, list_all-append) in
     let (more, whole) = completes registers turns.place turns.phase calls turned.text last turned.follows in
-    let parts : kinds ++ more ≡ turned.run ++ (turned.text ++ more)
-    = ap (λ (k : List Kind). k ++ more) turned.parts ∙ append_assoc turned.run turned.text more
-    in (
-      script ++ calls ∷ [],
-      turns.asks,
-      (
-        more,
-        subst (λ (k : List Kind). IsWholeRun (script ++ calls ∷ []) k) (sym parts)
-            (whole_run-more script calls turned.run (turned.text ++ more) turned.whole whole),
-      ),
-    )
+    grind (arith, append_assoc, whole_run-more)
 
 pub formed_by_turns : FormedLaw IsByTurns
-formed_by_turns registers history turns =
-    formed_law registers history (λ thread. begins-by_turns registers (kinds_of thread history) (turns thread))
+formed_by_turns registers history turns = search (rules, formed_law, begins-by_turns)

@@ -1,31 +1,18 @@
 -- What a transaction leaves after one more call and its answer.
-use Rattle.tmw_runs.proofs.Shared.{A, IsWholeText, Kind, LeavesCalls, List, MatchBool, [], answers, append-nil, append_assoc, drop, drop_more, false, get_or, is_abort, length, refl, subst, sym, true, ℕ, ◌++◌, ◌+◌, ◌<◌, ◌∷◌, ◌≡◌}
+use Rattle.tmw_runs.proofs.Shared.{A, IsWholeText, Kind, LeavesCalls, List, [], answers, append-nil, append_assoc, drop, drop_more, false, get_or, is_abort, length, refl, subst, sym, true, ℕ, ◌++◌, ◌+◌, ◌<◌, ◌∷◌, ◌≡◌, arith}
 
 -- the answer is no abort event
 pub leaves-answered : (calls : List Kind) (place : ℕ) (answer : Kind) (kinds : List Kind) → place < length calls
     → answers (get_or calls place A) answer ≡ true → is_abort answer ≡ false → LeavesCalls calls kinds (drop place calls)
     → LeavesCalls calls (kinds ++ get_or calls place A ∷ answer ∷ []) (drop (place + 1) calls)
 leaves-answered calls place answer kinds low fits is leaves more whole =
-    let call : Kind = get_or calls place A in
-    let text : IsWholeText (call ∷ drop (place + 1) calls) (call ∷ answer ∷ more)
-    = (answer, more, refl, fits, subst (λ b. MatchBool b (more ≡ []) (IsWholeText (drop (place + 1) calls) more)) (sym is) whole)
-    in
-    let left : IsWholeText (drop place calls) (call ∷ answer ∷ more)
-    = subst (λ (l : List Kind). IsWholeText l (call ∷ answer ∷ more)) (sym (drop_more calls place A low)) text
-    in
-    subst (λ (k : List Kind). IsWholeText calls k) (sym (append_assoc kinds (call ∷ answer ∷ []) more)) (leaves (call ∷ answer ∷ more) left)
+    grind (arith, drop_more, append_assoc)
 
 -- the answer is an abort event
 pub leaves-aborted : (calls : List Kind) (place : ℕ) (answer : Kind) (kinds : List Kind) → place < length calls
     → answers (get_or calls place A) answer ≡ true → is_abort answer ≡ true → LeavesCalls calls kinds (drop place calls)
     → IsWholeText calls (kinds ++ get_or calls place A ∷ answer ∷ [])
-leaves-aborted calls place answer kinds low fits is leaves =
-    let call : Kind = get_or calls place A in
-    let none : List Kind = [] in
-    let text : IsWholeText (call ∷ drop (place + 1) calls) (call ∷ answer ∷ [])
-    = (answer, none, refl, fits, subst (λ b. MatchBool b (none ≡ []) (IsWholeText (drop (place + 1) calls) none)) (sym is) refl)
-    in
-    leaves (call ∷ answer ∷ []) (subst (λ (l : List Kind). IsWholeText l (call ∷ answer ∷ [])) (sym (drop_more calls place A low)) text)
+leaves-aborted calls place answer kinds low fits is leaves = grind (arith, drop_more)
 
 -- where no call is left the events are a whole text
 pub whole-text : (calls kinds left : List Kind) → left ≡ [] → LeavesCalls calls kinds left → IsWholeText calls kinds

@@ -1,5 +1,5 @@
 -- What a script leaves, step by step, and what a thread's events are to the script by what it leaves.
-use Rattle.tmw_runs.proofs.Shared.{A, IsBeginning, IsTrue, IsWholeRun, IsWholeText, Kind, List, MatchBool, [], answers, ap, append-nil, append_assoc, are_calls, false, is_abort, refl, subst, sym, true, ℕ, ◌++◌, ◌∷◌, ◌≡◌}
+use Rattle.tmw_runs.proofs.Shared.{A, IsBeginning, IsTrue, IsWholeRun, IsWholeText, Kind, List, [], answers, ap, append-nil, append_assoc, are_calls, false, is_abort, refl, subst, sym, true, ℕ, ◌++◌, ◌∷◌, ◌≡◌, arith}
 use Rattle.tmw_runs.specs.Leaving.{Leaves}
 use Rattle.tmw_runs.proofs.Calls.{answers_abort, are_calls_first, are_calls_later}
 use Rattle.tmw_runs.proofs.WholeRuns.{runs_law}
@@ -7,14 +7,11 @@ use Rattle.tmw_runs.proofs.WholeRuns.{runs_law}
 -- a whole text goes on after its first call and answer, or is over
 whole_text_on : (call answer : Kind) (calls text : List Kind) → IsTrue (answers call answer) → is_abort answer ≡ false
     → IsWholeText calls text → IsWholeText (call ∷ calls) (call ∷ answer ∷ text)
-whole_text_on call answer calls text fits on whole =
-    (answer, text, refl, fits, subst (λ over. MatchBool over (text ≡ []) (IsWholeText calls text)) (sym on) whole)
+whole_text_on call answer calls text fits on whole = grind arith
 
 whole_text_over : (call answer : Kind) (calls : List Kind) → IsTrue (answers call answer) → is_abort answer ≡ true
     → IsWholeText (call ∷ calls) (call ∷ answer ∷ [])
-whole_text_over call answer calls fits over =
-    let none : List Kind = [] in
-    (answer, none, refl, fits, subst (λ ended. MatchBool ended (none ≡ []) (IsWholeText calls none)) (sym over) refl)
+whole_text_over call answer calls fits over = grind arith
 
 -- at the start all is left
 pub leaves_all : (script : List (List Kind)) → Leaves script [] script
@@ -63,8 +60,7 @@ all_aborted registers ((call ∷ calls) ∷ script) asks =
 pub beginning : (registers : ℕ) (script : List (List Kind)) (kinds : List Kind) (left : List (List Kind))
     → IsTrue (are_calls registers left) → Leaves script kinds left → IsBeginning script kinds
 beginning registers script kinds left asks leaves =
-    let (more, run) = all_aborted registers left asks in
-    (more, leaves more run)
+    let (more, run) = all_aborted registers left asks in grind arith
 
 -- after a lone call, a whole run goes on with an abort event
 after_call : (registers : ℕ) (script : List (List Kind)) (kinds : List Kind) (call : Kind) (calls : List Kind) (later : List (List Kind))
@@ -82,8 +78,7 @@ pub beginning_pending : (registers : ℕ) (script : List (List Kind)) (kinds : L
     → IsTrue (are_calls registers ((call ∷ calls) ∷ later)) → Leaves script kinds ((call ∷ calls) ∷ later)
     → IsBeginning script (kinds ++ call ∷ [])
 beginning_pending registers script kinds call calls later asks leaves =
-    let (more, run) = after_call registers script kinds call calls later asks leaves in
-    (A ∷ more, run)
+    let (more, run) = after_call registers script kinds call calls later asks leaves in grind arith
 
 -- where a call is left the events are no whole run
 pub not_whole : (registers : ℕ) (script : List (List Kind)) (kinds : List Kind) (call : Kind) (calls : List Kind) (later : List (List Kind))
@@ -91,6 +86,4 @@ pub not_whole : (registers : ℕ) (script : List (List Kind)) (kinds : List Kind
     → IsWholeRun script kinds → ⊥
 not_whole registers script kinds call calls later asks leaves whole =
     let (more, run) = after_call registers script kinds call calls later asks leaves in
-    let longer : IsWholeRun script (kinds ++ call ∷ A ∷ more) = subst (IsWholeRun script) (append_assoc kinds (call ∷ []) (A ∷ more)) run in
-    let over : call ∷ A ∷ more ≡ [] = runs_law script kinds (call ∷ A ∷ more) whole longer in
-    absurd (cc)
+    grind (arith, append_assoc, runs_law)

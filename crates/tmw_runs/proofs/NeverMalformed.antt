@@ -1,11 +1,12 @@
 -- The history of threads that carry out scripts is never malformed.
-use Rattle.tmw_runs.proofs.Shared.{BeginsScript, Event, FormedLaw, IsTrue, List, both_ways, is_well_formed, kinds_of, subst, take, ℕ, ◌≡◌}
+use Rattle.tmw_runs.proofs.Shared.{BeginsScript, Event, FormedLaw, IsTrue, List, is_well_formed, kinds_of, take, ℕ, ◌≡◌, arith}
 use Rattle.tmw_defs.specs.declared.verdict.Verdict.{Verdict}
 use Rattle.tmw_defs.specs.declared.verdict.Verdict.TheVariants.{Malformed}
 use Rattle.tmw_defs.specs.Verdict.{Rules, IsVerdict}
 use Rattle.tmw_runs.proofs.Calls.{are_calls-transactions}
 use Rattle.tmw_runs.proofs.TurnsOfRuns.{beginning_turns}
 use Rattle.tmw_runs.proofs.WellFormed.{is_well_formed-turns_take}
+use Rattle.std.proofs.Common.{rules}
 
 pub formed_law : FormedLaw BeginsScript
 formed_law registers history begins =
@@ -17,6 +18,4 @@ formed_law registers history begins =
 pub never_malformed : (rules : Rules) (history : List Event) (verdict : Verdict)
     → ((m : ℕ) → IsTrue (is_well_formed rules.registers (take m history))) → IsVerdict rules history verdict
     → (m : ℕ) → verdict ≡ Malformed m → ⊥
-never_malformed rules history verdict formed told m malformed =
-    let first : IsVerdict rules history (Malformed m) = subst (IsVerdict rules history) malformed told in
-    both_ways (is_well_formed rules.registers (take m history)) first.here.ill_formed (formed m)
+never_malformed rules history verdict formed told m malformed = grind arith

@@ -1,14 +1,9 @@
 -- Calls that are each at their place.
-use Rattle.tmw_runs.proofs.Shared.{A, IsPlaced, IsTrue, Kind, List, N, PlacedLaw, R, T, W, X, [], and_from, arith, get_or, is_call, is_operation, is_request, is_transaction, length, refl, subst, suc, true, ℕ, ◌+◌, ◌<◌, ◌∷◌, ◌≡◌}
+use Rattle.tmw_runs.proofs.Shared.{A, IsPlaced, IsTrue, Kind, List, PlacedLaw, [], and_from, arith, get_or, is_call, is_operation, is_request, is_transaction, length, suc, true, ℕ, ◌+◌, ◌<◌, ◌∷◌, ◌≡◌}
 
 -- a call that asks neither to commit nor to abort
 operates : (registers : ℕ) (call : Kind) → is_call registers call ≡ true → (is_request call ≡ true → ⊥) → is_operation registers call ≡ true
-operates registers (R r) calls other = calls
-operates registers (W r v) calls other = calls
-operates registers (N r d) calls other = calls
-operates registers T calls other = absurd (other refl)
-operates registers X calls other = absurd (other refl)
-operates registers _ calls other = absurd (cc)
+operates registers call calls other = grind arith
 
 -- each is at its place among more calls, the first of which stand in front of it
 abbrev ArePlaced : (registers front : ℕ) → List Kind → Type 0
@@ -19,20 +14,13 @@ ArePlaced registers front calls = (place : ℕ) → place < length calls
 placed_behind : (registers front : ℕ) (call : Kind) (calls : List Kind) → ArePlaced registers front (call ∷ calls)
     → ArePlaced registers (front + 1) calls
 placed_behind registers front call calls each place low =
-    let (is, placed) = each (suc place) (omega (arith, low)) in
-    let count : front + length (call ∷ calls) ≡ front + 1 + length calls = omega arith in
-    let at : front + suc place ≡ front + 1 + place = omega arith in
-    let one : IsPlaced (front + 1 + length calls) (front + suc place) (get_or calls place A)
-    = subst (λ (n : ℕ). IsPlaced n (front + suc place) (get_or calls place A)) count placed
-    in
-    (is, subst (λ (n : ℕ). IsPlaced (front + 1 + length calls) n (get_or calls place A)) at one)
+    let (is, placed) = each (suc place) (omega arith) in grind (arith, length, get_or)
 
 transaction-placed : (registers front : ℕ) (calls : List Kind) → 0 < length calls → ArePlaced registers front calls
     → IsTrue (is_transaction registers calls)
-transaction-placed registers front [] some each = absurd (omega (arith, some))
+transaction-placed registers front [] some each = absurd (omega arith)
 transaction-placed registers front (call ∷ []) some each =
-    let (is, (fits, last)) = each 0 (omega arith) in
-    last.1 (omega arith)
+    let (is, (fits, last)) = each 0 (omega arith) in grind arith
 transaction-placed registers front (call ∷ next ∷ calls) some each =
     let (is, (fits, last)) = each 0 (omega arith) in
     let operation : is_operation registers call ≡ true =
@@ -42,10 +30,4 @@ transaction-placed registers front (call ∷ next ∷ calls) some each =
 
 pub placed_law : PlacedLaw
 placed_law registers calls some each = transaction-placed registers 0 calls some (λ place low.
-    let (is, placed) = each place low in
-    let count : length calls ≡ 0 + length calls = omega arith in
-    let at : place ≡ 0 + place = omega arith in (
-      is,
-      subst (λ (n : ℕ). IsPlaced (0 + length calls) n (get_or calls place A)) at
-          (subst (λ (n : ℕ). IsPlaced n place (get_or calls place A)) count placed),
-    ))
+    let (is, placed) = each place low in grind arith)

@@ -1,5 +1,5 @@
 -- Answers that stand so far, step by step.
-use Rattle.tmw_runs.proofs.Shared.{A, Abort, Add, AllStand, Answer, Begin, Bool, C, Call, Commit, Done, Gives, K, Kind, List, N, R, Read, Stands, StandsSoFar, T, V, Value, W, Write, X, [], append-nil, append_assoc, ends, inl, inr, subst, sym, true, ◌++◌, ◌∷◌}
+use Rattle.tmw_runs.proofs.Shared.{AllStand, Answer, Bool, Call, Kind, List, Stands, StandsSoFar, [], append-nil, append_assoc, ends, subst, true, ◌++◌, ◌∷◌, arith}
 
 -- at the start the next call is the first of its transaction
 pub so_far_none : (gives : Call → Answer → Type 0) → StandsSoFar gives [] true
@@ -9,8 +9,7 @@ so_far_none gives more stand = stand
 pub so_far_answered : (gives : Call → Answer → Type 0) (kinds : List Kind) (first : Bool) (call answer : Kind)
     → StandsSoFar gives kinds first → Stands gives first call answer
     → StandsSoFar gives (kinds ++ call ∷ answer ∷ []) (ends answer)
-so_far_answered gives kinds first call answer so_far stands more stand =
-    subst (AllStand gives true) (sym (append_assoc kinds (call ∷ answer ∷ []) more)) (so_far (call ∷ answer ∷ more) (stands, stand))
+so_far_answered gives kinds first call answer so_far stands more stand = grind (arith, append_assoc)
 
 -- all the answers stand
 pub so_far_all : (gives : Call → Answer → Type 0) (kinds : List Kind) (first : Bool) → StandsSoFar gives kinds first
@@ -22,27 +21,9 @@ pub so_far_called : (gives : Call → Answer → Type 0) (kinds : List Kind) (fi
     → StandsSoFar gives kinds first → AllStand gives true (kinds ++ call ∷ [])
 so_far_called gives kinds first call so_far = so_far (call ∷ []) tt
 
--- what a memory gives, one that gives more gives too
-pub gives-more : (gives more : Call → Answer → Type 0) → ((call : Call) (answer : Answer) → gives call answer → more call answer)
-    → (call answer : Kind) → Gives gives call answer → Gives more call answer
-gives-more gives more larger (R r) (V v) given = larger (Read r) (Value v) given
-gives-more gives more larger (R r) A given = larger (Read r) Abort given
-gives-more gives more larger (W r v) K given = larger (Write r v) Done given
-gives-more gives more larger (W r v) A given = larger (Write r v) Abort given
-gives-more gives more larger (N r d) (V v) given = larger (Add r d) (Value v) given
-gives-more gives more larger (N r d) A given = larger (Add r d) Abort given
-gives-more gives more larger T C given = larger Commit Done given
-gives-more gives more larger T A given = larger Commit Abort given
-gives-more gives more larger X A given = tt
-gives-more gives more larger _ _ given = absurd given
-
 pub stands-more : (gives more : Call → Answer → Type 0) → ((call : Call) (answer : Answer) → gives call answer → more call answer)
     → (first : Bool) (call answer : Kind) → Stands gives first call answer → Stands more first call answer
-stands-more gives more larger first call answer stands =
-    elim stands [
-      | inl given ↦ inl ((λ start. larger Begin Done (given.0 start)), gives-more gives more larger call answer given.1)
-      | inr late ↦ inr (late.0, late.1, larger Begin Abort late.2)
-    ]
+stands-more gives more larger first call answer stands = grind arith
 
 pub all_stand-more : (gives more : Call → Answer → Type 0) → ((call : Call) (answer : Answer) → gives call answer → more call answer)
     → (first : Bool) (kinds : List Kind) → AllStand gives first kinds → AllStand more first kinds

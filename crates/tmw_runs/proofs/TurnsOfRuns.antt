@@ -1,13 +1,12 @@
 -- The events of a thread that carries a script out are calls and answers in turn.
-use Rattle.tmw_runs.proofs.Shared.{IsBeginning, IsTrue, IsWholeRun, IsWholeText, Kind, List, MatchBool-at_false, MatchBool-at_true, [], and_from, and_parts, answers, ap, are_calls, cases_Bool, inl, inr, is_abort, is_call, is_turns, list_all, refl, subst, sym, ℕ, ◌&&◌, ◌++◌, ◌∙◌, ◌∷◌}
+use Rattle.tmw_runs.proofs.Shared.{IsBeginning, IsTrue, IsWholeRun, IsWholeText, Kind, List, MatchBool-at_false, MatchBool-at_true, [], and_from, and_parts, answers, ap, are_calls, cases_Bool, inl, inr, is_abort, is_call, is_turns, list_all, refl, subst, sym, ℕ, ◌&&◌, ◌++◌, ◌∙◌, ◌∷◌, arith}
 
 -- the front of turns is turns
 pub is_turns_front : (registers : ℕ) (front back : List Kind) → IsTrue (is_turns registers (front ++ back))
     → IsTrue (is_turns registers front)
 is_turns_front registers [] back turns = refl
 is_turns_front registers (call ∷ []) [] turns = turns
-is_turns_front registers (call ∷ []) (answer ∷ back) turns =
-    (and_parts (is_call registers call) _ (and_parts (is_call registers call && answers call answer) _ turns).0).0
+is_turns_front registers (call ∷ []) (answer ∷ back) turns = grind arith
 is_turns_front registers (call ∷ answer ∷ front) back turns =
     let (here, rest) = and_parts (is_call registers call && answers call answer) _ turns in
     and_from _ _ here (is_turns_front registers front back rest)
@@ -23,9 +22,7 @@ text_turns registers (call ∷ calls) text more asks (answer, rest, is, fits, wh
       | inl over ↦ subst (λ t. IsTrue (is_turns registers (t ++ more))) (sym (MatchBool-at_true _ _ over whole)) turns
       | inr on ↦ text_turns registers calls rest more calls_ask (MatchBool-at_false _ _ on whole) turns
     ]
-    in
-    subst (λ t. IsTrue (is_turns registers (t ++ more))) (sym is)
-    (and_from (is_call registers call && answers call answer) _ (and_from _ _ call_asks fits) rest_turns)
+    in cc
 
 pub run_turns : (registers : ℕ) (script : List (List Kind)) (kinds : List Kind) → IsTrue (are_calls registers script)
     → IsWholeRun script kinds → IsTrue (is_turns registers kinds)

@@ -1,7 +1,7 @@
 -- A history is well-formed where the events of each thread are calls and answers in turn.
-use Rattle.tmw_runs.proofs.Shared.{A, All, AreTransactions, Bool, C, Event, IsTrue, Kind, List, Txn, [], and_from, and_parts, answers, ap, arith, cases_Bool, drop, ended_but_last, ends, eq-eqb, filter, inl, inr, is_call, is_ended, is_text, is_turns, is_well_formed, joined_texts, kinds_of, list_all, map, map-append, ne_eqb, not, of_thread, open_but_last, refl, sym, take, take-append-drop, transactions, true, ℕ, ◌&&◌, ◌++◌, ◌<◌, ◌==◌, ◌∙◌, ◌∷◌, ◌≡◌, ◌≤◌}
+use Rattle.tmw_runs.proofs.Shared.{All, AreTransactions, Bool, Event, IsTrue, Kind, List, Txn, [], and_from, and_parts, answers, ap, arith, cases_Bool, drop, ended_but_last, ends, eq-eqb, inl, inr, is_call, is_ended, is_text, is_turns, is_well_formed, joined_texts, kinds_of, list_all, map-append, ne_eqb, not, of_thread, open_but_last, refl, sym, take, take-append-drop, transactions, true, ℕ, ◌&&◌, ◌++◌, ◌<◌, ◌==◌, ◌∙◌, ◌∷◌, ◌≡◌, ◌≤◌}
 use Rattle.std.proofs.lemmas.List.Elements.{All-head, All-tail, filter-append}
-use Rattle.tmw_defs.proofs.TextsProof.{texts_law, is_over-ends, is_ended-cons}
+use Rattle.tmw_defs.proofs.TextsProof.{texts_law, is_ended-cons}
 use Rattle.tmw_runs.proofs.TurnsOfRuns.{is_turns_front}
 
 -- turns of which at most the last event ends a transaction are a text
@@ -15,18 +15,11 @@ is_text-turns registers (call ∷ answer ∷ next ∷ more) turns unbroken =
     let (answer_open, rest_open) = and_parts (not (ends answer)) _ (and_parts (not (ends call)) _ unbroken).1 in
     and_from _ _ (and_from _ _ here answer_open) (is_text-turns registers (next ∷ more) rest rest_open)
 
--- what ends a transaction is no call
-call_ends_none : (registers : ℕ) (kind : Kind) → IsTrue (is_call registers kind) → IsTrue (ends kind) → ⊥
-call_ends_none registers C asks over = cc
-call_ends_none registers A asks over = cc
-call_ends_none registers _ asks over = cc
-
 -- turns go on with turns after an ended transaction
 is_turns_back : (registers : ℕ) (text back : List Kind) → IsTrue (is_turns registers (text ++ back)) → IsTrue (is_ended text)
     → IsTrue (is_turns registers back)
 is_turns_back registers [] back turns ended = absurd (cc)
-is_turns_back registers (call ∷ []) back turns ended =
-    absurd (call_ends_none registers call (is_turns_front registers (call ∷ []) back turns) (sym (is_over-ends call) ∙ ended))
+is_turns_back registers (call ∷ []) back turns ended = grind arith
 is_turns_back registers (call ∷ answer ∷ []) back turns ended = (and_parts (is_call registers call && answers call answer) _ turns).1
 is_turns_back registers (call ∷ answer ∷ next ∷ more) back turns ended =
     let later : IsTrue (is_ended (next ∷ more)) = sym (is_ended-cons answer next more) ∙ sym (is_ended-cons call answer (next ∷ more)) ∙ ended in
@@ -84,9 +77,7 @@ no_kinds count thread (event ∷ history) own past =
 
 -- a thread's events in a history that goes on
 pub kinds_of-append : (thread : ℕ) (front back : List Event) → kinds_of thread (front ++ back) ≡ kinds_of thread front ++ kinds_of thread back
-kinds_of-append thread front back =
-    ap (map (λ e. e.kind)) (filter-append (λ e. e.thread.number == thread) front back)
-    ∙ map-append (λ e. e.kind) (filter (λ e. e.thread.number == thread) front) (filter (λ e. e.thread.number == thread) back)
+kinds_of-append thread front back = grind (arith, filter-append, map-append)
 
 -- and so is each prefix
 pub is_well_formed-turns_take : (registers : ℕ) (history : List Event)

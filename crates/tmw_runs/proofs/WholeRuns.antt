@@ -1,5 +1,5 @@
 -- A list of events begins with at most one whole run of a script; so no whole run is a proper beginning of another.
-use Rattle.tmw_runs.proofs.Shared.{IsBeginning, IsWholeRun, IsWholeText, Kind, List, MatchBool-at_false, MatchBool-at_true, RunsLaw, [], ap, append-nil, append_assoc, cases_Bool, inl, inr, is_abort, refl, sym, ◌++◌, ◌∙◌, ◌∷◌, ◌≡◌}
+use Rattle.tmw_runs.proofs.Shared.{IsBeginning, IsWholeRun, IsWholeText, Kind, List, MatchBool-at_false, RunsLaw, [], ap, append-nil, append_assoc, cases_Bool, inl, inr, is_abort, refl, sym, ◌++◌, ◌∙◌, ◌∷◌, ◌≡◌, arith}
 
 -- equal lists stay equal when their fronts are called by other names
 same_fronts : (t u s r a b : List Kind) → t ≡ s → u ≡ r → t ++ a ≡ u ++ b → s ++ a ≡ r ++ b
@@ -10,19 +10,17 @@ pub whole_text_front : (calls t u a b : List Kind) → IsWholeText calls t → I
     → (t ≡ u) × (a ≡ b)
 whole_text_front [] t u a b left right same = (left ∙ sym right, same_fronts t u [] [] a b left right same)
 whole_text_front (call ∷ calls) t u a b (x, l, t_is, x_fits, l_rest) (y, r, u_is, y_fits, r_rest) same =
-    let fronts : call ∷ x ∷ l ++ a ≡ call ∷ y ∷ r ++ b = same_fronts t u (call ∷ x ∷ l) (call ∷ y ∷ r) a b t_is u_is same in
     let answer : x ≡ y = cc in
     let rests : l ++ a ≡ r ++ b = cc in
     elim (cases_Bool (is_abort x)) [
-      | inl over ↦
-          let l_over : l ≡ [] = MatchBool-at_true _ _ over l_rest in
-          let r_over : r ≡ [] = MatchBool-at_true _ _ (ap is_abort (sym answer) ∙ over) r_rest in
-          let texts : l ≡ r = l_over ∙ sym r_over in
-          (cc, same_fronts l r [] [] a b l_over r_over rests)
+      | inl over ↦ grind arith
       | inr on ↦
-          let (texts, tails) = whole_text_front calls l r a b (MatchBool-at_false _ _ on l_rest)
-          (MatchBool-at_false _ _ (ap is_abort (sym answer) ∙ on) r_rest) rests in
-          (cc, tails)
+          grind (
+            arith,
+            is_abort,
+            (whole_text_front calls l r a b (MatchBool-at_false _ _ on
+                l_rest) (MatchBool-at_false _ _ (ap is_abort (sym answer) ∙ on) r_rest) rests),
+          )
     ]
 
 -- a list begins with at most one whole run of this script
@@ -33,8 +31,7 @@ whole_run_front (calls ∷ script) k l a b (t, m, k_is, t_whole, m_run) (u, n, l
     let fronts : (t ++ m) ++ a ≡ (u ++ n) ++ b = same_fronts k l (t ++ m) (u ++ n) a b k_is l_is same in
     let split : t ++ (m ++ a) ≡ u ++ (n ++ b) = sym (append_assoc t m a) ∙ fronts ∙ append_assoc u n b in
     let (texts, rests) = whole_text_front calls t u (m ++ a) (n ++ b) t_whole u_whole split in
-    let (runs, tails) = whole_run_front script m n a b m_run n_run rests in
-    (k_is ∙ ap (λ text. text ++ m) texts ∙ ap (λ run. u ++ run) runs ∙ sym l_is, tails)
+    grind (arith, (whole_run_front script m n a b m_run n_run rests))
 
 pub runs_law : RunsLaw
 runs_law script kinds more whole longer =

@@ -1,10 +1,10 @@
 -- Members of one set or of several are added to a list.
-use Rattle.tmw_search.proofs.Shared.{Adds, AddsMember, Bool, In, IsTrue, List, State, ap, arith, bit_at, bit_at-zero, false, inl, inr, refl, subst, sym, true, ℕ, ◌%◌, ◌*◌, ◌-◌, ◌<◌, ◌^◌, ◌∙◌, ◌≡◌, ◌⊎◌}
+use Rattle.tmw_search.proofs.Shared.{Adds, AddsMember, cases_lt, ◌+◌, Bool, Contains, Contains-append_left, Contains-push, Contains-push_cases, [], ◌++◌, ◌∷◌, In, IsTrue, List, State, ap, arith, bit_at, bit_at-zero, false, inl, inr, refl, subst, sym, true, ℕ, ◌%◌, ◌*◌, ◌-◌, ◌<◌, ◌^◌, ◌∙◌, ◌≡◌, ◌⊎◌}
 use Rattle.tmw_search.proofs.Bits.{same_place, less_of, less_has}
 use Rattle.tmw_search.proofs.Branching.{never-true}
 
 -- members of another set were added
-pub adds-to : {done : Bool} {old new : List State} {P Q : State → Type 0} → ((e : State) → P e → Q e) → (IsTrue done → (e : State) → Q e → P e)
+pub adds-to : {A : Type 0} {done : Bool} {old new : List A} {P Q : A → Type 0} → ((e : A) → P e → Q e) → (IsTrue done → (e : A) → Q e → P e)
     → Adds done old new P → Adds done old new Q
 adds-to to from a = record {
   only = λ e has. elim (a.only e has) [ inl was ↦ inl was | inr p ↦ inr (to e p) ];
@@ -12,7 +12,7 @@ adds-to to from a = record {
   all = λ all e q. a.all all e (from all e q);
 }
 
-pub adds-empty : {old : List State} {P : State → Type 0} → ((e : State) → P e → ⊥) → Adds true old old P
+pub adds-empty : {A : Type 0} {old : List A} {P : A → Type 0} → ((e : A) → P e → ⊥) → Adds true old old P
 adds-empty none = record { only = λ e has. inl has; kept = λ e has. has; all = λ all e p. absurd (none e p) }
 
 pub adds-one : {old new : List State} {state : State} → AddsMember old new state → Adds true old new (λ e. e ≡ state)
@@ -22,22 +22,41 @@ adds-one adds = record {
   all = λ all e same. (adds e).1 (inl same);
 }
 
-pub adds-both : {done : Bool} {old mid new : List State} {P Q R : State → Type 0} → Adds true old mid P → Adds done mid new Q
-    → ((e : State) → P e → R e) → ((e : State) → Q e → R e) → ((e : State) → R e → P e ⊎ Q e) → Adds done old new R
-adds-both a b one two either = record {
-  only = λ e has. elim (b.only e has) [
-    | inl was ↦ elim (a.only e was) [ inl before ↦ inl before | inr p ↦ inr (one e p) ]
-    | inr q ↦ inr (two e q)
-  ];
-  kept = λ e has. b.kept e (a.kept e has);
-  all = λ all e r. elim (either e r) [ inl p ↦ b.kept e (a.all refl e p) | inr q ↦ b.all all e q ];
+pub adds-push : {A : Type 0} {old : List A} {r : A} {P : A → Type 0} → P r → ((q : A) → P q → r ≡ q) → Adds true old (old ++ r ∷ []) P
+adds-push {A = A} {old = old} {r = r} {P = P} is only = record {
+  only = λ q has. elim (Contains-push_cases old r q has) [ inl before ↦ inl before | inr same ↦ inr (subst P same is) ];
+  kept = λ q has. Contains-append_left old (r ∷ []) q has;
+  all = λ all q made. subst (λ (z : A). Contains (old ++ r ∷ []) z) (only q made) (Contains-push old r);
 }
 
-pub adds-part : {old new : List State} {P Q : State → Type 0} → ((e : State) → P e → Q e) → Adds false old new P → Adds false old new Q
+pub adds-both : {A : Type 0} {done : Bool} {old mid new : List A} {P Q R : A → Type 0} → Adds true old mid P → Adds done mid new Q
+    → ((e : A) → P e → R e) → ((e : A) → Q e → R e) → ((e : A) → R e → P e ⊎ Q e) → Adds done old new R
+adds-both a b one two either = record { only = grind arith; kept = grind arith; all = grind arith }
+
+pub adds-part : {A : Type 0} {old new : List A} {P Q : A → Type 0} → ((e : A) → P e → Q e) → Adds false old new P → Adds false old new Q
 adds-part to = adds-to to (λ all. absurd (never-true all))
 
-pub adds-any : {done : Bool} {old new : List State} {P : State → Type 0} → Adds true old new P → Adds done old new P
+pub adds-any : {A : Type 0} {done : Bool} {old new : List A} {P : A → Type 0} → Adds true old new P → Adds done old new P
 adds-any a = record { only = a.only; kept = a.kept; all = λ all. a.all refl }
+
+-- of the first n sets
+abbrev pub OfFirst : {A : Type 0} → (ℕ → A → Type 0) → ℕ → A → Type 0
+OfFirst P n q = (i : ℕ) × (i < n) × P i q
+
+pub adds-first : {A : Type 0} {P : ℕ → A → Type 0} {old : List A} → Adds true old old (OfFirst P 0)
+adds-first = adds-empty (λ q (i, less, is). absurd (omega (arith, less)))
+
+pub adds-next : {A : Type 0} {done : Bool} (P : ℕ → A → Type 0) (n : ℕ) {old mid new : List A} → Adds true old mid (OfFirst P n)
+    → Adds done mid new (P n) → Adds done old new (OfFirst P (n + 1))
+adds-next P n one two =
+    adds-both one two (λ q (i, less, is). (i, omega (arith, less), is)) (λ q is. (n, omega arith, is)) (λ q (i, less, is). elim (cases_lt i n) [
+      | inl lower ↦ inl (i, lower, is)
+      | inr last ↦ inr (let same : i ≡ n = omega (arith, less, last) in subst (λ (j : ℕ). P j q) same is)
+    ])
+
+pub adds-places : {A : Type 0} (P : ℕ → A → Type 0) (n : ℕ) {old new : List A} → ((i : ℕ) (q : A) → P i q → i < n)
+    → Adds true old new (OfFirst P n) → Adds true old new (λ q. (i : ℕ) × P i q)
+adds-places P n low adds = adds-to (λ q (i, less, is). (i, is)) (λ all q (i, is). (i, low i q is, is)) adds
 
 -- The sets of these places were added, but those of the places left.
 abbrev pub ByOne : (ℕ → State → Type 0) → ℕ → State → Type 0

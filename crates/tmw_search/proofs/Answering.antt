@@ -1,11 +1,11 @@
 -- What the search answers is what the criterion asks: where it finds a node some legal serial order ends somewhere, and else none does.
-use Rattle.tmw_search.proofs.Shared.{Aborted, ActAs, AreRising, Begins, Bool, Committed, Completes, Criterion, Effect, EndsBy, Event, Explains, HasNone, HaveEight, In, IsCompletion, IsFound, IsLegal, IsRoot, IsSerial, IsTrue, List, Live, Node, NoneBeforeItself, Only, Opacity, Pending, Refutes, ShowsOrder, ShowsStatus, ShowsTransactions, Some, State, Status, Strict, Txn, View, and_parts, ap, arith, bit, bit_at, bit_at_above, bit_at_ones, cases_lt, effects, end_state, eq-eqb, eqb-true, false, has_asked, has_committed, inl, inr, is_committed, is_ended, is_over, is_pending, length, length-map, map, may_hold, members_of, orderly, precedes, refl, slice_get, slice_get_within, status_of, sym, transactions, true, view, views_of, ℕ, ◌<◌, ◌==◌, ◌↔◌, ◌∙◌, ◌≡◌, ◌≤◌, ◌⊎◌}
-use Rattle.tmw_search.proofs.Bits.{bit_cases, or-left, or-right, or_either}
+use Rattle.tmw_search.proofs.Shared.{Aborted, ActAs, AreRising, Begins, Bool, Committed, Completes, Criterion, Effect, EndsBy, Event, Explains, HasNone, HaveEight, In, IsCompletion, IsFound, IsLegal, IsRoot, IsSerial, IsTrue, List, Live, Node, NoneBeforeItself, Only, Opacity, Pending, Refutes, ShowsOrder, ShowsStatus, ShowsTransactions, Some, State, Status, Strict, Txn, View, and_parts, ap, arith, bit, bit_at, bit_at_ones, cases_lt, effects, end_state, eq-eqb, eqb-true, false, has_asked, has_committed, inl, inr, is_committed, is_ended, is_over, is_pending, length, length-map, map, may_hold, members_of, orderly, precedes, refl, slice_get, slice_get_within, status_of, sym, transactions, true, view, views_of, ℕ, ◌<◌, ◌==◌, ◌↔◌, ◌∙◌, ◌≡◌, ◌≤◌, ◌⊎◌, Agree, Contains, Contains-append_cases, Entails, NoneExplains, States, TellsEnd, Window, [], get_or, get_or_default, members, subst, suc, take, take_more, views, zero, ◌+◌, ◌∷◌}
+use Rattle.tmw_search.proofs.Bits.{bit_cases, bit_true, bit_within, or-left, or-right, or_either}
 use Rattle.tmw_search.proofs.LayerSteps.{slice_get_some}
 use Rattle.tmw_search.proofs.Law.{are_ranked, ordered_by}
 use Rattle.tmw_search.proofs.Rooting.{marks-within, rising-views}
-use Rattle.tmw_search.proofs.Shown.{act-as}
-use Rattle.tmw_search.proofs.WindowViews.{shows-views_of, none_before_itself}
+use Rattle.tmw_search.proofs.WindowViews.{act-as, shows-views_of, none_before_itself}
+use Rattle.tmw_search.proofs.Branching.{never-true}
 use Rattle.tmw_cuts.specs.declared.txn.Txn as cuts
 
 -- what a completion may hold, by what has committed and what is pending
@@ -23,10 +23,6 @@ not-over Pending is = refl
 not-over Committed is = absurd (cc)
 not-over Live is = absurd (cc)
 not-over Aborted is = absurd (cc)
-
-bit_true : (b : Bool) → bit b ≡ 1 → b ≡ true
-bit_true true one = refl
-bit_true false one = absurd (omega (arith, one))
 
 module _ (xs : List View) (ts : List Txn) (committed pending : ℕ) (shows : ShowsTransactions xs ts) (few : length ts ≤ 8)
     (status : ShowsStatus xs committed pending) where
@@ -121,10 +117,7 @@ module _ (xs : List View) (ts : List Txn) (committed pending : ℕ) (shows : Sho
           let (u, at_u) = slice_get_some ts j (omega (arith, within, shows.same_length)) in
           let one = shows.each j y u at_y at_u in
           let (own, other, is) = (begins.each i j y low_i at_y differ).0 has in
-          let (t, at_t) = slice_get_some ts i (elim (cases_lt i (length ts)) [
-            | inl below ↦ below
-            | inr past ↦ absurd (omega (arith, is, bit_at_above y.before (length ts) i one.fits past))
-          ]) in
+          let (t, at_t) = slice_get_some ts i (bit_within y.before (length ts) i one.fits is) in
           let before : precedes t u ≡ true = bit_true (precedes t u) (sym (one.bits i t at_t) ∙ is) in
           (t, u, at_t, at_u, ended-member criterion held i t low_i c at_t (and_parts (is_ended t.text) _ before).0 other, before)
     ];
@@ -238,3 +231,57 @@ pub explains : {criterion : Criterion} {items : List cuts.Txn} {start : State} {
     → IsFound (effects items) start pending node found → Explains criterion items start
 explains {found = found} b size is f events shown =
     (law-of _ _ _ events _ _ _ _ (shown-of b events shown) size is).1 (found.held, f.rank, f.legal f.rank f.ranking)
+
+pub none-read : {xs : List Effect} {start : State} {may : ℕ} {root node : Node} → Entails xs start may root node false
+    → HasNone xs start may root
+none-read f held rank l = absurd (never-true (f.onto held rank l).0)
+
+-- one that does not agree with itself is in no legal order
+pub none-agrees : {xs : List Effect} {start : State} {may : ℕ} {root : Node} → (Agree xs root.members → ⊥) → HasNone xs start may root
+none-agrees not held rank l = not (λ j within is. l.agree j within (inl is))
+
+pub tells-none : (criterion : Criterion) (states : States) (window : Window) (items : List cuts.Txn) (starts : List State)
+    → map view items ≡ views window → starts ≡ members states → NoneExplains criterion items starts → TellsEnd criterion states window false
+tells-none criterion states window items starts shown same none events stands = (
+  λ alive. absurd (never-true alive),
+  λ some.
+      let (end, (start, has, leads)) = some in
+      absurd (none start (rw same has) events (shown ∙ stands.shows) end (start, refl, leads)),
+)
+
+pub tells-some : (criterion : Criterion) (states : States) (window : Window) (items : List cuts.Txn) (starts : List State) (start : State)
+    → map view items ≡ views window → starts ≡ members states → Contains starts start → Explains criterion items start
+    → TellsEnd criterion states window true
+tells-some criterion states window items starts start shown same has explains events stands = (
+  λ alive.
+      let (end, (s, is, leads)) = explains events (shown ∙ stands.shows) in
+      (end, (s, rw (is, ← same) has, leads)),
+  λ some. refl,
+)
+
+pub none-first : (criterion : Criterion) (items : List cuts.Txn) → NoneExplains criterion items []
+none-first criterion items start (i, within, is) = absurd (omega (arith, within))
+
+-- the start that a loop is at
+pub start-at : (starts : List State) (i : ℕ) → i < length starts → Contains starts (get_or starts i [])
+start-at starts i within = (i, within, get_or_default starts i (get_or starts i []) [] within)
+
+pub none-more : (criterion : Criterion) (items : List cuts.Txn) (starts : List State) (i : ℕ) → i < length starts
+    → NoneExplains criterion items (take i starts) → Refutes criterion items (get_or starts i [])
+    → NoneExplains criterion items (take (i + 1) starts)
+none-more criterion items starts i within none here start has =
+    let last = get_or starts i [] in
+    elim (Contains-append_cases (take i starts) (last ∷ []) start (subst (λ (xs : List State). Contains xs start) (take_more starts i [] within) has)) [
+      | inl before ↦ none start before
+      | inr at_last ↦ subst (λ (s : State). Refutes criterion items s) (only-one last start at_last) here
+    ]
+  where
+    only-one : (x y : State) → Contains (x ∷ []) y → x ≡ y
+    only-one x y (zero, within, is) = is
+    only-one x y (suc i, within, is) = absurd (omega (arith, within))
+
+-- registers of each start
+pub start-size : (starts : List State) (start : State) → ((i : ℕ) → i < length starts → length (get_or starts i []) ≡ 8)
+    → Contains starts start → length start ≡ 8
+start-size starts start sizes (i, within, is) =
+    subst (λ (s : State). length s ≡ 8) (get_or_default starts i [] start within ∙ is) (sizes i within)

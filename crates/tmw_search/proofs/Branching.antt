@@ -1,54 +1,21 @@
 -- The transactions from which an open read may have its value, one after another.
-use Rattle.tmw_search.proofs.Shared.{Bool, Effect, Has, In, IsBranch, IsNode, IsRead, IsTrue, List, MayBe, Node, Open, Reads, ReadsFrom, ReadsStart, Source, State, and_le_l, and_le_r, ap, arith, bit_and, bit_at, bit_at-lt, bit_at-trailing_zeros, bit_at-zero, bit_at_and, bit_at_clear_other, bit_at_clear_same, bit_at_set_other, bit_at_set_same, bit_not, bit_or, eq-eqb, false, inl, inr, need_at, not, refl, slice_index, source_at, subst, sym, trailing_zeros, true, w8, ℕ, ◌%◌, ◌*◌, ◌-◌, ◌<◌, ◌==◌, ◌^◌, ◌∙◌, ◌≡◌, ◌⊎◌}
-use Rattle.tmw_search.proofs.Bits.{same_place, less_of, less_has, or-left, or-right, or_either}
+use Rattle.tmw_search.proofs.Shared.{Bool, Effect, Has, In, IsBranch, IsNode, IsRead, IsTrue, List, MayBe, Node, Open, Reads, ReadsFrom, ReadsStart, Source, State, and_le_l, and_le_r, ap, arith, bit_and, bit_at, bit_at-zero, bit_not, bit_or, eq-eqb, false, inl, inr, need_at, not, refl, slice_index, source_at, subst, sym, true, w8, ℕ, ◌%◌, ◌*◌, ◌-◌, ◌<◌, ◌==◌, ◌^◌, ◌∙◌, ◌≡◌, ◌⊎◌, Branch, IsOrder, From, Gives, HasNone, IsLegal, MatchOption, MayGive, None, Option, Some, room, ◌+◌}
+use Rattle.tmw_search.proofs.Bits.{masks, some-place, same_place, less_of, less_has, or-left, or-right, or_either}
+use Rattle.tmw_search.proofs.Passing.{Grows, room-most, room-pair}
 
-pub record Branches (xs : List Effect) (may : ℕ) (node : Node) (j r writers left : ℕ) : Type 0 where
-  pub only : (i : ℕ) → i < 8 → In writers i → (In (slice_index node.choices.writers r) i ⊎ In may i) × MayBe xs node j r i
-  pub all : (i : ℕ) → i < 8 → (In (slice_index node.choices.writers r) i ⊎ In may i) → In left i ⊎ (MayBe xs node j r i → In writers i)
-  pub among : (i : ℕ) → i < 8 → In left i → In (slice_index node.choices.writers r) i ⊎ In may i
+-- of these, all but those left, those that may be its source
+pub record Branches (xs : List Effect) (node : Node) (j r these writers left : ℕ) : Type 0 where
+  pub only : (i : ℕ) → In writers i → In these i × MayBe xs node j r i
+  pub all : (i : ℕ) → In these i → bit_at left i ≡ 0 → MayBe xs node j r i → In writers i
+  pub among : (i : ℕ) → In left i → In these i
 
-pub branches-none : (xs : List Effect) (may : ℕ) (node : Node) (j r : ℕ) → Branches xs may node j r 0 (bit_or (slice_index node.choices.writers r) may)
-branches-none xs may node j r = record {
-  only = λ i within is. absurd (omega (arith, is, bit_at-zero i));
-  all = λ i within is. elim is [ inl held ↦ inl (or-left (slice_index node.choices.writers r) may i held) | inr might ↦ inl (or-right (slice_index node.choices.writers r) may i might) ];
-  among = λ i within is. or_either (slice_index node.choices.writers r) may i is;
-}
+pub branches-with : {xs : List Effect} {node : Node} {j r these writers left : ℕ} (i : ℕ) → i < 8 → In left i → MayBe xs node j r i
+    → Branches xs node j r these writers left → Branches xs node j r these (bit_or writers (1 * 2 ^ i % 2 ^ 8)) (left - 1 * 2 ^ i % 2 ^ 8)
+branches-with i within one is b = record { only = grind (arith, masks); all = grind (arith, masks); among = grind (arith, masks) }
 
-pub branches-with : (xs : List Effect) (may : ℕ) (node : Node) (j r writers left i : ℕ) → i < 8 → In left i → MayBe xs node j r i
-    → Branches xs may node j r writers left
-    → Branches xs may node j r (bit_or writers (1 * 2 ^ i % 2 ^ 8)) (left - 1 * 2 ^ i % 2 ^ 8)
-branches-with xs may node j r writers left i within one is b =
-    let less = less_of left i within one in
-    record {
-      only = λ k few has. elim (same_place k i) [
-        | inl same ↦ (b.among k few (ap (bit_at left) same ∙ one), subst (λ (m : ℕ). MayBe xs node j r m) (sym same) is)
-        | inr apart ↦ b.only k few (sym (bit_at_set_other w8 writers i within k apart) ∙ has)
-      ];
-      all = λ k few has. elim (same_place k i) [
-        | inl same ↦ inr (λ may_be. ap (bit_at (bit_or writers (1 * 2 ^ i % 2 ^ 8))) same ∙ bit_at_set_same w8 writers i within)
-        | inr apart ↦ elim (b.all k few has) [
-          | inl still ↦ inl (sym (less.other k apart) ∙ still)
-          | inr done ↦ inr (λ may_be. bit_at_set_other w8 writers i within k apart ∙ done may_be)
-        ]
-      ];
-      among = λ k few has. b.among k few (less_has left i _ k less has);
-    }
-
-pub branches-without : (xs : List Effect) (may : ℕ) (node : Node) (j r writers left i : ℕ) → i < 8 → In left i → (MayBe xs node j r i → ⊥)
-    → Branches xs may node j r writers left → Branches xs may node j r writers (left - 1 * 2 ^ i % 2 ^ 8)
-branches-without xs may node j r writers left i within one not b =
-    let less = less_of left i within one in
-    record {
-      only = b.only;
-      all = λ k few has. elim (same_place k i) [
-        | inl same ↦ inr (λ may_be. absurd (not (subst (λ (m : ℕ). MayBe xs node j r m) same may_be)))
-        | inr apart ↦ elim (b.all k few has) [
-          | inl still ↦ inl (sym (less.other k apart) ∙ still)
-          | inr done ↦ inr done
-        ]
-      ];
-      among = λ k few has. b.among k few (less_has left i _ k less has);
-    }
+pub branches-without : {xs : List Effect} {node : Node} {j r these writers left : ℕ} (i : ℕ) → i < 8 → In left i → (MayBe xs node j r i → ⊥)
+    → Branches xs node j r these writers left → Branches xs node j r these writers (left - 1 * 2 ^ i % 2 ^ 8)
+branches-without i within one not b = record { only = b.only; all = grind (arith, masks); among = grind (arith, masks) }
 
 -- an open read reads from the start or from one of them
 open-reads : (xs : List Effect) (held : ℕ) (start : State) (rank : ℕ → ℕ) (j r : ℕ) (source : Source) → source ≡ Open
@@ -59,7 +26,7 @@ pub branches-all : (xs : List Effect) (start : State) (may : ℕ) (node : Node) 
     → IsRead node.choices j r → source_at node.choices j r ≡ Open → IsNode xs start may node → left ≡ 0
     → (IsTrue b → slice_index start r ≡ need_at xs j r)
     → (slice_index start r ≡ need_at xs j r → ((k : ℕ) → k < 8 → In (slice_index node.choices.writers r) k → Has node.reach k j → k ≡ j) → IsTrue b)
-    → Branches xs may node j r writers left
+    → Branches xs node j r (bit_or (slice_index node.choices.writers r) may) writers left
     → IsBranch xs start may node (record { reader = j; register = r; start = b; writers = writers })
 branches-all xs start may node j r writers left b within_j within_r read free n none to from bs = record {
   reader = within_j;
@@ -68,8 +35,8 @@ branches-all xs start may node j r writers left b within_j within_r read free n 
   free = free;
   from_start = to;
   from = λ i within is.
-      let (where_from, may_be) = bs.only i within is in
-      (elim where_from [ inl one ↦ inl ((n.writers r i within_r within).0 one).0 | inr might ↦ inr (might, may_be.agrees) ], may_be.leaves, may_be.value);
+      let (there, may_be) = bs.only i is in
+      (elim (or_either (slice_index node.choices.writers r) may i there) [ inl one ↦ inl ((n.writers r i within_r within).0 one).0 | inr might ↦ inr (might, may_be.agrees) ], may_be.leaves, may_be.value);
   all = λ held rank l.
       let (member, needs) = n.reads j r within_j within_r read in
       elim (open-reads xs held start rank j r (source_at node.choices j r) free (l.reads j r within_j within_r (inl member) needs)) [
@@ -91,33 +58,22 @@ branches-all xs start may node j r writers left b within_j within_r read free n 
             inr (
               i,
               within,
-              elim (bs.all i within (elim (l.only i within holds) [
-                | inl own ↦ inl ((n.writers r i within_r within).1 (own, leaves))
-                | inr might ↦ inr might
-              ])) [
-                | inl still ↦ absurd (omega (arith, still, ap (λ (m : ℕ). bit_at m i) none, bit_at-zero i))
-                | inr done ↦ done may_be
-              ],
+              bs.all i (elim (l.only i within holds) [
+                | inl own ↦ or-left (slice_index node.choices.writers r) may i ((n.writers r i within_r within).1 (own, leaves))
+                | inr might ↦ or-right (slice_index node.choices.writers r) may i might
+              ]) (ap (λ (m : ℕ). bit_at m i) none ∙ bit_at-zero i) may_be,
               reads,
             )
       ];
 }
 
--- a mask that is not empty has a place
 pub one-before : (row mask j : ℕ) → j < 8 → mask < 2 ^ 8 → (bit_and (bit_and row mask) (bit_not w8 (1 * 2 ^ j % 2 ^ 8)) ≡ 0 → ⊥)
     → (k : ℕ) × (k < 8) × In mask k × In row k × (k ≡ j → ⊥)
 one-before row mask j within fits some =
     let both = bit_and row mask in
-    let rest = bit_and both (bit_not w8 (1 * 2 ^ j % 2 ^ 8)) in
-    let small : rest < 2 ^ 8 = omega (arith, fits, and_le_l both (bit_not w8 (1 * 2 ^ j % 2 ^ 8)), and_le_r row mask) in
-    let lowest = bit_at-trailing_zeros w8 rest (omega (arith, some)) small in
-    let k = trailing_zeros w8 rest in
-    let few : k < 8 = lowest.0 in
-    let one : bit_at rest k ≡ 1 = lowest.1 in
-    let apart : k ≡ j → ⊥ = λ same. absurd (omega (arith, one, ap (bit_at rest) same, bit_at_clear_same w8 both j within)) in
-    let there : bit_at both k ≡ 1 = sym (bit_at_clear_other w8 both j within k few apart) ∙ one in
-    let is = bit_at_and row mask k in
-    (k, few, omega (arith, there, is, bit_at-lt row k, bit_at-lt mask k), omega (arith, there, is, bit_at-lt row k, bit_at-lt mask k), apart)
+    let (k, few, one) = some-place (bit_and both (bit_not w8 (1 * 2 ^ j % 2 ^ 8)))
+    (omega (arith, fits, and_le_l both (bit_not w8 (1 * 2 ^ j % 2 ^ 8)), and_le_r row mask)) some in
+    (k, few, grind (arith, masks), grind (arith, masks), grind (arith, masks))
 
 pub not-of : (b : Bool) → (IsTrue b → ⊥) → IsTrue (not b)
 not-of true none = absurd (none refl)
@@ -128,3 +84,61 @@ never-true is = absurd (cc)
 
 pub some-not : (n : ℕ) → IsTrue (not (n == 0)) → n ≡ 0 → ⊥
 some-not n is none = let e : (n == 0) ≡ true = eq-eqb n 0 none in absurd (never-true (subst (λ (b : Bool). IsTrue (not b)) e is))
+
+-- every legal order has the read's value come from one of those left
+pub record Tries (xs : List Effect) (start : State) (may : ℕ) (node : Node) (j r left : ℕ) : Type 0 where
+  pub all : (held : ℕ) (rank : ℕ → ℕ) → IsLegal xs start may node held rank
+      → (i : ℕ) × (i < 8) × In left i × ReadsFrom xs held rank j r i
+  pub among : (i : ℕ) → i < 8 → In left i → MayGive xs start may node j r (From i)
+
+pub tries-none : {xs : List Effect} {start : State} {may : ℕ} {node : Node} {b : Branch} → IsBranch xs start may node b
+    → (IsTrue b.start → (held : ℕ) (rank : ℕ → ℕ) → IsLegal xs start may node held rank
+    → ReadsStart xs held start rank b.reader b.register → ⊥)
+    → Tries xs start may node b.reader b.register b.writers
+tries-none is none = record {
+  all = λ held rank l. elim (is.all held rank l) [
+    | inl (yes_start, reads) ↦ absurd (none yes_start held rank l reads)
+    | inr found ↦ found
+  ];
+  among = λ i within one.
+      let (may_hold, leaves, value) = is.from i within one in
+      (within, may_hold, leaves, value);
+}
+
+pub tries-next : {xs : List Effect} {start : State} {may : ℕ} {node child : Node} {j r left i : ℕ} → i < 8 → In left i
+    → Gives xs start may node j r (From i) child → HasNone xs start may child → Tries xs start may node j r left
+    → Tries xs start may node j r (left - 1 * 2 ^ i % 2 ^ 8)
+tries-next {xs = xs} {j = j} {r = r} {left = left} {i = i} within one g none t =
+    let less = less_of left i within one in
+    record {
+      all = λ held rank l.
+          let (k, few, is, reads) = t.all held rank l in
+          elim (same_place k i) [
+            | inl same ↦ absurd (none held rank (g.onto held rank l (subst (λ (m : ℕ). ReadsFrom xs held rank j r m) same reads)))
+            | inr apart ↦ (k, few, sym (less.other k apart) ∙ is, reads)
+          ];
+      among = λ k few is. t.among k few (less_has left i _ k less is);
+    }
+
+pub tries-all : {xs : List Effect} {start : State} {may : ℕ} {node : Node} {j r left : ℕ} → left ≡ 0 → Tries xs start may node j r left
+    → HasNone xs start may node
+tries-all none t = λ held rank l.
+    let (k, few, is, reads) = t.all held rank l in
+    absurd (omega (arith, is, ap (λ (m : ℕ). bit_at m k) none, bit_at-zero k))
+
+-- fewer reads are open, or fewer pairs not ordered
+pub fewer-given : {old new child : List ℕ} {before after : ℕ} → IsOrder old → Grows old new → child ≡ new → after < before
+    → room child + after < room old + before
+fewer-given {old = old} {new = new} o grows same fewer =
+    omega (arith, room-most old new 8 (omega arith) o.fits grows, ap (λ (xs : List ℕ). room xs) same, fewer)
+
+pub fewer-ordered : {i j : ℕ} {old new child : List ℕ} (opened : ℕ) → IsOrder old → IsOrder new → IsOrder child → i < 8 → j < 8 → Grows old new
+    → Grows new child → Has child i j → (Has new i j → ⊥) → room child + opened < room old + opened
+fewer-ordered {i = i} {j = j} {old = old} {new = new} {child = child} opened o n c within_i within_j grows more has not =
+    omega (arith, room-most old new 8 (omega arith) o.fits grows, room-pair new child i j within_j n.fits c.fits more has not)
+
+-- what one search says of another
+pub result-with : {A B : Type 0} {P Q : Node → Type 0} (result : Option Node) → (A → B) → ((n : Node) → P n → Q n) → MatchOption result A P
+    → MatchOption result B Q
+result-with None none some is = none is
+result-with (Some n) none some is = some n is

@@ -1,14 +1,12 @@
 -- The ends from each start and by each completion are those of the criterion.
-use Rattle.tmw_search.proofs.Shared.{Adds, Agree, AllOpen, AreEnds, AreEndsFrom, AreMembers, Bool, Completes, Contains, Criterion, Effect, EndsBy, EndsByMore, EndsByReading, EndsFromAll, EndsIn, Entails, Event, In, IsEndOf, IsLegal, IsNode, IsRead, IsRoot, IsTrue, LeadsBy, List, Node, Open, Reads, ReadsAll, Source, State, States, Window, [], ap, arith, bit_at, bit_at-zero, bit_at_ones, bit_or, contains_none, effects, false, get_or, get_or_default, inl, inr, length, map, members, members_of, not, refl, slice_index, subst, sym, transactions, true, view, views, ℕ, ◌%◌, ◌*◌, ◌+◌, ◌-◌, ◌<◌, ◌^◌, ◌↔◌, ◌∙◌, ◌≡◌, ◌≤◌, ◌⊎◌}
+use Rattle.tmw_search.proofs.Shared.{Adds, Agree, AllOpen, AreEnds, AreEndsFrom, AreMembers, Bool, Completes, Contains, Criterion, Effect, EndsBy, EndsByMore, EndsByReading, EndsFromAll, EndsIn, Entails, Event, In, IsEndOf, IsLegal, IsNode, IsRead, IsRoot, IsTrue, LeadsBy, List, Node, Open, Reads, ReadsAll, Source, State, States, Window, [], arith, bit_at-zero, bit_at_ones, bit_or, contains_none, effects, false, get_or, get_or_default, inl, inr, length, map, members, members_of, not, refl, slice_index, subst, sym, transactions, true, view, views, ℕ, ◌%◌, ◌*◌, ◌+◌, ◌-◌, ◌<◌, ◌^◌, ◌↔◌, ◌∙◌, ◌≡◌, ◌≤◌}
 use Rattle.tmw_search.specs.declared.completions.Reading.{Reading}
 use Rattle.tmw_search.specs.declared.end_states.EndStates.{EndStates}
 use Rattle.tmw_search.specs.declared.end_states.EndStates.TheVariants.{Few, Many}
-use Rattle.tmw_search.proofs.Adding.{adds-to, adds-empty, adds-both}
-use Rattle.tmw_search.proofs.Answering.{Begun, Shown, legal-root, shown-of}
-use Rattle.tmw_search.proofs.Bits.{same_place, bit_cases, less_of, less_has}
+use Rattle.tmw_search.proofs.Adding.{OfFirst, adds-to, adds-empty, adds-both}
+use Rattle.tmw_search.proofs.Answering.{Begun, Shown, legal-root, shown-of, start-at, start-size}
+use Rattle.tmw_search.proofs.Bits.{bit_cases, masks, same_place}
 use Rattle.tmw_search.proofs.Branching.{never-true}
-use Rattle.tmw_search.proofs.Finding.{start-at, start-size}
-use Rattle.tmw_search.proofs.Giving.{set_or}
 use Rattle.tmw_search.proofs.Lasting.{writes-in}
 use Rattle.tmw_search.proofs.Law.{are_ranked}
 use Rattle.tmw_cuts.specs.declared.txn.Txn as cuts
@@ -37,13 +35,7 @@ legal-start {xs = xs} {one = one} {other = other} {root = root} n waits all same
   only = l.only;
   agree = l.agree;
   reads = λ j r within_j within_r is needs.
-      let member : In root.members j = elim is [
-        | inl here ↦ here
-        | inr holds ↦ elim (l.only j within_j holds) [
-          | inl own ↦ n.members j within_j own
-          | inr might ↦ absurd (omega (arith, might, bit_at-zero j))
-        ]
-      ] in
+      let member : In root.members j = grind (arith, masks, l.only j within_j, n.members j within_j) in
       let read = all j r within_j within_r member needs in
       let free = (waits j r within_j within_r read).1 in
       subst (λ (s : Source). Reads xs held other rank j r s) (sym free)
@@ -88,54 +80,33 @@ same-ends xs one other root shown e n waits all needed written same x = record {
   ];
 }
 
--- an end from one of the starts below the index
-pub record EndsBelow (xs : List Effect) (starts : List State) (root : Node) (n : ℕ) (e : State) : Type 0 where
-  pub index : ℕ
-  pub below : index < n
-  pub ends : IsEndOf xs (get_or starts index []) root 255 (get_or starts index []) e
-
-below-more : {xs : List Effect} {starts : List State} {root : Node} {n : ℕ} {e : State} → EndsBelow xs starts root n e → EndsBelow xs starts root (n + 1) e
-below-more x = record { index = x.index; below = omega (arith, x.below); ends = x.ends }
-
-below-last : {xs : List Effect} {starts : List State} {root : Node} {n : ℕ} {e : State} → EndsBelow xs starts root (n + 1) e
-    → EndsBelow xs starts root n e ⊎ IsEndOf xs (get_or starts n []) root 255 (get_or starts n []) e
-below-last {n = n} x = elim (same_place x.index n) [
-  | inl same ↦ inr (rw same at x.ends)
-  | inr apart ↦ inl (record { index = x.index; below = omega (arith, x.below, apart); ends = x.ends })
-]
-
-pub below-next : {xs : List Effect} {starts : List State} {root : Node} {n : ℕ} {done : Bool} {old mid new : List State}
-    → Adds true old mid (EndsBelow xs starts root n) → Adds done mid new (IsEndOf xs (get_or starts n []) root 255 (get_or starts n []))
-    → Adds done old new (EndsBelow xs starts root (n + 1))
-below-next {n = n} a b =
-    adds-both a b (λ e x. below-more x) (λ e x. record { index = n; below = omega arith; ends = x }) (λ e x. below-last x)
+-- an end from the start at the index
+abbrev pub EndsAtIndex : List Effect → List State → Node → ℕ → State → Type 0
+EndsAtIndex xs starts root i e = IsEndOf xs (get_or starts i []) root 255 (get_or starts i []) e
 
 pub below-same : (xs : List Effect) (starts : List State) (root : Node) (n shown : ℕ) (old now : List State) → 0 < n
     → ((start : State) → IsNode xs start 0 root) → AllOpen root.choices.reads root → ReadsAll xs root
     → ((j r : ℕ) → j < 8 → r < 8 → IsRead root.choices j r → In shown r)
     → ((r : ℕ) → r < 8 → (In shown r → ⊥) → (k : ℕ) × (k < 8) × In (slice_index root.choices.writers r) k)
     → ((r : ℕ) → r < 8 → In shown r → slice_index (get_or starts (n - 1) []) r ≡ slice_index (get_or starts n []) r)
-    → Adds true old now (EndsBelow xs starts root n) → Adds true old now (EndsBelow xs starts root (n + 1))
-below-same xs starts root n shown old now some nodes waits all needed written same a = adds-to (λ e x. below-more x) (λ done e x. elim (below-last x) [
-  | inl before ↦ before
-  | inr last ↦ record {
-    index = n - 1;
-    below = omega (arith, some);
-    ends = same-ends xs (get_or starts n []) (get_or starts (n - 1) []) root shown e (nodes (get_or starts n [])) waits all needed written same last;
-  }
-]) a
+    → Adds true old now (OfFirst (EndsAtIndex xs starts root) n) → Adds true old now (OfFirst (EndsAtIndex xs starts root) (n + 1))
+below-same xs starts root n shown old now some nodes waits all needed written same a =
+    adds-to (λ e (i, less, x). (i, omega (arith, less), x)) (λ done e (i, less, x). elim (same_place i n) [
+      | inl last ↦ (
+        n - 1,
+        omega (arith, some),
+        same-ends xs (get_or starts n []) (get_or starts (n - 1) []) root shown e (nodes (get_or starts n [])) waits all needed written same (rw last at x),
+      )
+      | inr apart ↦ (i, omega (arith, less, apart), x)
+    ]) a
 
 pub below-all : {xs : List Effect} {starts : List State} {root : Node} {n : ℕ} {done : Bool} {old new : List State} → n ≤ length starts
-    → (IsTrue done → n ≡ length starts) → Adds done old new (EndsBelow xs starts root n) → Adds done old new (EndsFromAll xs starts root)
+    → (IsTrue done → n ≡ length starts) → Adds done old new (OfFirst (EndsAtIndex xs starts root) n) → Adds done old new (EndsFromAll xs starts root)
 below-all {xs = xs} {starts = starts} {root = root} most all a = adds-to
-    (λ e x. record { start = get_or starts x.index []; from = start-at starts x.index (omega (arith, x.below, most)); ends = x.ends })
+    (λ e (i, less, x). record { start = get_or starts i []; from = start-at starts i (omega (arith, less, most)); ends = x })
     (λ done e x.
     let (j, within, is) = x.from in
-    record {
-      index = j;
-      below = omega (arith, within, all done);
-      ends = subst (λ (s : State). IsEndOf xs s root 255 s e) (sym is ∙ get_or_default starts j x.start [] within) x.ends;
-    }) a
+    (j, omega (arith, within, all done), subst (λ (s : State). IsEndOf xs s root 255 s e) (sym is ∙ get_or_default starts j x.start [] within) x.ends)) a
 
 -- the node's ends are those of the law
 ends-law : (criterion : Criterion) (xs : List Effect) (n : ℕ) (start : State) (reach : List ℕ) (held : ℕ) (node : Node) (e : State)
@@ -180,13 +151,7 @@ by-others : {criterion : Criterion} {xs : List Effect} {n : ℕ} {starts : List 
 by-others y c = record { more = y.more; completes = c; start = y.start; from = y.from; ends = y.ends }
 
 fewer : (left i held more : ℕ) → i < 8 → In left i → Completes held (left - 1 * 2 ^ i % 2 ^ 8) more → Completes held left more
-fewer left i held more within one c = record {
-  all = c.all;
-  only = λ k few has. elim (c.only k few has) [
-    | inl own ↦ inl own
-    | inr still ↦ inr (less_has left i _ k (less_of left i within one) still)
-  ];
-}
+fewer left i held more within one c = record { all = c.all; only = grind (arith, masks) }
 
 -- one of those left is held, or not
 pub more-next : {criterion : Criterion} {xs : List Effect} {n : ℕ} {starts : List State} {reach : List ℕ} {held left i : ℕ} {done : Bool}
@@ -195,39 +160,13 @@ pub more-next : {criterion : Criterion} {xs : List Effect} {n : ℕ} {starts : L
     → Adds done mid new (EndsByMore criterion xs n starts reach (bit_or held (1 * 2 ^ i % 2 ^ 8)) (left - 1 * 2 ^ i % 2 ^ 8))
     → Adds done old new (EndsByMore criterion xs n starts reach held left)
 more-next {held = held} {left = left} {i = i} within one a b =
-    let less = less_of left i within one in
-    let rest = left - 1 * 2 ^ i % 2 ^ 8 in
-    let set = λ (k : ℕ). set_or held i k within in
     adds-both a b (λ e y. by-others y (fewer left i held y.more within one y.completes))
-    (λ e y.
-    let c = y.completes in
-    by-others y (record {
-      all = λ k few has. c.all k few ((set k).1 (inl has));
-      only = λ k few has. elim (c.only k few has) [
-        | inl own ↦ elim ((set k).0 own) [ inl was ↦ inl was | inr same ↦ inr (ap (bit_at left) same ∙ one) ]
-        | inr still ↦ inr (less_has left i rest k less still)
-      ];
-    }))
+    (λ e y. let c = y.completes in by-others y (record { all = grind (arith, masks); only = grind (arith, masks) }))
     (λ e y.
     let c = y.completes in
     elim (bit_cases y.more i) [
-      | inl out ↦ inl (by-others y (record {
-        all = c.all;
-        only = λ k few has. elim (c.only k few has) [
-          | inl own ↦ inl own
-          | inr still ↦ inr (sym (less.other k (λ same. absurd (omega (arith, out, ap (bit_at y.more) same, has)))) ∙ still)
-        ];
-      }))
-      | inr in_more ↦ inr (by-others y (record {
-        all = λ k few has. elim ((set k).0 has) [ inl was ↦ c.all k few was | inr same ↦ ap (bit_at y.more) same ∙ in_more ];
-        only = λ k few has. elim (c.only k few has) [
-          | inl own ↦ inl ((set k).1 (inl own))
-          | inr still ↦ elim (same_place k i) [
-            | inl same ↦ inl ((set k).1 (inr same))
-            | inr apart ↦ inr (sym (less.other k apart) ∙ still)
-          ]
-        ];
-      }))
+      | inl out ↦ inl (by-others y (record { all = c.all; only = grind (arith, masks) }))
+      | inr in_more ↦ inr (by-others y (record { all = grind (arith, masks); only = grind (arith, masks) }))
     ])
 
 pub more-part : {criterion : Criterion} {xs : List Effect} {n : ℕ} {starts : List State} {reach : List ℕ} {held left i : ℕ}
@@ -260,14 +199,6 @@ ends-of criterion items events starts committed pending reach e s sizes =
             ends = subst (λ (n : ℕ). EndsIn xs start reach (members_of criterion n more) more e) s.same y;
           },
     )
-
--- with one more held, those held are of the list
-pub held-within : (held left i n : ℕ) → i < 8 → In left i → ((k : ℕ) → In held k → k < n) → ((k : ℕ) → In left k → k < n) → (k : ℕ)
-    → In (bit_or held (1 * 2 ^ i % 2 ^ 8)) k → k < n
-held-within held left i n within one of_held of_left k has = elim ((set_or held i k within).0 has) [
-  | inl was ↦ of_held k was
-  | inr same ↦ subst (λ (m : ℕ). m < n) (sym same) (of_left i one)
-]
 
 -- the ends are few, or too many
 pub ends-few : {criterion : Criterion} {items : List cuts.Txn} {starts : List State} {cap committed pending : ℕ} {reach : List ℕ} (ends : States)

@@ -1,12 +1,38 @@
 -- Which of a register's writers is its last, one other after another.
-use Rattle.tmw_search.proofs.Shared.{Adds, AddsMember, Bool, Choices, Chosen, ComeBefore, ComesLast, Effect, EndWith, EndsAt, Has, HasNone, In, IsEndOf, IsFound, IsLast, IsLegal, IsNode, IsOrder, IsPutLast, IsRead, IsTrue, Joins, LeftByOne, List, Narrows, Node, State, Writes, ap, arith, bit_and, bit_at, bit_at-lt, bit_at-trailing_zeros, bit_at-zero, bit_at_and, bit_at_not, bit_not, bit_or, ext_get_or, get_or-map, get_or-set_other, get_or-set_same, inl, inr, left_at, length, length-map, length-set, map, or_of_8, ordered, refl, slice_index, slice_set, subst, sym, trailing_zeros, true, w8, ℕ, ◌<◌, ◌^◌, ◌↔◌, ◌∙◌, ◌≡◌}
+use Rattle.tmw_search.proofs.Shared.{ComeBefore, List, ap, arith, bit_and, bit_at, bit_at-zero, bit_at_clear_other, bit_at_clear_same, bit_not, bit_or, inl, inr, slice_index, sym, w8, ℕ, ◌%◌, ◌*◌, ◌-◌, ◌<◌, ◌^◌, ◌∙◌, ◌≡◌, Adds, AddsMember, Bool, ComesLast, Effect, EndWith, EndsAt, Has, HasNone, In, IsEndOf, IsFound, IsLast, IsLegal, IsNode, IsOrder, IsPutLast, IsRead, IsTrue, Joins, LeftByOne, Narrows, Node, State, Writes, bit_at-lt, bit_at_and, bit_at_not, ext_get_or, get_or-map, get_or-set_other, get_or-set_same, left_at, length, length-map, length-set, map, or_of_8, ordered, refl, slice_set, subst, true, ◌↔◌}
+use Rattle.tmw_search.proofs.Bits.{masks, or_either, same_place, bit_cases, IsLess, or-left, or-right}
 use Rattle.tmw_search.proofs.Adding.{ByOne, adds-to, adds-empty, adds-one}
-use Rattle.tmw_search.proofs.Bits.{same_place, bit_cases, IsLess, or-left, or-right, or_either}
 use Rattle.tmw_search.proofs.Nodes.{found-clear, legal-chosen, legal-less, legal-with, node-ordered}
-use Rattle.tmw_search.proofs.Ordering.{narrows-if, narrows-then, joined, joins-each, joined-order, joined-narrows}
+use Rattle.tmw_search.proofs.Ranked.{one-end}
+use Rattle.tmw_search.proofs.Passing.{narrows-then, same-narrows, joined, joins-each, joined-order, joined-narrows}
+
+-- those that come before one that isn't left
+pub record FindsBefore (reach : List ℕ) (these left before : ℕ) : Type 0 where
+  pub only : (i : ℕ) → i < 8 → bit_at before i ≡ 1
+      → (j : ℕ) × (j < 8) × (bit_at these j ≡ 1) × (bit_at (slice_index reach j) i ≡ 1) × (i ≡ j → ⊥)
+  pub all : (i j : ℕ) → i < 8 → j < 8 → bit_at these j ≡ 1 → bit_at left j ≡ 0 → bit_at (slice_index reach j) i ≡ 1 → (i ≡ j → ⊥)
+      → bit_at before i ≡ 1
+  pub among : (j : ℕ) → bit_at left j ≡ 1 → bit_at these j ≡ 1
+
+pub finds-more : (reach : List ℕ) (these left before place : ℕ) → place < 8 → bit_at left place ≡ 1 → FindsBefore reach these left before
+    → FindsBefore reach these (left - 1 * 2 ^ place % 2 ^ 8)
+    (bit_or before (bit_and (slice_index reach place) (bit_not w8 (1 * 2 ^ place % 2 ^ 8))))
+finds-more reach these left before place within one f =
+    let own = bit_and (slice_index reach place) (bit_not w8 (1 * 2 ^ place % 2 ^ 8)) in
+    record {
+      only = λ i within_i is. elim (or_either before own i is) [
+        | inl was ↦ f.only i within_i was
+        | inr here ↦
+            let apart : i ≡ place → ⊥ = λ same.
+            absurd (omega (arith, here, ap (bit_at own) same, bit_at_clear_same w8 (slice_index reach place) place within)) in
+            (place, within, f.among place one, sym (bit_at_clear_other w8 (slice_index reach place) place within i within_i apart) ∙ here, apart)
+      ];
+      all = grind (arith, masks);
+      among = grind (arith, masks);
+    }
 
 -- The one that comes before no other writer is put behind all of them, and all that come before them.
-module _ (i writers before : ℕ) (old new : List ℕ) (within_i : i < 8) (o : IsOrder old) (comes : ComeBefore old writers before)
+module _ {i writers before : ℕ} {old new : List ℕ} (within_i : i < 8) (o : IsOrder old) (comes : ComeBefore old writers before)
     (writes : In writers i) (free : In before i → ⊥) (joins : Joins i (bit_or writers before) old new) where
   -- each of those added is a writer or comes before one
   of-writer : (a : ℕ) → a < 8 → In (bit_or writers before) a → (w : ℕ) × (w < 8) × In writers w × Has old a w
@@ -45,29 +71,10 @@ module _ (i writers before : ℕ) (old new : List ℕ) (within_i : i < 8) (o : I
   pub last-has : (k : ℕ) → k < 8 → In writers k → Has new k i
   last-has k within one = joins.adds k i within_i (o.self i within_i) (or-left writers before k one)
 
--- and then the reads are settled
-pub put-narrows : (choices : Choices) (writers i : ℕ) (old mid new : List ℕ) (alive : Bool) → Narrows (ComesLast writers i) old mid true
-    → Narrows (Chosen choices) mid new alive → Narrows (IsPutLast choices writers i) old new alive
-put-narrows choices writers i old mid new alive m n =
-    narrows-then (ComesLast writers i) (Chosen choices) (IsPutLast choices writers i) old mid new true alive (λ rank is. is.0) (λ rank is. is.1) m n
-
-pub put_plain : (choices : Choices) (writers i : ℕ) (old new : List ℕ) → Narrows (ComesLast writers i) old new true
-    → Narrows (IsPutLast choices writers i) old new true
-put_plain choices writers i old new n = narrows-if (ComesLast writers i) (IsPutLast choices writers i) old new true (λ rank r is. is.0) n
-
--- a mask that is not empty has a place
-pub some-place : (mask : ℕ) → mask < 2 ^ 8 → (mask ≡ 0 → ⊥) → (k : ℕ) × (k < 8) × In mask k
-some-place mask fits some =
-    let lowest = bit_at-trailing_zeros w8 mask (omega (arith, some)) fits in
-    (trailing_zeros w8 mask, lowest.0, lowest.1)
-
 -- who writes a register in a legal order is what the node says
 pub writer-of : (xs : List Effect) (start : State) (node : Node) (r k held : ℕ) (rank : ℕ → ℕ) → r < 8 → IsNode xs start 0 node
     → IsLegal xs start 0 node held rank → Writes xs held r k → In (slice_index node.choices.writers r) k
-writer-of xs start node r k held rank within n l w = elim (l.only k w.0 w.1) [
-  | inl own ↦ (n.writers r k within w.0).1 (own, w.2)
-  | inr might ↦ absurd (omega (arith, might, bit_at-zero k))
-]
+writer-of xs start node r k held rank within n l w = grind (arith, masks, l.only k w.0 w.1, n.writers r k within w.0, w.2)
 
 pub writes-in : (xs : List Effect) (start : State) (node : Node) (r k held : ℕ) (rank : ℕ → ℕ) → r < 8 → k < 8 → IsNode xs start 0 node
     → IsLegal xs start 0 node held rank → In (slice_index node.choices.writers r) k → Writes xs held r k
@@ -130,16 +137,6 @@ joined_all reach place before o small =
     joins-each place before reach (map (joined place before) reach) (length-map reach (joined place before) ∙ o.size) o.fits small
     (λ k within. get_or-map (joined place before) reach k 0 0 (omega (arith, within, o.size)))
 
--- no register ends with two values
-one-end : (xs : List Effect) (held : ℕ) (rank : ℕ → ℕ) (r was v w : ℕ) → ((i j : ℕ) → i < 8 → j < 8 → rank i ≡ rank j → i ≡ j)
-    → EndsAt xs held rank r was v → EndsAt xs held rank r was w → v ≡ w
-one-end xs held rank r was v w apart (inl (none, is)) (inl (also, same)) = is ∙ sym same
-one-end xs held rank r was v w apart (inl (none, is)) (inr (q, m)) = absurd (none q m.writes)
-one-end xs held rank r was v w apart (inr (p, l)) (inl (none, is)) = absurd (none p l.writes)
-one-end xs held rank r was v w apart (inr (p, l)) (inr (q, m)) =
-    let same : p ≡ q = apart p q l.writes.0 m.writes.0 (omega (arith, l.last q m.writes, m.last p l.writes)) in
-    l.is ∙ ap (λ (k : ℕ). left_at xs k r) same ∙ sym m.is
-
 abbrev held_of : Node → ℕ
 held_of node = node.held
 
@@ -156,10 +153,7 @@ module _ {xs : List Effect} {start : State} {r registers rest : ℕ} (base : Sta
     rank = x.rank;
     legal = legal;
     size = x.size;
-    settled = λ q few out. elim (same_place q r) [
-      | inl same ↦ subst (λ (p : ℕ). slice_index e p ≡ slice_index (slice_set base r value) p) (sym same) (is ∙ sym (put-here base r value within size))
-      | inr apart ↦ x.settled q few (λ has. out (sym (less.other q apart) ∙ has)) ∙ sym (get_or-set_other base r q value 0 apart)
-    ];
+    settled = grind (arith, masks);
     rest = λ q few has.
         let apart : q ≡ r → ⊥ = λ same. absurd (omega (arith, has, ap (bit_at rest) same, less.new)) in
         subst (λ (v : ℕ). EndsAt xs x.held x.rank q v (slice_index e q)) (sym (get_or-set_other base r q value 0 apart))
@@ -176,9 +170,7 @@ module _ {xs : List Effect} {start : State} {r registers rest : ℕ} (base : Sta
     rank = x.rank;
     legal = legal;
     size = x.size;
-    settled = λ q few out.
-        let apart : q ≡ r → ⊥ = λ same. out (subst (λ (p : ℕ). In registers p) (sym same) is_in) in
-        x.settled q few (λ has. out (less.other q apart ∙ has)) ∙ get_or-set_other base r q value 0 apart;
+    settled = grind (arith, masks);
     rest = λ q few has. elim (same_place q r) [
       | inl same ↦
           subst (λ (p : ℕ). EndsAt xs x.held x.rank p (slice_index base p) (slice_index e p)) (sym same)
@@ -193,7 +185,7 @@ module _ {xs : List Effect} {start : State} {r registers rest : ℕ} (base : Sta
   pub known-ends : (node : Node) (value : ℕ) (e : State) → IsNode xs start 0 node → EndWith xs node r (slice_index base r) value
       → IsEndOf xs start node registers base e ↔ IsEndOf xs start node rest (slice_set base r value) e
   known-ends node value e n known = (
-    λ x. put-value node node value e x (one-end xs x.held x.rank r (slice_index base r) (slice_index e r) value x.legal.ranking.apart
+    λ x. put-value node node value e x (one-end (λ i j w v. x.legal.ranking.apart i j w.0 v.0)
         (x.rest r within is_in) (known start n x.held x.rank x.legal)) x.legal,
     λ x. take-value node node value e x x.legal (known start n x.held x.rank x.legal),
   )
@@ -275,10 +267,10 @@ module _ {xs : List Effect} {start : State} {r registers rest : ℕ} (base : Sta
         let free = free-before writers before i fits few one in
         let reach = map (joined i (bit_or writers before)) node.reach in
         let j = joined_all node.reach i (bit_or writers before) n.order (or_of_8 writers before small fits) in
-        let m = last-narrows i writers before node.reach reach few n.order comes writes free j in
+        let m = last-narrows few n.order comes writes free j in
         let f = plain-found xs start (ordered node reach) plain (node-ordered m.grows m.order n) in
-        let w = of-child node i reach true n (put_plain node.choices writers i node.reach reach m) few writes
-        (last-has i writers before node.reach reach few n.order comes writes free j) e (record {
+        let w = of-child node i reach true n (narrows-then (λ rank is. is) (λ rank is. is.0) (same-narrows n.order) m) few writes
+        (last-has few n.order comes writes free j) e (record {
           held = held_of node;
           rank = f.rank;
           legal = f.legal f.rank f.ranking;

@@ -1,12 +1,10 @@
 -- The law: what legal serial orders end in is what rankings end in.
 use Rattle.tmw_search.proofs.Shared.{ActAs, AreRanked, Bool, Criterion, Effect, EndsAt, ExplainsBy, In, IsCompletion, IsSerial, IsTrue, List, Opacity, Placed, PlacesEach, RanksTo, ShowsOrder, State, Strict, Txn, and_le_r, ap, arith, bit_and, bit_at, bit_at_above, bit_at_ones, cases_Bool, cases_lt, chosen, end_state, eq-eqb, eqb-true, inl, inr, is_legal, keeps_order, length, list_all, may_be, members_of, pow_pos, precedes, refl, same_from_bits, slice_get_within, slice_index, subst, sym, ℕ, ◌-◌, ◌<◌, ◌^◌, ◌∙◌, ◌≡◌, ◌≤◌}
-use Rattle.tmw_search.proofs.Bits.{below_bits, bit_cases, same_place}
-use Rattle.tmw_search.proofs.Chosen.{chosen-full, chosen_bits}
-use Rattle.tmw_search.proofs.ForcedProof.{length-end}
-use Rattle.tmw_search.proofs.HeldMasks.{are_held, held_by}
+use Rattle.tmw_search.proofs.Bits.{masks, below_bits, bit_within, bit_cases, same_place}
+use Rattle.tmw_search.proofs.Chosen.{chosen-full, chosen_bits, are_held, held_by}
+use Rattle.tmw_search.proofs.ForcedEnds.{length-end}
 use Rattle.tmw_search.proofs.LayerSteps.{slice_get_some}
-use Rattle.tmw_search.proofs.Places.{IsSorted, Ranks, ranks_of, sorts}
-use Rattle.tmw_search.proofs.Ranked.{Apart, keeps, same_ends, serves_start, sorted_all}
+use Rattle.tmw_search.proofs.Ranked.{IsSorted, Ranks, ranks_of, sorts, Apart, keeps, same_ends, serves_start, sorted_all}
 
 -- what a serial order of the criterion holds, and its ranks
 record Explained (criterion : Criterion) (ts : List Txn) (order : List Placed) : Type 0 where
@@ -15,9 +13,6 @@ record Explained (criterion : Criterion) (ts : List Txn) (order : List Placed) :
   fits : members_of criterion (length ts) held < 2 ^ length ts
   ranks : Ranks ts (members_of criterion (length ts) held) 0 order
   told : ranks.held ≡ held
-
-below : (mask n j : ℕ) → mask < 2 ^ n → In mask j → j < n
-below mask n j fits is = elim (cases_lt j n) [ inl low ↦ low | inr past ↦ absurd (omega (arith, is, bit_at_above mask n j fits past)) ]
 
 explained : (criterion : Criterion) (ts : List Txn) (s : State) (order : List Placed) → ExplainsBy criterion s ts order → Explained criterion ts order
 explained Opacity ts s order e =
@@ -30,10 +25,7 @@ explained Opacity ts s order e =
       completion = record {
         may = λ i t at. (sorted_all ts (In (2 ^ n - 1)) q.held q.rank apart may_be 0 order q.sorted).0 e.completed i t
             (bit_at_ones n i (slice_get_within ts i t at)) (omega arith) at;
-        none = λ i few past. elim (bit_cases q.held i) [
-          | inl none ↦ none
-          | inr one ↦ absurd (omega (arith, past, below (2 ^ n - 1) n i fits (q.sub i one)))
-        ];
+        none = λ i few past. grind (arith, masks, q.sub i, bit_within (2 ^ n - 1) n i fits);
       };
       fits = fits;
       ranks = q;
@@ -50,7 +42,7 @@ explained Strict ts s order e =
         | inr is ↦ absurd (omega (arith, none, q.sub i is))
       ]
       | inr one ↦
-          let (t, at) = slice_get_some ts i (below h.held (length ts) i fits one) in
+          let (t, at) = slice_get_some ts i (bit_within h.held (length ts) i fits one) in
           eqb-true (bit_at q.held i) 1
           ((sorted_all ts (In h.held) q.held q.rank apart (λ p. p.held) 0 order q.sorted).0 e.held i t one (omega arith) at) ∙ sym one
     ]) in
@@ -96,7 +88,7 @@ explains-by Strict start ts held small order within same c places kept completed
 
 within_list : (criterion : Criterion) (ts : List Txn) (held j : ℕ) → IsCompletion ts held → j < 8 → In (members_of criterion (length ts) held) j
     → j < length ts
-within_list Opacity ts held j c few is = below (2 ^ length ts - 1) (length ts) j (omega (arith, pow_pos (length ts))) is
+within_list Opacity ts held j c few is = bit_within (2 ^ length ts - 1) (length ts) j (omega (arith, pow_pos (length ts))) is
 within_list Strict ts held j c few is = elim (cases_lt j (length ts)) [ inl low ↦ low | inr past ↦ absurd (omega (arith, is, c.none j few past)) ]
 
 held_in : (criterion : Criterion) (ts : List Txn) (held j : ℕ) → IsCompletion ts held → j < 8 → In held j
@@ -117,7 +109,7 @@ module _ (criterion : Criterion) (ts : List Txn) (xs : List Effect) (mat : List 
       let sub : (j : ℕ) → In e.held j → In members j = rw e.told at q.sub in
       let order_is = shows e.held e.completion in
       let (kept, legal) = kept_by criterion start ts order x in
-      let v = serves_start ts xs (In members) e.held start q.rank apart (λ j is. omega (arith, few, below members (length ts) j e.fits is)) (λ j within. sub j) acts order size sorted in
+      let v = serves_start ts xs (In members) e.held start q.rank apart (λ j is. omega (arith, few, bit_within members (length ts) j e.fits is)) (λ j within. sub j) acts order size sorted in
       let served = λ (j : ℕ) (is : In members j). v.legal.0 legal j is (omega arith) in (
         e.held,
         e.completion,
@@ -168,10 +160,7 @@ module _ (criterion : Criterion) (ts : List Txn) (xs : List Effect) (mat : List 
       record {
         order = s.order;
         explains = explains-by criterion start ts held small s.order (λ j is. ((bits j).0 is).1)
-            (λ j within. elim (bit_cases members j) [
-              | inr one ↦ (bits j).1 (one, within) ∙ sym one
-              | inl none ↦ elim (bit_cases small j) [ inl out ↦ out ∙ sym none | inr is ↦ absurd (omega (arith, none, ((bits j).0 is).0)) ]
-            ])
+            (λ j within. grind (arith, masks, bits j))
             c s.places
             ((keeps ts member held rank apart 0 s.order s.sorted).1 (λ i j t u is_i is_j high less at_i at_j. elim (cases_Bool (precedes u t)) [
               | inr free ↦ free

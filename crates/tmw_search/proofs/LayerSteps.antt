@@ -1,10 +1,72 @@
 -- A pair is on the way to another where an order of just the transactions that it lacks leads there: each way begins with a step,
 -- and each step begins a way.
-use Rattle.tmw_search.proofs.Shared.{Bool, Follows, Leads, LeavesNone, List, NoneBeforeItself, Placed, ShowsTransaction, ShowsTransactions, Some, State, Txn, View, [], after, ap, arith, bit, bit_at, bit_at-lt, bit_at-zero, bit_at_above, bit_at_set_other, bit_at_set_same, bit_or, cases_Bool, cases_lt, chosen, false, inl, inr, length, mask-set, precedes, refl, same_from_bits, slice_get, slice_get_within, suc, sym, true, w8, zero, ℕ, ◌%◌, ◌*◌, ◌+◌, ◌<◌, ◌^◌, ◌∙◌, ◌∷◌, ◌≡◌, ◌≤◌}
-use Rattle.tmw_search.proofs.Bits.{IsLess, bit_cases, same_place}
-use Rattle.tmw_search.proofs.Chosen.{chosen-at, chosen-zero, chosen_none, length-chosen}
-use Rattle.tmw_search.proofs.LayersProof.{leads-first, BeginsWith, leads_first}
-use Rattle.tmw_search.proofs.Masks.{more_fits}
+use Rattle.tmw_search.proofs.Shared.{IsTrue, Leads, List, Placed, Some, State, Txn, [], after, and_from, and_parts, ap, arith, bit_at, chosen, false, length, list_all, list_all-places, may_be, not, not-true, not_from_false, operations, precedes, reads_hold, slice_get, slice_get_within, sym, ℕ, ◌%◌, ◌*◌, ◌+◌, ◌-◌, ◌<◌, ◌^◌, ◌∙◌, ◌∷◌, ◌≡◌, ◌≤◌, Follows, LeavesNone, NoneBeforeItself, ShowsTransaction, ShowsTransactions, View, bit_at-lt, bit_at-zero, bit_at_set_other, bit_at_set_same, bit_or, inl, inr, mask-set, refl, same_from_bits, suc, true, w8, zero}
+use Rattle.tmw_search.proofs.Bits.{IsLess, less_of, bit_true, bit_within, masks, bit_cases, same_place, more_fits}
+use Rattle.tmw_search.proofs.Chosen.{chosen_at, chosen-at, length-chosen, list_all-chosen, list_all_chosen, chosen-zero, chosen_none}
+
+-- The transaction at a place, which none of the rest precedes, comes first, and those chosen are it and the rest.
+pub record ComesFirst (ts : List Txn) (left rest place : ℕ) (p : Placed) (s : State) : Type 0 where
+  pub at : slice_get ts place ≡ Some p.txn
+  pub has : bit_at left place ≡ 1
+  pub less : IsLess left place rest
+  pub free : (i : ℕ) (u : Txn) → slice_get ts i ≡ Some u → bit_at rest i ≡ 1 → precedes u p.txn ≡ false
+  pub may : IsTrue (may_be p)
+  pub reads : IsTrue (reads_hold s (operations p.txn.text))
+
+pub leads-first : (ts : List Txn) (left rest place : ℕ) (p : Placed) (s r : State) → ComesFirst ts left rest place p s
+    → Leads (after s p) (chosen rest ts) r → Leads s (chosen left ts) r
+leads-first ts left rest place p s r f (order, e, is) =
+    let (i, c) = chosen-at ts left place p.txn f.at f.has in
+    let none = list_all-chosen (λ u. not (precedes u p.txn)) ts rest
+    (λ j u at one. not_from_false (precedes u p.txn) (f.free j u at one)) in
+    let behind = list_all-places (λ u. not (precedes u p.txn)) (chosen rest ts) order e.each ∙ none in (
+      p ∷ order,
+      record {
+        each = (i, c.among, rw (c.others rest f.less) e.each);
+        kept = and_from _ _ behind e.kept;
+        completed = and_from _ _ f.may e.completed;
+        legal = and_from _ _ f.reads e.legal;
+      },
+      is,
+    )
+
+-- the first of an order, and what it leaves
+pub record BeginsWith (ts : List Txn) (left : ℕ) (s r : State) : Type 0 where
+  pub place : ℕ
+  pub placed : Placed
+  pub rest : ℕ
+  pub first : ComesFirst ts left rest place placed s
+  pub fewer : length (chosen rest ts) + 1 ≡ length (chosen left ts)
+  pub leads : Leads (after s placed) (chosen rest ts) r
+
+pub leads_first : (ts : List Txn) (left : ℕ) (s r : State) → length ts ≤ 8 → 0 < length (chosen left ts) → Leads s (chosen left ts) r
+    → BeginsWith ts left s r
+leads_first ts left s r few some ([], e, is) = absurd (omega (arith, some, ap length e.each))
+leads_first ts left s r few some (p ∷ order, e, is) =
+    let (i, among, others) = e.each in
+    let (place, c) = chosen_at ts left i p.txn among in
+    let less = less_of left place (omega (arith, few, slice_get_within ts place p.txn c.at)) c.has in
+    let rest = left - 1 * 2 ^ place % 2 ^ 8 in
+    let each = rw (c.others rest less) at others in
+    let (behind, kept) = and_parts (list_all (λ q. not (precedes q.txn p.txn)) order) _ e.kept in
+    let (may, completed) = and_parts (may_be p) _ e.completed in
+    let (reads, legal) = and_parts (reads_hold s (operations p.txn.text)) _ e.legal in
+    let none = sym (list_all-places (λ u. not (precedes u p.txn)) (chosen rest ts) order each) ∙ behind in
+    record {
+      place = place;
+      placed = p;
+      rest = rest;
+      first = record {
+        at = c.at;
+        has = c.has;
+        less = less;
+        free = λ j u at one. not-true (precedes u p.txn) (list_all_chosen (λ v. not (precedes v p.txn)) ts rest j u none at one);
+        may = may;
+        reads = reads;
+      };
+      fewer = length-chosen ts left i place p.txn rest c less;
+      leads = (order, record { each = each; kept = kept; completed = completed; legal = legal }, is);
+    }
 
 pub slice_get_some : {A : Type 0} (xs : List A) (i : ℕ) → i < length xs → (x : A) × (slice_get xs i ≡ Some x)
 slice_get_some [] i within = absurd (omega arith)
@@ -23,19 +85,11 @@ pub record IsOnWay (ts : List Txn) (n : ℕ) (q p : ℕ × State) : Type 0 where
   pub size : length (chosen left ts) ≡ n
   pub leads : Leads q.1 (chosen left ts) p.1
 
-shown_bit : (ts : List Txn) (x : View) (t : Txn) (i : ℕ) → ShowsTransaction ts x t → bit_at x.before i ≡ 1
+pub shown_bit : (ts : List Txn) (x : View) (t : Txn) (i : ℕ) → ShowsTransaction ts x t → bit_at x.before i ≡ 1
     → (u : Txn) × (slice_get ts i ≡ Some u) × (precedes u t ≡ true)
 shown_bit ts x t i one has =
-    elim (cases_lt i (length ts)) [
-      | inr past ↦ absurd (omega (arith, has, bit_at_above x.before (length ts) i one.fits past))
-      | inl within ↦
-          let (u, at) = slice_get_some ts i within in
-          (u, at, is_true (precedes u t) (sym (one.bits i u at) ∙ has))
-    ]
-  where
-    is_true : (b : Bool) → bit b ≡ 1 → b ≡ true
-    is_true true is = refl
-    is_true false is = absurd (omega (arith, is))
+    let (u, at) = slice_get_some ts i (bit_within x.before (length ts) i one.fits has) in
+    (u, at, bit_true (precedes u t) (sym (one.bits i u at) ∙ has))
 
 -- each way begins with a step
 pub way_step : (xs : List View) (ts : List Txn) (n : ℕ) (q p : ℕ × State) → ShowsTransactions xs ts → NoneBeforeItself ts → length ts ≤ 8
@@ -69,10 +123,7 @@ way_step xs ts n q p shows none_self few closed w =
       ),
       record {
         left = b.rest;
-        parts = λ i. elim (same_place i place) [
-          | inl same ↦ rw same (omega (arith, w.parts place, f.has, new, bit_at_set_same w8 q.0 place low, f.less.new))
-          | inr apart ↦ omega (arith, w.parts i, bit_at_set_other w8 q.0 place low i apart, f.less.other i apart)
-        ];
+        parts = grind (arith, masks);
         size = omega (arith, b.fewer, w.size);
         leads = b.leads;
       },
@@ -120,24 +171,13 @@ step-way xs ts n q r p shows few (place, made) w =
     let to : r.1 ≡ after q.1 o = rw one.ops at m.state in
     record {
       left = left;
-      parts = λ i. elim (same_place i place) [
-        | inl same ↦ rw same (omega (arith, w.parts place, set, out, m.comes.new, has))
-        | inr apart ↦ omega (arith, w.parts i, same_other i apart, less.other i apart)
-      ];
+      parts = grind (arith, masks);
       size = omega (arith, length-chosen ts left i place t w.left c less, w.size);
       leads = leads-first ts left w.left place o q.1 p.1 (record {
         at = at;
         has = has;
         less = less;
-        free = λ j u there bit_j. elim (cases_Bool (precedes u t)) [
-          | inr other ↦ other
-          | inl before ↦
-              let placed : bit_at q.0 j ≡ 1 = m.comes.later j (one.bits j u there ∙ ap bit before) in
-              absurd (elim (same_place j place) [
-                | inl same ↦ (let k = rw same at bit_j in omega (arith, k, out))
-                | inr apart ↦ omega (arith, w.parts j, same_other j apart, placed, bit_j, bit_at-lt p.0 j)
-              ])
-        ];
+        free = λ j u there bit_j. grind (arith, masks, m.comes.later j, one.bits j u there, w.parts j, same_other j, out);
         may = rw one.status at m.may;
         reads = rw one.ops at m.reads;
       }) (rw to at w.leads);
@@ -156,14 +196,12 @@ pub way_end : (ts : List Txn) (q p : ℕ × State) → p.0 < 2 ^ length ts → I
 way_end ts q p fits w = (same_from_bits q.0 p.0 (λ i. omega (arith, w.parts i, none i)), ends w.size w.leads)
   where
     none : (i : ℕ) → bit_at w.left i ≡ 0
-    none i =
-        elim (bit_cases w.left i) [
-          | inl out ↦ out
-          | inr one ↦ elim (cases_lt i (length ts)) [
-            | inl within ↦ (let t = slice_get_some ts i within in absurd (chosen_none ts w.left i t.0 w.size t.1 one))
-            | inr past ↦ absurd (omega (arith, w.parts i, one, bit_at_above p.0 (length ts) i fits past))
-          ]
-        ]
+    none i = elim (bit_cases w.left i) [
+      | inl out ↦ out
+      | inr one ↦
+          let (t, at) = slice_get_some ts i (bit_within p.0 (length ts) i fits (omega (arith, w.parts i, one, bit_at-lt p.0 i))) in
+          absurd (chosen_none ts w.left i t w.size at one)
+    ]
 
     ends : length (chosen w.left ts) ≡ 0 → Leads q.1 (chosen w.left ts) p.1 → q.1 ≡ p.1
     ends size ([], e, is) = is
@@ -184,14 +222,6 @@ step-front xs ts q r shows few (place, made) front =
       fits = rw (m.mask, mask-set q.0 place low m.comes.new)
           (more_fits (length ts) q.0 place front.fits (omega (arith, within, shows.same_length)) m.comes.new);
       closed = λ i j u v at_i at_j out one.
-          let apart : i ≡ place → ⊥ = λ same. absurd (let k = rw same at out in omega (arith, k, set)) in
-          elim (same_place j place) [
-            | inr other ↦ front.closed i j u v at_i at_j (sym (same_other i apart) ∙ out) (sym (same_other j other) ∙ one)
-            | inl same ↦ elim (cases_Bool (precedes u v)) [
-              | inr not_before ↦ not_before
-              | inl before ↦
-                  let shows_v = shows.each place x v shown (rw same at at_j) in
-                  absurd (omega (arith, out, same_other i apart, m.comes.later i (shows_v.bits i u at_i ∙ ap bit before)))
-            ]
-          ];
+          let each = λ (at : slice_get ts place ≡ Some v). (shows.each place x v shown at).bits i u at_i in
+          grind (arith, masks, m.mask, front.closed i j u v at_i at_j, m.comes.later i, each, set, same_other i, same_other j, at_j);
     }

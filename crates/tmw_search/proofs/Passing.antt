@@ -1,8 +1,77 @@
--- What follows from each of several facts, one after another.
-use Rattle.tmw_search.proofs.Shared.{AllSettled, Bool, Choices, Chosen, ChosenBy, Clear, Found, From, Has, IfClear, IfStuck, IsBetween, IsOrder, IsRead, List, Narrows, Never, Open, SettledBy, SettledSource, Source, Sourced, Start, Stuck, Within, WithinSource, ap, arith, bit_at, bit_at-zero, false, inl, inr, lives, refl, slice_index, source_at, subst, sym, true, ℕ, ◌%◌, ◌*◌, ◌+◌, ◌-◌, ◌<◌, ◌^◌, ◌∙◌, ◌≡◌, ◌≤◌, ◌⊎◌}
-use Rattle.tmw_search.proofs.Bits.{same_place, less_of, less_has}
-use Rattle.tmw_search.proofs.Ordering.{narrows-if, narrows-then, same-narrows}
-use Rattle.tmw_search.proofs.Settling.{if-clear, out-grows}
+-- What one more pair makes of who comes before whom, and what follows from each of several facts, one after another.
+use Rattle.tmw_search.proofs.Shared.{Before, Bool, Has, In, IsOrder, IsRanking, Joins, List, Narrows, ap, arith, bit_at, bit_or, cases_lt, false, get_or_past, if◌then◌else◌, inl, inr, length, or_of_8, refl, slice_index, sym, true, ℕ, ◌<◌, ◌==◌, ◌∙◌, ◌≡◌, ◌≤◌, Clear, Found, From, IfClear, IfStuck, IsOut, Never, Open, Passes, SettledSource, Source, Start, Stuck, WithinSource, bit_at-zero, lives, subst, ◌%◌, ◌*◌, ◌+◌, ◌-◌, ◌^◌, ◌⊎◌, and_le_r, bit_and, bit_at_above, bit_at_and, ext_get_or, room, room_of, same_from_bits, suc, zero}
+use Rattle.tmw_search.proofs.Bits.{masks, same_place}
+
+-- nothing changes, where the second comes before the first
+pub none-precedes : (i j : ℕ) (reach : List ℕ) → i < 8 → j < 8 → IsOrder reach → (Has reach i j → ⊥) → Has reach j i
+    → Narrows (Before i j) reach reach false
+none-precedes i j reach within_i within_j o not has = record {
+  order = o;
+  grows = λ a b within_a within_b is. is;
+  all = λ rank r is. r;
+  told = λ rank r is.
+      let same : i ≡ j = r.apart i j within_i within_j (omega (arith, is, r.kept j i within_j within_i has)) in
+      absurd (not (ap (λ (k : ℕ). bit_at (slice_index reach j) k) same ∙ o.self j within_j));
+}
+
+-- nothing changes, and there is nothing to add
+pub same-narrows : {P : (ℕ → ℕ) → Type 0} {reach : List ℕ} → IsOrder reach → Narrows P reach reach true
+same-narrows o = record {
+  order = o;
+  grows = λ a b within_a within_b is. is;
+  all = λ rank r is. r;
+  told = λ rank r is. refl;
+}
+
+-- one step after another
+pub narrows-then : {P Q R : (ℕ → ℕ) → Type 0} {old mid new : List ℕ} {one two : Bool} → ((rank : ℕ → ℕ) → R rank → P rank)
+    → ((rank : ℕ → ℕ) → R rank → Q rank) → Narrows P old mid one → Narrows Q mid new two → Narrows R old new two
+narrows-then p q m n = record {
+  order = n.order;
+  grows = λ a b within_a within_b is. n.grows a b within_a within_b (m.grows a b within_a within_b is);
+  all = λ rank r is. n.all rank (m.all rank r (p rank is)) (q rank is);
+  told = λ rank r is. n.told rank (m.all rank r (p rank is)) (q rank is);
+}
+
+-- Those joined have all that comes before one of them, and none of them comes after the place.
+module _ (j before : ℕ) (old new : List ℕ) (within_j : j < 8) (o : IsOrder old)
+    (below : (b a : ℕ) → b < 8 → a < 8 → Has old b a → In before a → In before b)
+    (after : (a : ℕ) → a < 8 → Has old j a → In before a → a ≡ j) (joins : Joins j before old new) where
+  pub joined-order : IsOrder new
+  joined-order = record {
+    size = joins.size;
+    fits = joins.fits;
+    self = λ a within. joins.keeps a a within (o.self a within);
+    closed = grind arith;
+    apart = grind arith;
+  }
+
+  pub joined-narrows : (P : (ℕ → ℕ) → Type 0)
+      → ((rank : ℕ → ℕ) → IsRanking rank old → P rank → (a : ℕ) → a < 8 → In before a → rank a ≤ rank j) → Narrows P old new true
+  joined-narrows P first = record {
+    order = joined-order;
+    grows = λ a b within_a within_b is. joins.keeps a b within_b is;
+    all = λ rank r is. record {
+      apart = r.apart;
+      kept = grind arith;
+    };
+    told = λ rank r is. refl;
+  }
+
+-- the masks, each joined by these where it has the place
+abbrev pub joined : ℕ → ℕ → ℕ → ℕ
+joined place before mask = if bit_at mask place == 1 then bit_or mask before else mask
+
+pub joins-each : (place before : ℕ) (reach next : List ℕ)
+    → length next ≡ 8 → ((k : ℕ) → slice_index reach k < 256) → before < 256
+    → ((k : ℕ) → k < 8 → slice_index next k ≡ joined place before (slice_index reach k)) → Joins place before reach next
+joins-each place before reach next size fits_reach fits_before each = record {
+  size = size;
+  fits = λ k. grind (arith, masks, each k, fits_reach k, or_of_8 (slice_index reach k) before (fits_reach k) fits_before, get_or_past next k 0);
+  keeps = grind (arith, masks);
+  adds = grind (arith, masks);
+  only = grind (arith, masks);
+}
 
 -- It has what the other has.
 abbrev pub Grows : List ℕ → List ℕ → Type 0
@@ -13,45 +82,41 @@ abbrev pub AllOf : (ℕ → Type 0) → (ℕ → (ℕ → ℕ) → Type 0) → (
 AllOf Q P rank = (k : ℕ) → k < 8 → Q k → P k rank
 
 -- what follows from those facts that are not left
-pub record Passes (Q : ℕ → Type 0) (P : ℕ → (ℕ → ℕ) → Type 0) (D : ℕ → List ℕ → Type 0) (L : ℕ → Type 0) (old now : List ℕ) (found : Found) : Type 0 where
+pub record Passed (Q : ℕ → Type 0) (P : ℕ → (ℕ → ℕ) → Type 0) (D : ℕ → List ℕ → Type 0) (L : ℕ → Type 0) (old now : List ℕ) (found : Found) : Type 0 where
   pub narrows : Narrows (AllOf Q P) old now true
   pub alive : lives found ≡ true
   pub done : IfClear found ((k : ℕ) → k < 8 → Q k → L k ⊎ D k now)
   pub stuck : IfStuck found (AllOf Q P) old
+  pub among : (k : ℕ) → L k → Q k
 
-pub passes-none : (Q : ℕ → Type 0) (P : ℕ → (ℕ → ℕ) → Type 0) (D : ℕ → List ℕ → Type 0) (L : ℕ → Type 0) (old : List ℕ) → IsOrder old
-    → ((k : ℕ) → k < 8 → Q k → L k) → Passes Q P D L old old Clear
-passes-none Q P D L old o all = record {
-  narrows = same-narrows (AllOf Q P) old o;
-  alive = refl;
-  done = λ k within is. inl (all k within is);
-  stuck = tt;
-}
+-- Those of the second are left after the one at the place.
+pub record Without (L M : ℕ → Type 0) (q : ℕ) : Type 0 where
+  pub still : (k : ℕ) → k < 8 → L k → (k ≡ q) ⊎ M k
+  pub fewer : (k : ℕ) → M k → L k
 
--- those still left after one more
-abbrev pub StillLeft : (ℕ → Type 0) → (ℕ → Type 0) → ℕ → Type 0
-StillLeft L M q = (k : ℕ) → k < 8 → L k → (k ≡ q) ⊎ M k
+pub bit-left : (left q : ℕ) → q < 8 → In left q → Without (In left) (In (left - 1 * 2 ^ q % 2 ^ 8)) q
+bit-left left q within one = record { still = grind (arith, masks); fewer = grind (arith, masks) }
 
-pub passes-clear : (Q : ℕ → Type 0) (P : ℕ → (ℕ → ℕ) → Type 0) (D : ℕ → List ℕ → Type 0) (L M : ℕ → Type 0) (old mid new : List ℕ)
-    (found : Found) (q : ℕ) → q < 8 → Q q → StillLeft L M q
-    → ((k : ℕ) (a b : List ℕ) → k < 8 → Grows a b → D k a → D k b)
-    → Passes Q P D L old mid found → Narrows (P q) mid new true → D q new → Passes Q P D M old new found
-passes-clear Q P D L M old mid new found q within here still grow p n d = record {
-  narrows = narrows-then (AllOf Q P) (P q) (AllOf Q P) old mid new true true (λ rank is. is) (λ rank is. is q within here) p.narrows n;
-  alive = p.alive;
-  done = if-clear found _ _ (λ (done : (k : ℕ) → k < 8 → Q k → L k ⊎ D k mid). λ k within_k is. elim (done k within_k is) [
-    | inl left ↦ elim (still k within_k left) [
-      | inl same ↦ inr (subst (λ (m : ℕ). D m new) (sym same) d)
-      | inr left_still ↦ inl left_still
-    ]
-    | inr was ↦ inr (grow k mid new within_k n.grows was)
-  ]) p.done;
-  stuck = p.stuck;
-}
+pub place-left : (q : ℕ) → Without (λ j. q ≤ j) (λ j. q + 1 ≤ j) q
+place-left q = record { still = grind arith; fewer = grind arith }
 
-stuck-more : (P R : (ℕ → ℕ) → Type 0) (old mid : List ℕ) (i j k : ℕ) → Grows old mid → ((rank : ℕ → ℕ) → R rank → P rank)
-    → IsBetween P mid i j k → IsBetween R old i j k
-stuck-more P R old mid i j k grows to b = record {
+if-clear : (found : Found) {A B : Type 0} → (A → B) → IfClear found A → IfClear found B
+if-clear Never to is = tt
+if-clear Clear to is = to is
+if-clear (Stuck i j k) to is = tt
+
+-- it stays decided
+pub out-grows : (i j k : ℕ) (old new : List ℕ) → i < 8 → j < 8 → k < 8 → Grows old new → IsOut old k i j → IsOut new k i j
+out-grows i j k old new within_i within_j within_k grows is = elim is [
+  | inl before ↦ inl (grows k i within_k within_i before)
+  | inr after ↦ inr (grows j k within_j within_k after)
+]
+
+if-stuck : (found : Found) {P R : (ℕ → ℕ) → Type 0} (old mid : List ℕ) → Grows old mid → ((rank : ℕ → ℕ) → R rank → P rank)
+    → IfStuck found P mid → IfStuck found R old
+if-stuck Never old mid grows to s = tt
+if-stuck Clear old mid grows to s = tt
+if-stuck (Stuck i j k) old mid grows to b = record {
   first = b.first;
   second = b.second;
   third = b.third;
@@ -59,30 +124,70 @@ stuck-more P R old mid i j k grows to b = record {
   free = λ is. b.free (out-grows i j k old mid b.first b.second b.third grows is);
 }
 
-pub passes-stuck : (Q : ℕ → Type 0) (P : ℕ → (ℕ → ℕ) → Type 0) (D : ℕ → List ℕ → Type 0) (L M : ℕ → Type 0) (old mid new : List ℕ)
-    (found : Found) (q i j k : ℕ) → q < 8 → Q q → Passes Q P D L old mid found → Narrows (P q) mid new true → IsBetween (P q) mid i j k
-    → Passes Q P D M old new (Stuck i j k)
-passes-stuck Q P D L M old mid new found q i j k within here p n b = record {
-  narrows = narrows-then (AllOf Q P) (P q) (AllOf Q P) old mid new true true (λ rank is. is) (λ rank is. is q within here) p.narrows n;
+pub passed-none : {Q : ℕ → Type 0} {P : ℕ → (ℕ → ℕ) → Type 0} {D : ℕ → List ℕ → Type 0} {old : List ℕ} → IsOrder old
+    → Passed Q P D Q old old Clear
+passed-none o = record {
+  narrows = same-narrows o;
   alive = refl;
-  done = tt;
-  stuck = stuck-more (P q) (AllOf Q P) old mid i j k p.narrows.grows (λ rank is. is q within here) b;
+  done = λ k within is. inl is;
+  stuck = tt;
+  among = λ k is. is;
 }
 
-pub passes-never : (Q : ℕ → Type 0) (P : ℕ → (ℕ → ℕ) → Type 0) (D : ℕ → List ℕ → Type 0) (L : ℕ → Type 0) (old mid new : List ℕ)
-    (found : Found) (q : ℕ) → q < 8 → Q q → Passes Q P D L old mid found → Narrows (P q) mid new false → Narrows (AllOf Q P) old new false
-passes-never Q P D L old mid new found q within here p n =
-    narrows-then (AllOf Q P) (P q) (AllOf Q P) old mid new true false (λ rank is. is) (λ rank is. is q within here) p.narrows n
+-- what is found by the one and then by the other
+abbrev pub last_found : Found → Found → Found
+last_found found Never = Never
+last_found found Clear = found
+last_found found (Stuck i j k) = Stuck i j k
 
-pub passes-all : (Q : ℕ → Type 0) (P : ℕ → (ℕ → ℕ) → Type 0) (D : ℕ → List ℕ → Type 0) (L : ℕ → Type 0) (old now : List ℕ) (found : Found)
-    → ((k : ℕ) → k < 8 → L k → ⊥) → Passes Q P D L old now found → IfClear found ((k : ℕ) → k < 8 → Q k → D k now)
-passes-all Q P D L old now found none p =
-    if-clear found _ _ (λ (done : (k : ℕ) → k < 8 → Q k → L k ⊎ D k now). λ k within is. elim (done k within is) [
-      | inl left ↦ absurd (none k within left)
-      | inr has ↦ has
-    ]) p.done
+pub passed-next : {Q : ℕ → Type 0} {P : ℕ → (ℕ → ℕ) → Type 0} {D : ℕ → List ℕ → Type 0} {L M : ℕ → Type 0} {old mid new : List ℕ} {found : Found}
+    {q : ℕ} (next : Found) → q < 8 → L q → Without L M q → ((k : ℕ) → k < 8 → Grows mid new → D k mid → D k new)
+    → Passed Q P D L old mid found → Passes (P q) (D q) mid new next → lives next ≡ true → Passed Q P D M old new (last_found found next)
+passed-next Never within here w grow p n alive = absurd (cc)
+passed-next {D = D} {mid = mid} {new = new} {found = found} {q = q} Clear within here w grow p n alive = record {
+  narrows = narrows-then (λ rank is. is) (λ rank is. is q within (p.among q here)) p.narrows n.narrows;
+  alive = p.alive;
+  done = if-clear found (λ done. λ k few is. elim (done k few is) [
+    | inl left ↦ elim (w.still k few left) [ inl same ↦ inr (subst (λ (m : ℕ). D m new) (sym same) n.clear) | inr more ↦ inl more ]
+    | inr was ↦ inr (grow k few n.narrows.grows was)
+  ]) p.done;
+  stuck = p.stuck;
+  among = λ k is. p.among k (w.fewer k is);
+}
+passed-next {q = q} (Stuck i j k) within here w grow p n alive = record {
+  narrows = narrows-then (λ rank is. is) (λ rank is. is q within (p.among q here)) p.narrows n.narrows;
+  alive = refl;
+  done = tt;
+  stuck = if-stuck (Stuck i j k) _ _ p.narrows.grows (λ rank is. is q within (p.among q here)) n.stuck;
+  among = λ a is. p.among a (w.fewer a is);
+}
 
--- of one transaction's reads
+pub passed-never : {Q : ℕ → Type 0} {P : ℕ → (ℕ → ℕ) → Type 0} {D : ℕ → List ℕ → Type 0} {L : ℕ → Type 0} {old mid new : List ℕ} {found : Found}
+    {q : ℕ} → q < 8 → L q → Passed Q P D L old mid found → Narrows (P q) mid new false → Narrows (AllOf Q P) old new false
+passed-never {q = q} within here p n = narrows-then (λ rank is. is) (λ rank is. is q within (p.among q here)) p.narrows n
+
+pub passed-all : {Q : ℕ → Type 0} {P : ℕ → (ℕ → ℕ) → Type 0} {D : ℕ → List ℕ → Type 0} {L : ℕ → Type 0} {old now : List ℕ} {found : Found}
+    → ((k : ℕ) → k < 8 → L k → ⊥) → Passed Q P D L old now found → Passes (AllOf Q P) (λ reach. (k : ℕ) → k < 8 → Q k → D k reach) old now found
+passed-all {Q = Q} {P = P} {old = old} {now = now} {found = found} none p = record {
+  narrows = subst (λ (b : Bool). Narrows (AllOf Q P) old now b) (sym p.alive) p.narrows;
+  clear = if-clear found (λ done. λ k within is. elim (done k within is) [ inl left ↦ absurd (none k within left) | inr has ↦ has ]) p.done;
+  stuck = p.stuck;
+}
+
+pub no-bit : (left : ℕ) → left ≡ 0 → (k : ℕ) → k < 8 → In left k → ⊥
+no-bit left none k within is = absurd (omega (arith, is, ap (λ (m : ℕ). bit_at m k) none, bit_at-zero k))
+
+-- by one step, and what a pass after it has found
+pub passes-then : {P Q R : (ℕ → ℕ) → Type 0} {D E : List ℕ → Type 0} {old mid new : List ℕ} {found : Found} → ((rank : ℕ → ℕ) → R rank → P rank)
+    → ((rank : ℕ → ℕ) → R rank → Q rank) → (Grows mid new → D new → E new) → Narrows P old mid true → Passes Q D mid new found
+    → Passes R E old new found
+passes-then {found = found} p q d m n = record {
+  narrows = narrows-then p q m n.narrows;
+  clear = if-clear found (λ is. d n.narrows.grows is) n.clear;
+  stuck = if-stuck found _ _ m.grows q n.stuck;
+}
+
+-- a source that is settled stays so
 pub source-grows : (writers j : ℕ) (source : Source) (old new : List ℕ) → j < 8 → WithinSource source → Grows old new
     → SettledSource writers j source old → SettledSource writers j source new
 source-grows writers j Open old new within_j within grows s = tt
@@ -93,132 +198,70 @@ source-grows writers j (From i) old new within_j within grows s = record {
   out = λ k within_k is. out-grows i j k old new within within_j within_k grows (s.out k within_k is);
 }
 
-abbrev pub ReadIs : Choices → ℕ → ℕ → (ℕ → ℕ) → Type 0
-ReadIs c j r rank = Sourced (slice_index c.writers r) j (source_at c j r) rank
+abbrev pub Fit : List ℕ → Type 0
+Fit reach = (k : ℕ) → slice_index reach k < 256
 
-abbrev pub ReadDone : Choices → ℕ → ℕ → List ℕ → Type 0
-ReadDone c j r reach = SettledSource (slice_index c.writers r) j (source_at c j r) reach
+-- a mask of which the other has each bit is no greater
+covers-le : (a b : ℕ) → a < 256 → ((i : ℕ) → i < 8 → In a i → In b i) → a ≤ b
+covers-le a b fits covers =
+    let same : bit_and a b ≡ a = same_from_bits (bit_and a b) a (λ i. elim (cases_lt i 8) [
+      | inl few ↦ grind (arith, masks, covers i few)
+      | inr past ↦ omega (arith, bit_at_and a b i, bit_at_above a 8 i fits past)
+    ]) in
+    omega (arith, same, and_le_r a b)
 
--- what follows from the sources of those reads that are not left
-pub record PassesReads (c : Choices) (j : ℕ) (old now : List ℕ) (found : Found) (left : ℕ) : Type 0 where
-  pub passes : Passes (IsRead c j) (ReadIs c j) (ReadDone c j) (λ r. bit_at left r ≡ 1) old now found
-  pub among : (r : ℕ) → bit_at left r ≡ 1 → IsRead c j r
+pub room-most : (a b : List ℕ) (n : ℕ) → n ≤ 8 → Fit a → Grows a b → room_of b n ≤ room_of a n
+unfolding room_of
+room-most a b zero few fits grows = omega arith
+room-most a b (suc n) few fits grows =
+    let here = covers-le (slice_index a n) (slice_index b n) (fits n) (λ i within. grows i n within (omega (arith, few))) in
+    omega (arith, room-most a b n (omega (arith, few)) fits grows, here)
 
-pub left-still : (left q : ℕ) → q < 8 → bit_at left q ≡ 1
-    → StillLeft (λ r. bit_at left r ≡ 1) (λ r. bit_at (left - 1 * 2 ^ q % 2 ^ 8) r ≡ 1) q
-left-still left q within one k within_k is =
-    let less = less_of left q within one in
-    elim (same_place k q) [ inl same ↦ inl same | inr apart ↦ inr (sym (less.other k apart) ∙ is) ]
+room-same : (a b : List ℕ) (n : ℕ) → n ≤ 8 → Fit a → Fit b → Grows a b → room_of b n ≡ room_of a n → (j : ℕ) → j < n
+    → slice_index b j ≡ slice_index a j
+unfolding room_of
+room-same a b zero few fits_a fits_b grows same j within = absurd (omega (arith, within))
+room-same a b (suc n) few fits_a fits_b grows same j within =
+    let rest = room-most a b n (omega (arith, few)) fits_a grows in
+    let here = covers-le (slice_index a n) (slice_index b n) (fits_a n) (λ i within_i. grows i n within_i (omega (arith, few))) in
+    elim (same_place j n) [
+      | inl is ↦ rw is (omega (arith, same, rest, here, fits_a n, fits_b n))
+      | inr apart ↦
+          room-same a b n (omega (arith, few)) fits_a fits_b grows (omega (arith, same, rest, here, fits_a n, fits_b n)) j (omega (arith, within, apart))
+    ]
 
-pub reads-clear : (c : Choices) (j : ℕ) (old mid new : List ℕ) (found : Found) (left q : ℕ) → j < 8 → q < 8 → Within c → bit_at left q ≡ 1
-    → PassesReads c j old mid found left → Narrows (ReadIs c j q) mid new true → ReadDone c j q new
-    → PassesReads c j old new found (left - 1 * 2 ^ q % 2 ^ 8)
-reads-clear c j old mid new found left q within_j within w one p n d = record {
-  passes = passes-clear (IsRead c j) (ReadIs c j) (ReadDone c j) (λ r. bit_at left r ≡ 1) (λ r. bit_at (left - 1 * 2 ^ q % 2 ^ 8) r ≡ 1)
-      old mid new found q within (p.among q one) (left-still left q within one)
-      (λ k a b within_k grows is. source-grows (slice_index c.writers k) j (source_at c j k) a b within_j (w j k within_j within_k) grows is)
-      p.passes n d;
-  among = λ r is. p.among r (less_has left q _ r (less_of left q within one) is);
-}
+pub room-less : (a b : List ℕ) → length a ≡ 8 → length b ≡ 8 → Fit a → Fit b → Grows a b → (b ≡ a → ⊥) → room b < room a
+room-less a b size_a size_b fits_a fits_b grows differ =
+    let most = room-most a b 8 (omega arith) fits_a grows in
+    elim (same_place (room b) (room a)) [
+      | inl same ↦ absurd (differ (ext_get_or 0 b a (size_b ∙ sym size_a) (λ j within.
+          room-same a b 8 (omega arith) fits_a fits_b grows same j (omega (arith, within, size_b)))))
+      | inr apart ↦ omega (arith, most, apart)
+    ]
 
-pub reads-stuck : (c : Choices) (j : ℕ) (old mid new : List ℕ) (found : Found) (left q a b k : ℕ) → q < 8 → bit_at left q ≡ 1
-    → PassesReads c j old mid found left → Narrows (ReadIs c j q) mid new true → IsBetween (ReadIs c j q) mid a b k
-    → PassesReads c j old new (Stuck a b k) (left - 1 * 2 ^ q % 2 ^ 8)
-reads-stuck c j old mid new found left q a b k within one p n is = record {
-  passes = passes-stuck (IsRead c j) (ReadIs c j) (ReadDone c j) (λ r. bit_at left r ≡ 1) (λ r. bit_at (left - 1 * 2 ^ q % 2 ^ 8) r ≡ 1)
-      old mid new found q a b k within (p.among q one) p.passes n is;
-  among = λ r is_r. p.among r (less_has left q _ r (less_of left q within one) is_r);
-}
+-- one pair more
+pub room-pair : (a b : List ℕ) (i j : ℕ) → j < 8 → Fit a → Fit b → Grows a b → Has b i j → (Has a i j → ⊥) → room b < room a
+room-pair a b i j within_j fits_a fits_b grows has not =
+    let most = room-most a b 8 (omega arith) fits_a grows in
+    elim (same_place (room b) (room a)) [
+      | inl same ↦ absurd (not (ap (λ (m : ℕ). bit_at m i) (sym (room-same a b 8 (omega arith) fits_a fits_b grows same j within_j)) ∙ has))
+      | inr apart ↦ omega (arith, most, apart)
+    ]
 
--- of all transactions
-pub by-grows : (c : Choices) (j : ℕ) (old new : List ℕ) → j < 8 → Within c → Grows old new → SettledBy c j old → SettledBy c j new
-by-grows c j old new within w grows s = λ r within_r is.
-    source-grows (slice_index c.writers r) j (source_at c j r) old new within (w j r within within_r) grows (s r within_r is)
+-- each order has a ranking: by the masks, and then by place
+abbrev pub rank_of : List ℕ → ℕ → ℕ
+rank_of reach i = 8 * slice_index reach i + i
 
-abbrev pub Always : ℕ → Type 0
-Always j = Unit {0}
-
-abbrev pub PassesAll : Choices → List ℕ → List ℕ → Found → ℕ → Type 0
-PassesAll c old now found at = Passes Always (ChosenBy c) (SettledBy c) (λ j. at ≤ j) old now found
-
-pub below-still : (q : ℕ) → StillLeft (λ j. q ≤ j) (λ j. q + 1 ≤ j) q
-below-still q k within above = elim (same_place k q) [ inl same ↦ inl same | inr apart ↦ inr (omega (arith, above, apart)) ]
-
-pub reads-none : (c : Choices) (j : ℕ) (old : List ℕ) → IsOrder old → PassesReads c j old old Clear (slice_index c.reads j)
-reads-none c j old o = record {
-  passes = passes-none (IsRead c j) (ReadIs c j) (ReadDone c j) (λ r. bit_at (slice_index c.reads j) r ≡ 1) old o (λ r within is. is);
-  among = λ r is. is;
-}
-
-pub reads-never : (c : Choices) (j : ℕ) (old mid new : List ℕ) (found : Found) (left q : ℕ) → q < 8 → bit_at left q ≡ 1
-    → PassesReads c j old mid found left → Narrows (ReadIs c j q) mid new false → Narrows (ChosenBy c j) old new false
-reads-never c j old mid new found left q within one p n =
-    passes-never (IsRead c j) (ReadIs c j) (ReadDone c j) (λ r. bit_at left r ≡ 1) old mid new found q within (p.among q one) p.passes n
-
-pub reads-all : (c : Choices) (j : ℕ) (old now : List ℕ) (found : Found) (left : ℕ) → left ≡ 0 → PassesReads c j old now found left
-    → IfClear found (SettledBy c j now)
-reads-all c j old now found left none p =
-    passes-all (IsRead c j) (ReadIs c j) (ReadDone c j) (λ r. bit_at left r ≡ 1) old now found
-    (λ r within is. absurd (omega (arith, is, ap (λ (m : ℕ). bit_at m r) none, bit_at-zero r))) p.passes
-
--- one transaction more
-pub by-clear : (c : Choices) (old mid new : List ℕ) (found : Found) (j : ℕ) → j < 8 → Within c → PassesAll c old mid found j
-    → Narrows (ChosenBy c j) mid new true → SettledBy c j new → PassesAll c old new found (j + 1)
-by-clear c old mid new found j within w p n d =
-    passes-clear Always (ChosenBy c) (SettledBy c) (λ k. j ≤ k) (λ k. j + 1 ≤ k) old mid new found j within tt (below-still j)
-    (λ k a b within_k grows is. by-grows c k a b within_k w grows is) p n d
-
-pub by-stuck : (c : Choices) (old mid new : List ℕ) (found : Found) (j a b k : ℕ) → j < 8 → PassesAll c old mid found j
-    → Narrows (ChosenBy c j) mid new true → IsBetween (ChosenBy c j) mid a b k → PassesAll c old new (Stuck a b k) (j + 1)
-by-stuck c old mid new found j a b k within p n is =
-    passes-stuck Always (ChosenBy c) (SettledBy c) (λ q. j ≤ q) (λ q. j + 1 ≤ q) old mid new found j a b k within tt p n is
-
-chosen-narrows : (c : Choices) (old new : List ℕ) (alive : Bool) → Narrows (AllOf Always (ChosenBy c)) old new alive
-    → Narrows (Chosen c) old new alive
-chosen-narrows c old new alive n =
-    narrows-if (AllOf Always (ChosenBy c)) (Chosen c) old new alive (λ rank r is. λ k within any. is k within) n
-
-pub by-never : (c : Choices) (old mid new : List ℕ) (found : Found) (j : ℕ) → j < 8 → PassesAll c old mid found j
-    → Narrows (ChosenBy c j) mid new false → Narrows (Chosen c) old new false
-by-never c old mid new found j within p n =
-    chosen-narrows c old new false (passes-never Always (ChosenBy c) (SettledBy c) (λ k. j ≤ k) old mid new found j within tt p n)
-
-if-stuck : (found : Found) (P R : (ℕ → ℕ) → Type 0) (old mid : List ℕ) → Grows old mid → ((rank : ℕ → ℕ) → R rank → P rank)
-    → IfStuck found P mid → IfStuck found R old
-if-stuck Never P R old mid grows to s = tt
-if-stuck Clear P R old mid grows to s = tt
-if-stuck (Stuck i j k) P R old mid grows to s = stuck-more P R old mid i j k grows to s
-
--- what a pass over all of them has found
-pub record IsPass (c : Choices) (old now : List ℕ) (found : Found) : Type 0 where
-  pub narrows : Narrows (Chosen c) old now (lives found)
-  pub clear : IfClear found (AllSettled c now)
-  pub stuck : IfStuck found (Chosen c) old
-
-pub by-all : (c : Choices) (old now : List ℕ) (found : Found) (j : ℕ) → 8 ≤ j → PassesAll c old now found j → IsPass c old now found
-by-all c old now found j all p = record {
-  narrows = subst (λ (b : Bool). Narrows (Chosen c) old now b) (sym p.alive) (chosen-narrows c old now true p.narrows);
-  clear = if-clear found _ _ (λ (done : (k : ℕ) → k < 8 → Always k → SettledBy c k now). λ k within. done k within tt)
-      (passes-all Always (ChosenBy c) (SettledBy c) (λ k. j ≤ k) old now found (λ k within above. absurd (omega (arith, all, within, above))) p);
-  stuck = if-stuck found (AllOf Always (ChosenBy c)) (Chosen c) old old (λ a b within_a within_b is. is) (λ rank is k within any. is k within)
-      p.stuck;
-}
-
--- what the last of some passes has found
-pub record Ran (c : Choices) (old was now : List ℕ) (found : Found) : Type 0 where
-  pub before : Narrows (Chosen c) old was true
-  pub pass : IsPass c was now found
-
-pub ran-first : (c : Choices) (old now : List ℕ) (found : Found) → IsOrder old → IsPass c old now found → Ran c old old now found
-ran-first c old now found o p = record { before = same-narrows (Chosen c) old o; pass = p }
-
-pub ran-narrows : (c : Choices) (old was now : List ℕ) (found : Found) → Ran c old was now found → Narrows (Chosen c) old now (lives found)
-ran-narrows c old was now found r =
-    narrows-then (Chosen c) (Chosen c) (Chosen c) old was now true (lives found) (λ rank is. is) (λ rank is. is) r.before r.pass.narrows
-
-pub ran-next : (c : Choices) (old was now new : List ℕ) (found next : Found) → lives found ≡ true → Ran c old was now found
-    → IsPass c now new next → Ran c old now new next
-ran-next c old was now new found next alive r p = record {
-  before = subst (λ (b : Bool). Narrows (Chosen c) old now b) alive (ran-narrows c old was now found r);
-  pass = p;
+pub order-ranks : (reach : List ℕ) → IsOrder reach → IsRanking (rank_of reach) reach
+order-ranks reach o = record {
+  apart = λ i j within_i within_j same. omega (arith, same, within_i, within_j);
+  kept = λ i j within_i within_j has. elim (same_place i j) [
+    | inl same ↦ omega (arith, ap (rank_of reach) same)
+    | inr apart ↦
+        let most = covers-le (slice_index reach i) (slice_index reach j) (o.fits i) (λ k few is. o.closed k i j few within_i within_j is has) in
+        elim (same_place (slice_index reach i) (slice_index reach j)) [
+          | inl same ↦ absurd (apart (o.apart i j within_i within_j has (ap (λ (m : ℕ). bit_at m j) same ∙ o.self j within_j)))
+          | inr differ ↦ omega (arith, most, differ, within_i)
+        ]
+  ];
 }

@@ -1,9 +1,8 @@
 -- What follows from each read, one after another.
-use Rattle.tmw_search.proofs.Shared.{Bool, Branch, Chosen, Effect, Entails, From, Gives, HasNone, In, IsBranch, IsFalse, IsLegal, IsNode, IsOnly, IsRead, IsSound, IsTrue, KeepsOthers, LeavesOut, List, Narrows, Node, NoneMay, Open, Reads, ReadsFrom, SettledSource, Settles, Source, Sourced, Start, State, Writes, ap, arith, bit_and, bit_at, bit_at-lt, bit_at-pow_other, bit_at-zero, bit_at_and, bit_at_clear_other, bit_not, eq-eqb, false, get_or-set_other, get_or-set_same, inl, inr, length, looking, need_at, ordered, refl, set, shift_is, slice_index, source_at, subst, sym, true, w8, ℕ, ◌%◌, ◌*◌, ◌+◌, ◌-◌, ◌<◌, ◌==◌, ◌^◌, ◌↔◌, ◌∙◌, ◌≡◌, ◌≤◌, ◌⊎◌}
-use Rattle.tmw_search.proofs.Bits.{same_place, less_of, less_has}
+use Rattle.tmw_search.proofs.Shared.{Bool, Branch, Chosen, Effect, Entails, From, Gives, HasNone, In, IsBranch, IsFalse, IsLegal, IsNode, IsOnly, IsRead, IsSound, IsTrue, KeepsOthers, LeavesOut, List, Narrows, Node, NoneMay, TakesIn, Open, Reads, ReadsFrom, SettledSource, Settles, Source, Sourced, Start, State, Writes, ap, arith, bit_and, bit_at, bit_at-zero, bit_at_clear_other, bit_not, eq-eqb, false, inl, inr, looking, need_at, ordered, refl, slice_index, source_at, subst, sym, true, w8, ℕ, ◌%◌, ◌*◌, ◌+◌, ◌-◌, ◌<◌, ◌==◌, ◌^◌, ◌↔◌, ◌∙◌, ◌≡◌, ◌≤◌, ◌⊎◌}
+use Rattle.tmw_search.proofs.Bits.{masks, same_place}
 use Rattle.tmw_search.proofs.Branching.{never-true}
-use Rattle.tmw_search.proofs.Giving.{is_pair}
-use Rattle.tmw_search.proofs.Nodes.{node-ordered, legal-chosen, legal-with, legal-less, reads-sourced, before-of}
+use Rattle.tmw_search.proofs.Nodes.{is_pair, sound-more, node-ordered, legal-chosen, legal-with, legal-less, reads-sourced, sourced-reads}
 
 pub follows-then : {xs : List Effect} {start : State} {may : ℕ} {old mid new : Node} {alive : Bool} → Entails xs start may old mid true
     → Entails xs start may mid new alive → Entails xs start may old new alive
@@ -32,7 +31,7 @@ legal-looking reads = (
 -- a settled read is left out
 pub follows-left : {xs : List Effect} {start : State} {may j r : ℕ} {old new : Node} → LeavesOut j r old new → Settles xs start may old j r
     → IsNode xs start may old → Entails xs start may old new true
-follows-left {xs = xs} {start = start} {may = may} {j = j} {r = r} {old = old} lo settled n =
+follows-left {xs = xs} {start = start} {may = may} {j = j} {r = r} {old = old} {new = new} lo settled n =
     subst (λ (node : Node). Entails xs start may old node true) (sym lo.is) (record {
       is = λ alive. record {
         order = n.order;
@@ -49,8 +48,8 @@ follows-left {xs = xs} {start = start} {may = may} {j = j} {r = r} {old = old} l
         agree = n.agree;
         sound = n.sound;
       };
-      into = λ held rank alive l. (legal-looking lo.reads).1 l;
-      onto = λ held rank l. (refl, (legal-looking lo.reads).0 l);
+      into = λ held rank alive l. (legal-looking new.choices.reads).1 l;
+      onto = λ held rank l. (refl, (legal-looking new.choices.reads).0 l);
     })
 
 -- a writer of the register is one that the node holds
@@ -153,26 +152,9 @@ pub settled-by : {xs : List Effect} {start : State} {may : ℕ} {node : Node} (j
     → SettledSource (slice_index node.choices.writers r) j source node.reach → Settles xs start may node j r
 settled-by {xs = xs} {start = start} {may = may} {node = node} j r source within_j within_r n none at closed s held rank ranks more among =
     subst (λ (x : Source). Reads xs held start rank j r x) (sym at)
-    (reads-of source closed (subst (λ (x : Source). IsSound xs start node.held j r x) at (n.sound j r within_j within_r)) s)
-  where
-    reads-of : (source : Source) → (source ≡ Open → ⊥) → IsSound xs start node.held j r source
-        → SettledSource (slice_index node.choices.writers r) j source node.reach → Reads xs held start rank j r source
-    reads-of Open closed sound s = absurd (closed refl)
-    reads-of Start closed sound s = record {
-      value = sound;
-      others = λ k w. ranks.kept j k within_j w.0 (s k w.0 (held-writes xs start may r k held node within_r n none among w));
-    }
-    reads-of (From i) closed sound s =
-        let ((within_i, holds, leaves), value) = sound in
-        record {
-          writes = (within_i, more i within_i holds, leaves);
-          value = value;
-          below = before-of node.reach rank i j within_i within_j ranks s.has s.apart;
-          others = λ k v. elim (s.out k v.0 (held-writes xs start may r k held node within_r n none among v)) [
-            | inl before ↦ inl (ranks.kept k i v.0 within_i before)
-            | inr after ↦ inr (ranks.kept j k within_j v.0 after)
-          ];
-        }
+    (sourced-reads xs start held rank node.reach j r (slice_index node.choices.writers r) source within_j closed
+    (λ k w. held-writes xs start may r k held node within_r n none among w) (sound-more xs start node.held held j r source more
+    (subst (λ (x : Source). IsSound xs start node.held j r x) at (n.sound j r within_j within_r))) ranks s)
 
 pub only-closed : (b : Branch) (source : Source) → IsOnly b source → source ≡ Open → ⊥
 only-closed b Open only same = only
@@ -189,20 +171,11 @@ pub record ReadBy (xs : List Effect) (start : State) (may j left : ℕ) (old now
 pub read-more : {xs : List Effect} {start : State} {may j left : ℕ} {old mid new : Node} (r : ℕ) → j < 8 → r < 8 → In left r
     → ReadBy xs start may j left old mid → Entails xs start may mid new true → KeepsOthers j r mid new
     → ReadBy xs start may j (left - 1 * 2 ^ r % 2 ^ 8) old new
-read-more {j = j} {left = left} r within_j within_r one b f kept =
-    let less = less_of left r within_r one in
-    record {
-      follows = follows-then b.follows f;
-      waits = λ q few is.
-          let apart : q ≡ r → ⊥ = λ same. absurd (omega (arith, is, ap (bit_at (left - 1 * 2 ^ r % 2 ^ 8)) same, less.new)) in
-          let (read, free) = b.waits q few (less_has left r _ q less is) in
-          let (still, same) = kept j q within_j few (λ both. apart both.1) read in
-          (still, same ∙ free);
-      others = λ a q few_a few_q apart is.
-          let (read, same) = b.others a q few_a few_q apart is in
-          let (still, here) = kept a q few_a few_q (λ both. apart both.0) read in
-          (still, here ∙ same);
-    }
+read-more r within_j within_r one b f kept = record {
+  follows = follows-then b.follows f;
+  waits = grind (arith, masks);
+  others = grind (arith, masks);
+}
 
 -- the reads of the transactions from this one on
 pub record ReadFrom (xs : List Effect) (start : State) (may j : ℕ) (reads : List ℕ) (old now : Node) : Type 0 where
@@ -216,46 +189,8 @@ pub read-next : {xs : List Effect} {start : State} {may j : ℕ} {reads : List �
     → ReadFrom xs start may (j + 1) reads old new
 read-next b f kept = record {
   follows = follows-then b.follows f;
-  waits = λ a q past few_a few_q is.
-      let (read, free) = b.waits a q (omega (arith, past)) few_a few_q is in
-      let (still, same) = kept a q few_a few_q (λ here. absurd (omega (arith, here, past))) read in
-      (still, same ∙ free);
+  waits = grind (arith, masks);
 }
-
--- one bit of a mask of reads is cleared
-pub left_out : (j r : ℕ) (node : Node) → j < 8 → r < 8 → length node.choices.reads ≡ 8
-    → LeavesOut j r node (record node {
-      choices = record node.choices {
-        reads = set node.choices.reads j (bit_and (slice_index node.choices.reads j) (bit_not w8 (1 * 2 ^ r % 2 ^ 8)));
-      };
-    })
-left_out j r node within_j within_r size =
-    let old = node.choices.reads in
-    let mask = bit_not w8 (1 * 2 ^ r % 2 ^ 8) in
-    let row = bit_and (slice_index old j) mask in
-    let long : j < length old = omega (arith, within_j, size) in
-    let here : slice_index (set old j row) j ≡ row = get_or-set_same old j row 0 long in
-    record {
-      reads = set old j row;
-      is = refl;
-      only = λ a q within_a within_q is. elim (same_place a j) [
-        | inl same ↦ rw same (
-            let one : In row q = rw (same, here) at is in
-            omega (arith, one, bit_at_and (slice_index old j) mask q, bit_at-lt (slice_index old j) q, bit_at-lt mask q))
-        | inr apart ↦ rw (get_or-set_other old j a row 0 apart) at is
-      ];
-      kept = λ a q within_a within_q differ is. elim (same_place a j) [
-        | inl same ↦ rw (same, here) (bit_at_clear_other w8 (slice_index old j) r within_r q within_q (λ is_r. differ (same, is_r)) ∙ rw same at is)
-        | inr apart ↦ rw (get_or-set_other old j a row 0 apart) is
-      ];
-    }
-
--- a mask that is one bit has no other
-pub one-bit : (mask i k : ℕ) → i < 8 → k < 8 → mask ≡ 1 * 2 ^ i % 2 ^ 8 → In mask k → k ≡ i
-one-bit mask i k within few same is = elim (same_place k i) [
-  | inl here ↦ here
-  | inr apart ↦ absurd (omega (arith, is, ap (λ (m : ℕ). bit_at m k) (same ∙ shift_is i within), bit_at-pow_other i k apart))
-]
 
 pub kept-given : {xs : List Effect} {start : State} {may : ℕ} {old new : Node} {j r : ℕ} {source : Source}
     → Gives xs start may old j r source new → KeepsOthers j r old new
@@ -265,3 +200,9 @@ pub kept-left : {mid new : Node} {j r : ℕ} (old : Node) → LeavesOut j r mid 
 kept-left old lo kept = λ a q within_a within_q differ is.
     let (read, same) = kept a q within_a within_q differ is in
     rw lo.is (lo.kept a q within_a within_q differ read, same)
+
+pub taken-given : {xs : List Effect} {start : State} {may : ℕ} {old mid : Node} {reach : List ℕ} {b : Branch} {source : Source} {alive : Bool}
+    → IsBranch xs start may old b → IsOnly b source → Gives xs start may old b.reader b.register source mid
+    → Narrows (Sourced (slice_index mid.choices.writers b.register) b.reader source) mid.reach reach alive
+    → TakesIn xs start may b.reader b.register old (ordered mid reach) alive
+taken-given is only g n = record { follows = follows-given is only g n; others = kept-given g }

@@ -1,10 +1,9 @@
 -- Where the search begins: the masks of who precedes whom are an order, and are the real-time order of a window's transactions.
-use Rattle.tmw_search.proofs.Shared.{AllByRecursion, AreRising, Begins, Bool, Criterion, Effect, Event, Has, In, IsOrder, IsRow, IsTrue, Leaves, Lies, List, Marks, Needs, Opacity, Some, Strict, Txn, View, [], add_event, and_from, and_parts, ap, arith, bit, bit_and, bit_at, bit_at-lt, bit_at-pow_other, bit_at-pow_same, bit_at-zero, bit_at_above, bit_at_and, bit_at_ones, bit_at_set_other, bit_at_set_same, bit_or, cases_Bool, cases_lt, eq-eqb, false, get_or, get_or-set_other, get_or-set_same, get_or_past, idle, inl, inr, is_ended, length, length-set, lies-add, lt-ltb, ltb-true, members_of, precedes, refl, set, shift_is, slice_get, slice_get_within, slice_index, suc, sym, transactions, transactions_from, true, views_of, w8, zero, ℕ, ◌%◌, ◌*◌, ◌+◌, ◌-◌, ◌<◌, ◌==◌, ◌^◌, ◌↔◌, ◌∙◌, ◌∷◌, ◌≡◌, ◌≤◌, ◌⊎◌}
+use Rattle.tmw_search.proofs.Shared.{AllByRecursion, AreRising, Begins, Bool, Criterion, Event, Has, In, IsOrder, IsRow, IsTrue, Lies, List, Marks, Opacity, Some, Strict, Txn, View, [], add_event, and_from, and_parts, ap, arith, bit, bit_and, bit_at-zero, bit_at_ones, bit_or, cases_Bool, cases_lt, false, get_or-set_other, get_or-set_same, get_or_past, inl, inr, is_ended, length, length-set, lies-add, lt-ltb, ltb-true, members_of, precedes, refl, set, slice_get, slice_get_within, slice_index, suc, sym, transactions, transactions_from, true, views_of, zero, ℕ, ◌%◌, ◌*◌, ◌+◌, ◌-◌, ◌<◌, ◌^◌, ◌↔◌, ◌∙◌, ◌∷◌, ◌≡◌, ◌≤◌, ◌⊎◌}
 use Rattle.std.proofs.lemmas.List.FromFn.{get_or-map-range_with_len}
 use Rattle.std.proofs.Math.Pow.{pow-lt}
 use Rattle.tmw_defs.proofs.OneMore.{joins, add_event_here, add_event_past}
-use Rattle.tmw_search.proofs.Giving.{set_or}
-use Rattle.tmw_search.proofs.Bits.{below_bits, same_place, less_of, less_has, or-left, or-right, or_either}
+use Rattle.tmw_search.proofs.Bits.{below_bits, bit_true, bit_within, masks, same_place, or-left, or-right, or_either}
 use Rattle.tmw_search.proofs.LayerSteps.{slice_get_some}
 use Rattle.tmw_search.proofs.WindowViews.{shows-views_of, last_in_time}
 
@@ -43,10 +42,6 @@ rising-le low (x ∷ ts) zero j t u r at_i at_j le =
 rising-le low (x ∷ ts) (suc i) zero t u r at_i at_j le = absurd (omega (arith, le))
 rising-le low (x ∷ ts) (suc i) (suc j) t u r at_i at_j le = rising-le x.first ts i j t u r.1 at_i at_j (omega (arith, le))
 
-bit_true : (b : Bool) → bit b ≡ 1 → b ≡ true
-bit_true true one = refl
-bit_true false one = absurd (omega (arith, one))
-
 pub rising-views : (events : List Event) → AreRising (views_of events)
 unfolding Rising
 rising-views events =
@@ -60,11 +55,7 @@ rising-views events =
     → (t : Txn) × (slice_get ts i ≡ Some t) × IsTrue (is_ended t.text) × (t.last < u.first) =
     λ i j y u at_j at_u one.
     let shown = shows.each j y u at_j at_u in
-    let within : i < length ts = elim (cases_lt i (length ts)) [
-      | inl below ↦ below
-      | inr past ↦ absurd (omega (arith, one, bit_at_above y.before (length ts) i shown.fits past))
-    ] in
-    let (t, at_t) = slice_get_some ts i within in
+    let (t, at_t) = slice_get_some ts i (bit_within y.before (length ts) i shown.fits one) in
     let (ended, less) = and_parts (is_ended t.text) _ (bit_true (precedes t u) (sym (shown.bits i t at_t) ∙ one)) in
     (t, at_t, ended, ltb-true t.last u.first less) in
     record {
@@ -190,36 +181,6 @@ rows-begin mask xs n reach before all few r rising = record {
   ];
 }
 
--- a row with those of a mask, and without
-pub row-with : (mask before place : ℕ) → place < 8 → In mask place → IsRow mask before place (bit_or (bit_and before mask) (1 * 2 ^ place % 2 ^ 8))
-row-with mask before place within own i few =
-    let both = set_or (bit_and before mask) place i within in (
-      λ is. elim (both.0 is) [
-        | inl one ↦ inr (
-          own,
-          omega (arith, one, bit_at_and before mask i, bit_at-lt before i, bit_at-lt mask i),
-          omega (arith, one, bit_at_and before mask i, bit_at-lt before i, bit_at-lt mask i),
-        )
-        | inr same ↦ inl same
-      ],
-      λ is. both.1 (elim is [
-        | inl same ↦ inr same
-        | inr (here, other, one) ↦ inl (omega (arith, other, one, bit_at_and before mask i))
-      ]),
-    )
-
-pub row-alone : (mask before place : ℕ) → place < 8 → (In mask place → ⊥) → IsRow mask before place (1 * 2 ^ place % 2 ^ 8)
-row-alone mask before place within out i few = (
-  λ is. elim (same_place i place) [
-    | inl same ↦ inl same
-    | inr apart ↦ absurd (omega (arith, is, ap (λ (m : ℕ). bit_at m i) (shift_is place within), bit_at-pow_other place i apart))
-  ],
-  λ is. elim is [
-    | inl same ↦ ap (λ (m : ℕ). bit_at m i) (shift_is place within) ∙ ap (bit_at (2 ^ place)) same ∙ bit_at-pow_same place
-    | inr (own, other, one) ↦ absurd (out own)
-  ],
-)
-
 abbrev alone : List ℕ
 alone = 1 ∷ 2 ∷ 4 ∷ 8 ∷ 16 ∷ 32 ∷ 64 ∷ 128 ∷ []
 
@@ -234,96 +195,17 @@ rows-none mask xs = record {
     | inr past ↦ omega (arith, get_or_past alone k 0 past)
   ];
   upto = λ i. (λ is. absurd (omega (arith, is, bit_at-zero i)), λ (m, x, within, at, one, less). absurd (omega (arith, within)));
-  has = λ i j few_i few_j. (
-    λ is. elim (same_place i j) [
-      | inl same ↦ inl same
-      | inr apart ↦ absurd (omega (arith, is, ap (λ (m : ℕ). bit_at m i) (alone-at j few_j), bit_at-pow_other j i apart))
-    ],
-    λ told. elim told [
-      | inl same ↦ ap (λ (m : ℕ). bit_at m i) (alone-at j few_j) ∙ ap (bit_at (2 ^ j)) same ∙ bit_at-pow_same j
-      | inr (within, own, other, under) ↦ absurd (omega (arith, within))
-    ],
-  );
+  has = λ i j few_i few_j. grind (arith, masks, alone-at j few_j);
 }
 
 -- the mask with one more looked at
-pub marks-with : (holds : View → Bool) (xs : List View) (n mask now : ℕ) (x : View) → slice_get xs n ≡ Some x → Marks holds xs n mask
-    → ((i : ℕ) → (i ≡ n → ⊥) → bit_at now i ≡ bit_at mask i) → (bit_at now n == 1) ≡ holds x → Marks holds xs (n + 1) now
-marks-with holds xs n mask now x at m others own = record {
-  below = λ i y within there. elim (same_place i n) [
-    | inl same ↦ (let is : y ≡ x = (let here : slice_get xs n ≡ Some y = rw same at there in cc) in rw (same, is) own)
-    | inr apart ↦ ap (λ (b : ℕ). b == 1) (others i apart) ∙ m.below i y (omega (arith, within, apart)) there
-  ];
-  rest = λ i past. others i (λ same. absurd (omega (arith, same, past))) ∙ m.rest i (omega (arith, past));
-}
-
 pub marks-more : (holds : View → Bool) (xs : List View) (n mask : ℕ) (x : View) → n < 8 → slice_get xs n ≡ Some x → Marks holds xs n mask
     → holds x ≡ true → Marks holds xs (n + 1) (bit_or mask (1 * 2 ^ n % 2 ^ 8))
-marks-more holds xs n mask x few at m is = marks-with holds xs n mask _ x at m (λ i apart. bit_at_set_other w8 mask n few i apart)
-    (eq-eqb _ 1 (bit_at_set_same w8 mask n few) ∙ sym is)
+marks-more holds xs n mask x few at m is = record { below = grind (arith, masks); rest = grind (arith, masks) }
 
 pub marks-same : (holds : View → Bool) (xs : List View) (n mask : ℕ) (x : View) → slice_get xs n ≡ Some x → Marks holds xs n mask
     → holds x ≡ false → Marks holds xs (n + 1) mask
-marks-same holds xs n mask x at m out =
-    marks-with holds xs n mask mask x at m (λ i apart. refl) (ap (λ (b : ℕ). b == 1) (m.rest n (omega arith)) ∙ sym out)
-
--- the masks of those that are not left
-pub record ReadsUpto (xs : List Effect) (mask : ℕ) (reads : List ℕ) (left : ℕ) : Type 0 where
-  pub size : length reads ≡ 8
-  pub fits : (k : ℕ) → slice_index reads k < 256
-  pub among : (j : ℕ) → In left j → In mask j
-  pub done : (j r : ℕ) → j < 8 → r < 8 → In (slice_index reads j) r ↔ (In mask j × (In left j → ⊥) × Needs xs j r)
-
-pub record WritersUpto (xs : List Effect) (mask : ℕ) (writers : List ℕ) (left : ℕ) : Type 0 where
-  pub among : (j : ℕ) → In left j → In mask j
-  pub done : (r k : ℕ) → r < 8 → k < 8 → In (slice_index writers r) k ↔ (In mask k × (In left k → ⊥) × Leaves xs k r)
-
-pub reads-more : (xs : List Effect) (mask : ℕ) (reads : List ℕ) (left i row : ℕ) → i < 8 → row < 256 → row ≡ (get_or xs i idle).needed
-    → In left i → ReadsUpto xs mask reads left → ReadsUpto xs mask (set reads i row) (left - 1 * 2 ^ i % 2 ^ 8)
-reads-more xs mask reads left i row within small is one u =
-    let less = less_of left i within one in
-    let long : i < length reads = omega (arith, within, u.size) in
-    record {
-      size = length-set reads i row ∙ u.size;
-      fits = λ k. elim (same_place k i) [
-        | inl same ↦ omega (arith, small, ap (slice_index (set reads i row)) same, get_or-set_same reads i row 0 long)
-        | inr apart ↦ omega (arith, u.fits k, get_or-set_other reads i k row 0 apart)
-      ];
-      among = λ j has. u.among j (less_has left i _ j less has);
-      done = λ j r within_j within_r. elim (same_place j i) [
-        | inl same ↦ rw (same, get_or-set_same reads i row 0 long, is) (
-          λ has. (u.among i one, λ still. absurd (omega (arith, still, less.new)), has),
-          λ (own, gone, needs). needs,
-        )
-        | inr apart ↦ rw (get_or-set_other reads i j row 0 apart, ← less.other j apart) (u.done j r within_j within_r)
-      ];
-    }
-
-pub writers-more : (xs : List Effect) (mask : ℕ) (writers next : List ℕ) (left i row : ℕ) → i < 8 → row ≡ (get_or xs i idle).left → In left i
-    → ((r k : ℕ) → r < 8 → k < 8 → In (slice_index next r) k ↔ (In (slice_index writers r) k ⊎ ((k ≡ i) × In row r)))
-    → WritersUpto xs mask writers left → WritersUpto xs mask next (left - 1 * 2 ^ i % 2 ^ 8)
-writers-more xs mask writers next left i row within is one adds u =
-    let less = less_of left i within one in
-    record {
-      among = λ j has. u.among j (less_has left i _ j less has);
-      done = λ r k within_r within_k. elim (same_place k i) [
-        | inl same ↦ rw same (
-          λ has. (
-            u.among i one,
-            λ still. absurd (omega (arith, still, less.new)),
-            elim ((adds r i within_r within).0 has) [ inl was ↦ ((u.done r i within_r within).0 was).2 | inr (own, in_row) ↦ rw is at in_row ],
-          ),
-          λ (own, gone, leaves). (adds r i within_r within).1 (inr (refl, rw is leaves)),
-        )
-        | inr apart ↦ rw (← less.other k apart) (
-          λ has. elim ((adds r k within_r within_k).0 has) [
-            | inl was ↦ (u.done r k within_r within_k).0 was
-            | inr (same, in_row) ↦ absurd (apart same)
-          ],
-          λ told. (adds r k within_r within_k).1 (inl ((u.done r k within_r within_k).1 told)),
-        )
-      ];
-    }
+marks-same holds xs n mask x at m out = record { below = grind (arith, masks); rest = grind arith }
 
 -- one that is held is in each serial order
 pub held-member : (criterion : Criterion) (n held i : ℕ) → i < n → In held i → In (members_of criterion n held) i

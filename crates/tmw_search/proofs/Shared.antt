@@ -39,26 +39,14 @@ pub use Rattle.tmw_defs.specs.declared.op.Op.{Op}
 pub use Rattle.tmw_defs.specs.declared.status.Status.{Status}
 pub use Rattle.tmw_defs.specs.declared.status.Status.TheVariants.{Aborted, Committed, Live, Pending}
 pub use Rattle.tmw_events.specs.declared.event.Event.{Event}
-pub use Rattle.tmw_search.specs.Chosen.{AllSettled, Chosen, ChosenBy, IsRead, SettledBy, SettledSource, Sourced, Within, WithinSource, source_at}
-pub use Rattle.tmw_search.specs.Completed.{AreEndsFrom, Completes, EndsByMore, EndsByReading, EndsFromAll}
+pub use Rattle.tmw_search.specs.Order.{AllSettled, Chosen, ChosenBy, FromStart, IfClear, IfStuck, IsBetween, IsOut, IsRead, IsSettled, IsSource, Passes, SettledBy, SettledSource, Sourced, Within, WithinSource, lives, source_at, is_open, opens, room, Before, Has, IsOrder, IsRanking, Joins, Narrows, Out}
+pub use Rattle.tmw_search.specs.Last.{Adds, AreEndsFrom, ComeBefore, ComesLast, Completes, EndWith, EndsByMore, EndsByReading, EndsFromAll, IsEndOf, IsPutLast, LeftByOne}
 pub use Rattle.tmw_search.specs.Ended.{AreEnds, AreMembers, EndsOf, Replaces, TellsEnd}
 pub use Rattle.tmw_search.specs.ForcedTransactions.{AreForced, IsForced, is_blind_writer, is_committed, is_writer}
-pub use Rattle.tmw_search.specs.Last.{Adds, ComeBefore, ComesLast, EndWith, IsEndOf, IsPutLast, LeftByOne}
-pub use Rattle.tmw_search.specs.Layers.{InLayer, LeavesNone, chosen}
-pub use Rattle.tmw_search.specs.Legal.{FromIs, Gives, HasNone, Holds, In, IsBranch, IsFound, IsLegal, IsMid, IsNode, IsSound, Leaves, MayBe, MayGive, Needs, Reads, ReadsFrom, ReadsStart, Settles, Writes, effects, idle, left_at, need_at, ordered}
-pub use Rattle.tmw_search.specs.Narrowed.{AllOpen, Entails, IsOnly, KeepsOthers, LeavesOut, NoneMay, looking}
-pub use Rattle.tmw_search.specs.Nexts.{AddsPairs, Follows, IsFirst, Makes, MakesAt}
-pub use Rattle.tmw_search.specs.Opens.{is_open, opens}
-unfoldable pub use Rattle.tmw_search.specs.Opens.{count}
-pub use Rattle.tmw_search.specs.Order.{Before, Has, IsOrder, IsRanking, Joins, Narrows, Out}
-pub use Rattle.tmw_search.specs.Pairs.{pair_cmp}
-pub use Rattle.tmw_search.specs.Polygraph.{ActAs, ActsAs, AreRanked, EndsAt, EndsIn, IsCompletion, IsLast, IsSerial, RanksTo, ShowsOrder, members_of}
-pub use Rattle.tmw_search.specs.Room.{room}
-unfoldable pub use Rattle.tmw_search.specs.Room.{lacks, room_of}
-pub use Rattle.tmw_search.specs.Rooted.{Agree, AreRising, Begins, IsRoot, IsRow, ReadsAll, orderly}
-pub use Rattle.tmw_search.specs.Settled.{FromStart, IfClear, IfStuck, IsBetween, IsOut, IsSettled, IsSource, lives}
-pub use Rattle.tmw_search.specs.ShownTransactions.{NoneBeforeItself, ShowsTransaction, ShowsTransactions}
-pub use Rattle.tmw_search.specs.WindowLaws.{Explains, HasEight, HaveEight, Marks, NoneExplains, Refutes, ShowsStatus, has_asked, has_committed}
+pub use Rattle.tmw_search.specs.Layers.{InLayer, LeavesNone, chosen, Follows, IsFirst, Makes, MakesAt, pair_cmp}
+pub use Rattle.tmw_search.specs.Legal.{AllOpen, Entails, FromIs, Gives, HasNone, Holds, In, IsBranch, IsFound, IsLegal, IsNode, IsOnly, IsSound, KeepsOthers, Leaves, LeavesOut, MayBe, MayGive, Needs, NoneMay, TakesIn, Reads, ReadsFrom, ReadsStart, Settles, Writes, effects, idle, left_at, looking, need_at, ordered}
+unfoldable pub use Rattle.tmw_search.specs.Order.{room_of}
+pub use Rattle.tmw_search.specs.Polygraph.{ActAs, ActsAs, AreRanked, EndsAt, EndsIn, IsCompletion, IsLast, IsSerial, RanksTo, ShowsOrder, members_of, Agree, AreRising, Begins, Explains, HasEight, HaveEight, IsRoot, IsRow, Marks, NoneBeforeItself, NoneExplains, ReadsAll, Refutes, ShowsStatus, ShowsTransaction, ShowsTransactions, has_asked, has_committed, orderly}
 pub use Rattle.tmw_search.specs.declared.node.Branch.{Branch}
 pub use Rattle.tmw_search.specs.declared.node.Node.{Node}
 pub use Rattle.tmw_search.specs.declared.settle.Found.{Found}

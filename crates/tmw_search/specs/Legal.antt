@@ -1,5 +1,5 @@
--- Which orders of a node are legal.
-use Rattle.std.specs.Prelude.{◌≡◌, ◌⊎◌, ◌↔◌, ◌<◌, ◌≤◌, ℕ, false, List, [], map, slice_index, get_or, IsTrue}
+-- Which orders of a node are legal, and what follows from its reads.
+use Rattle.std.specs.Prelude.{◌≡◌, ◌⊎◌, ◌↔◌, ◌<◌, ◌≤◌, ℕ, false, List, [], map, slice_index, get_or, IsTrue, Bool, IsFalse}
 use Rattle.std.specs.Int.{bit_at}
 use Rattle.tmw_defs.specs.Opaque.{State}
 use Rattle.tmw_search.specs.declared.sources.Source.{Source}
@@ -9,8 +9,7 @@ use Rattle.tmw_cuts.specs.declared.txn.Txn.{Txn}
 use Rattle.tmw_cuts.specs.Views.{effect_of}
 use Rattle.tmw_search.specs.declared.node.Node.{Node}
 use Rattle.tmw_search.specs.declared.node.Branch.{Branch}
-use Rattle.tmw_search.specs.Order.{Has, IsOrder, IsRanking}
-use Rattle.tmw_search.specs.Chosen.{IsRead, source_at}
+use Rattle.tmw_search.specs.Order.{Has, IsOrder, IsRanking, IsRead, source_at}
 
 -- At a place without a transaction: it is never a member, since it does not agree with itself.
 abbrev pub idle : Effect
@@ -138,29 +137,57 @@ pub record MayBe (xs : List Effect) (node : Node) (j r i : ℕ) : Type 0 where
   pub agrees : IsTrue (get_or xs i idle).agrees
   pub free : Has node.reach j i → ⊥
 
--- The other node is the one with this transaction held.
-pub record Holds (xs : List Effect) (start : State) (may i : ℕ) (old new : Node) : Type 0 where
-  pub is : IsNode xs start may new
-  pub reach : new.reach ≡ old.reach
-  pub sources : new.choices.sources ≡ old.choices.sources
-  pub held : (k : ℕ) → k < 8 → In new.held k ↔ (In old.held k ⊎ (k ≡ i))
-  pub members : (k : ℕ) → k < 8 → In new.members k ↔ (In old.members k ⊎ (k ≡ i))
-  pub reads : (a q : ℕ) → a < 8 → q < 8 → IsRead old.choices a q → IsRead new.choices a q
-
 -- the source is this one
 abbrev pub FromIs : Source → ℕ → Type 0
 FromIs Open k = ⊥
 FromIs Start k = ⊥
 FromIs (From i) k = k ≡ i
 
--- the node in which the source is held
-pub record IsMid (xs : List Effect) (start : State) (may : ℕ) (source : Source) (node mid : Node) : Type 0 where
-  pub is : IsNode xs start may mid
-  pub reach : mid.reach ≡ node.reach
-  pub sources : mid.choices.sources ≡ node.choices.sources
-  pub held : (k : ℕ) → k < 8 → In node.held k → In mid.held k
-  pub only : (k : ℕ) → k < 8 → In mid.held k → In node.held k ⊎ FromIs source k
-  pub members : (k : ℕ) → k < 8 → In node.members k → In mid.members k
-  pub members_only : (k : ℕ) → k < 8 → In mid.members k → In node.members k ⊎ FromIs source k
-  pub has : (k : ℕ) → k < 8 → FromIs source k → In mid.held k
-  pub reads : (a q : ℕ) → a < 8 → q < 8 → IsRead node.choices a q → IsRead mid.choices a q
+-- The other node is the one with the source held, if it is a transaction.
+pub record Holds (xs : List Effect) (start : State) (may : ℕ) (source : Source) (old new : Node) : Type 0 where
+  pub is : IsNode xs start may new
+  pub reach : new.reach ≡ old.reach
+  pub sources : new.choices.sources ≡ old.choices.sources
+  pub held : (k : ℕ) → k < 8 → In new.held k ↔ (In old.held k ⊎ FromIs source k)
+  pub members : (k : ℕ) → k < 8 → In new.members k ↔ (In old.members k ⊎ FromIs source k)
+  pub reads : (a q : ℕ) → a < 8 → q < 8 → IsRead old.choices a q → IsRead new.choices a q
+
+-- The legal orders of the one are those of the other, and there are none if the answer is no.
+pub record Entails (xs : List Effect) (start : State) (may : ℕ) (old new : Node) (alive : Bool) : Type 0 where
+  pub is : IsTrue alive → IsNode xs start may new
+  pub into : (held : ℕ) (rank : ℕ → ℕ) → IsTrue alive → IsLegal xs start may new held rank → IsLegal xs start may old held rank
+  pub onto : (held : ℕ) (rank : ℕ → ℕ) → IsLegal xs start may old held rank → IsTrue alive × IsLegal xs start may new held rank
+
+-- What is known of each other read has stayed.
+abbrev pub KeepsOthers : ℕ → ℕ → Node → Node → Type 0
+KeepsOthers j r old new = (a q : ℕ) → a < 8 → q < 8 → ((a ≡ j) × (q ≡ r) → ⊥) → IsRead old.choices a q
+    → IsRead new.choices a q × (source_at new.choices a q ≡ source_at old.choices a q)
+
+-- What follows from the read is known.
+pub record TakesIn (xs : List Effect) (start : State) (may j r : ℕ) (old new : Node) (alive : Bool) : Type 0 where
+  pub follows : Entails xs start may old new alive
+  pub others : KeepsOthers j r old new
+
+-- The node with these reads looked at.
+abbrev pub looking : Node → List ℕ → Node
+looking node reads = record node { choices = record node.choices { reads = reads } }
+
+-- No read but this one is left out, if any.
+pub record LeavesOut (j r : ℕ) (old new : Node) : Type 0 where
+  pub is : new ≡ looking old new.choices.reads
+  pub only : (a q : ℕ) → a < 8 → q < 8 → IsRead new.choices a q → IsRead old.choices a q
+  pub kept : (a q : ℕ) → a < 8 → q < 8 → ((a ≡ j) × (q ≡ r) → ⊥) → IsRead old.choices a q → IsRead new.choices a q
+
+-- None of these may write the register.
+abbrev pub NoneMay : List Effect → ℕ → ℕ → Type 0
+NoneMay xs may r = (k : ℕ) → k < 8 → In may k → Leaves xs k r → ⊥
+
+-- It is the one source that the branch offers.
+abbrev pub IsOnly : Branch → Source → Type 0
+IsOnly b Open = ⊥
+IsOnly b Start = IsTrue b.start × (b.writers ≡ 0)
+IsOnly b (From i) = IsFalse b.start × (i < 8) × In b.writers i × ((k : ℕ) → k < 8 → In b.writers k → k ≡ i)
+
+-- The reads that the masks tell of are looked at, and no source of them is chosen.
+abbrev pub AllOpen : List ℕ → Node → Type 0
+AllOpen reads node = (a q : ℕ) → a < 8 → q < 8 → In (slice_index reads a) q → IsRead node.choices a q × (source_at node.choices a q ≡ Open)

@@ -3,13 +3,10 @@ ghost use Rattle.std.specs.Prelude.{◌≡◌, ◌↔◌, ◌<◌, ◌≤◌, �
 ghost use Rattle.std.specs.List.{Contains};
 ghost use Rattle.tmw_cuts.specs.Members.{members};
 ghost use Rattle.tmw_defs.specs.Opaque.{State};
-ghost use Rattle.tmw_search.specs.Chosen.{IsRead};
-ghost use Rattle.tmw_search.specs.Completed.{AreEndsFrom, EndsByReading, EndsFromAll, EndsByMore};
-ghost use Rattle.tmw_search.specs.Last.{IsEndOf, Adds};
-ghost use Rattle.tmw_search.specs.Legal.{In, effects, IsNode};
-ghost use Rattle.tmw_search.specs.Narrowed.{AllOpen, Entails};
-ghost use Rattle.tmw_search.specs.Order.{IsOrder};
-ghost use Rattle.tmw_search.specs.Rooted.{ReadsAll};
+ghost use Rattle.tmw_search.specs.Order.{IsRead, IsOrder};
+ghost use Rattle.tmw_search.specs.Last.{AreEndsFrom, EndsByReading, EndsFromAll, EndsByMore, IsEndOf, Adds};
+ghost use Rattle.tmw_search.specs.Legal.{In, effects, IsNode, AllOpen, Entails};
+ghost use Rattle.tmw_search.specs.Polygraph.{ReadsAll};
 
 use crate::end_states::EndStates;
 use crate::found::Found;

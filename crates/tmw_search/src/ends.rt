@@ -62,7 +62,7 @@ pub fn replace_by_outcomes(
 {
     if let Some(end) = known {
         if states.len() == 1 && cap > 0 && window.is_cut() && is_forced(window.transactions()) {
-            states.put_only(end);
+            states.put_only(&end);
             return Ok(true);
         }
     }

@@ -1,11 +1,9 @@
 //! Looks for a legal serial order of a window's transactions.
-ghost use Rattle.std.specs.Prelude.{◌≡◌, ◌<◌, ◌≤◌, ℕ, IfSome, MatchOption, is_some, length};
+ghost use Rattle.std.specs.Prelude.{◌≡◌, ◌<◌, ◌≤◌, IfSome, MatchOption, is_some, length};
 ghost use Rattle.std.specs.List.{Contains};
 ghost use Rattle.tmw_cuts.specs.Members.{members};
 ghost use Rattle.tmw_search.specs.Ended.{TellsEnd};
-ghost use Rattle.tmw_search.specs.Legal.{effects, HasNone, In, IsFound, IsNode};
-ghost use Rattle.tmw_search.specs.Narrowed.{AllOpen, NoneMay};
-ghost use Rattle.tmw_search.specs.WindowLaws.{Explains, NoneExplains};
+ghost use Rattle.tmw_search.specs.Polygraph.{Explains, NoneExplains};
 
 use crate::node::Node;
 use crate::reads::{read_all, written_by};
@@ -20,21 +18,6 @@ use tmw_defs::Criterion;
 struct Explained {
     start: State,
     node: Node,
-}
-
-/// Looks for an order of the root from this state. `written` has the registers that pending transactions may write.
-fn find_from(items: &[Txn], start: &State, may: u8, written: u8, root: &Node) -> Option<Node>
-    requires node { IsNode (effects items.now) start.now may root.now }
-    requires written { (r : ℕ) → r < 8 → (In written r → ⊥) → NoneMay (effects items.now) may r }
-    requires waits { AllOpen root.now.choices.reads root.now }
-    ensures { MatchOption result (HasNone (effects items.now) start.now may root.now)
-        (λ found. IsFound (effects items.now) start.now may root.now found) }
-{
-    let mut node = *root;
-    if !read_all(items, start, may, written, &mut node) {
-        return None;
-    }
-    any(items, start, may, &node)
 }
 
 /// Looks for a state of these from which the transactions have a legal serial order, and for the order.
@@ -52,14 +35,17 @@ fn find_in(criterion: Criterion, items: &[Txn], starts: &[State]) -> Option<Expl
     let may = statuses.pending;
     let written = written_by(items, may);
     for start in starts {
-        match find_from(items, start, may, written, &root) {
-            Some(node) => {
-                return Some(Explained {
-                    start: *start,
-                    node,
-                });
+        let mut node = root;
+        if read_all(items, start, may, written, &mut node) {
+            match any(items, start, may, &node) {
+                Some(node) => {
+                    return Some(Explained {
+                        start: *start,
+                        node,
+                    });
+                }
+                None => {}
             }
-            None => {}
         }
     }
     None

@@ -1,11 +1,10 @@
 //! The ends of a node's orders: one register after another, one of its writers is taken for the last.
 ghost use Rattle.std.specs.Prelude.{◌≡◌, ◌↔◌, ◌<◌, ◌≤◌, IsTrue, IsFalse, ℕ, slice_index, IfOk, IfSome, IfNone, OnOk, length, true};
 ghost use Rattle.tmw_cuts.specs.Members.{members};
-ghost use Rattle.tmw_search.specs.Chosen.{IsRead, Within};
+ghost use Rattle.tmw_search.specs.Order.{IsRead, Within, Has, IsOrder, Narrows};
 ghost use Rattle.tmw_search.specs.Last.{ComeBefore, IsEndOf, EndWith, IsPutLast, LeftByOne, Adds};
 ghost use Rattle.tmw_search.specs.Legal.{In, effects, left_at, ordered, IsNode};
 ghost use Rattle.tmw_defs.specs.Opaque.{State};
-ghost use Rattle.tmw_search.specs.Order.{Has, IsOrder, Narrows};
 
 use crate::effects::left_at;
 use crate::found::Found;
@@ -171,8 +170,7 @@ fn last_of(reach: &[u8; 8], writers: u8) -> Option<usize>
 fn known_end(items: &[Txn], node: &Node, register: usize, held: u64) -> Option<u64>
     requires { register < 8 }
     ensures some { IfSome result (λ value. EndWith (effects items.now) node.now register held value) }
-    ensures none { IfNone result
-        ((k : ℕ) × (k < 8) × In (slice_index node.now.choices.writers register) k) }
+    ensures none { IfNone result (slice_index node.now.choices.writers register ≡ 0 → ⊥) }
 {
     let writers = node.choices.writers[register];
     if writers == 0 {
@@ -190,7 +188,7 @@ pub fn put_known(items: &[Txn], node: &Node, end: &mut State) -> u8
         → IsEndOf (effects items.now) start node.now 255 end.old e
         ↔ IsEndOf (effects items.now) start node.now result end.new e }
     ensures written { (r : ℕ) → r < 8 → In result r
-        → (k : ℕ) × (k < 8) × In (slice_index node.now.choices.writers r) k }
+        → slice_index node.now.choices.writers r ≡ 0 → ⊥ }
 {
     let mut registers = 255u8;
     for r in 0..8usize {
@@ -219,7 +217,7 @@ pub fn add_last(
 ) -> Result<bool, AllocError>
     requires node { IsNode (effects items.now) start.now 0 (ordered node.now reach.now) }
     requires written { (r : ℕ) → r < 8 → In registers r
-        → (k : ℕ) × (k < 8) × In (slice_index node.now.choices.writers r) k }
+        → slice_index node.now.choices.writers r ≡ 0 → ⊥ }
     ensures adds { IfOk result (λ done. Adds done (members found.old.ends) (members found.new.ends)
         (IsEndOf (effects items.now) start.now (ordered node.now reach.now) registers end.now)) }
     ensures cap { found.new.cap ≡ found.old.cap }

@@ -2,6 +2,7 @@
 //! whom and who reads from whom. Layers tell by opacity what each part of the window may end in.
 #![tactic(auto)]
 
+#[tactic(auto, using(crate::proofs::Bits::masks))]
 mod completions;
 mod effects;
 mod end_states;
@@ -9,14 +10,18 @@ mod ends;
 mod find;
 mod forced;
 mod found;
+#[tactic(auto, using(crate::proofs::Bits::masks))]
 mod last;
 mod layers;
 mod nexts;
 mod node;
 mod order;
 mod pass;
+#[tactic(auto, using(crate::proofs::Bits::masks))]
 mod reads;
+#[tactic(auto, using(crate::proofs::Bits::masks))]
 mod root;
+#[tactic(auto, using(crate::proofs::Bits::masks))]
 mod search;
 mod settle;
 mod sources;

@@ -1,7 +1,8 @@
-ghost use Rattle.std.specs.Prelude.{◌≡◌, ◌↔◌, ◌<◌, ◌≤◌, OnOk, IsTrue, length, map};
+ghost use Rattle.std.specs.Prelude.{◌≡◌, ◌↔◌, ◌<◌, ◌≤◌, OnOk, IsTrue, length, map, true};
 ghost use Rattle.tmw_cuts.specs.Views.{view};
 ghost use Rattle.tmw_defs.specs.Opaque.{may_hold};
-ghost use Rattle.tmw_search.specs.Nexts.{MayCome, Makes, Follows, AddsPairs};
+ghost use Rattle.tmw_search.specs.Last.{Adds};
+ghost use Rattle.tmw_search.specs.Layers.{MayCome, Makes, Follows};
 
 use std::alloc::AllocError;
 use tmw_cuts::{State, Txn};
@@ -38,7 +39,7 @@ fn push_next(
     reached: &Reached,
 ) -> Result<(), AllocError>
     requires { place < 8 }
-    ensures { OnOk result (AddsPairs nexts.old.items nexts.new.items
+    ensures { OnOk result (Adds true nexts.old.items nexts.new.items
         (Makes (view item.now) place held reached.now)) }
 {
     let (mask, state) = *reached;
@@ -60,7 +61,8 @@ pub fn push_nexts(
     reached: &Reached,
 ) -> Result<(), AllocError>
     requires { length items.now ≤ 8 }
-    ensures { OnOk result (AddsPairs nexts.old.items nexts.new.items (Follows (map view items.now) reached.now)) }
+    ensures { OnOk result (Adds true nexts.old.items nexts.new.items
+        (Follows (map view items.now) reached.now)) }
 {
     for (place, item) in items.iter().enumerate() {
         push_next(nexts, item, place, true, reached)?;

@@ -1,17 +1,6 @@
 ghost use Rattle.std.specs.Prelude.{◌≡◌, ◌↔◌, ◌<◌, IsTrue, ℕ, slice_index};
 ghost use Rattle.std.specs.Int.{bit_at};
-ghost use Rattle.tmw_search.specs.Order.{Has, IsOrder, Narrows};
-ghost use Rattle.tmw_search.specs.Settled.{IfClear, IfStuck, lives};
-ghost use Rattle.tmw_search.specs.Chosen.{
-  Sourced,
-  SettledSource,
-  WithinSource,
-  ChosenBy,
-  Chosen,
-  SettledBy,
-  AllSettled,
-  Within,
-};
+ghost use Rattle.tmw_search.specs.Order.{Has, IsOrder, Narrows, IfClear, IfStuck, Passes, lives, Sourced, SettledSource, WithinSource, ChosenBy, Chosen, SettledBy, AllSettled, Within};
 
 use crate::settle::{Found, settle_read, settle_start};
 use crate::sources::{Choices, Source};
@@ -23,9 +12,8 @@ pub fn settle_source(reach: &mut [u8; 8], writers: u8, j: usize, source: Source)
     requires second { j < 8 }
     requires within { WithinSource source }
     requires order { IsOrder reach.now }
-    ensures narrows { Narrows (Sourced writers j source) reach.old reach.new (lives result) }
-    ensures clear { IfClear result (SettledSource writers j source reach.new) }
-    ensures stuck { IfStuck result (Sourced writers j source) reach.old }
+    ensures { Passes (Sourced writers j source) (SettledSource writers j source)
+        reach.old reach.new result }
 {
     match source {
         Source::Open => Found::Clear,
@@ -46,9 +34,7 @@ fn settle_reads(reach: &mut [u8; 8], choices: &Choices, j: usize) -> Found
     requires second { j < 8 }
     requires within { Within choices.now }
     requires order { IsOrder reach.now }
-    ensures narrows { Narrows (ChosenBy choices.now j) reach.old reach.new (lives result) }
-    ensures clear { IfClear result (SettledBy choices.now j reach.new) }
-    ensures stuck { IfStuck result (ChosenBy choices.now j) reach.old }
+    ensures { Passes (ChosenBy choices.now j) (SettledBy choices.now j) reach.old reach.new result }
 {
     let mut found = Found::Clear;
     let mut left = choices.reads[j];
@@ -68,9 +54,7 @@ fn settle_reads(reach: &mut [u8; 8], choices: &Choices, j: usize) -> Found
 fn settle_once(reach: &mut [u8; 8], choices: &Choices) -> Found
     requires within { Within choices.now }
     requires order { IsOrder reach.now }
-    ensures narrows { Narrows (Chosen choices.now) reach.old reach.new (lives result) }
-    ensures clear { IfClear result (AllSettled choices.now reach.new) }
-    ensures stuck { IfStuck result (Chosen choices.now) reach.old }
+    ensures { Passes (Chosen choices.now) (AllSettled choices.now) reach.old reach.new result }
 {
     let mut found = Found::Clear;
     for j in 0..8usize {

@@ -1,9 +1,8 @@
 //! What follows at once from each read, before the search branches.
 ghost use Rattle.std.specs.Prelude.{◌≡◌, ◌<◌, ℕ, IsTrue, IsFalse, MatchOption, IfSome, IfNone, slice_index};
-ghost use Rattle.tmw_search.specs.Chosen.{IsRead, source_at};
+ghost use Rattle.tmw_search.specs.Order.{IsRead, source_at};
 ghost use Rattle.tmw_search.specs.declared.sources.Source.TheVariants.{Open};
-ghost use Rattle.tmw_search.specs.Legal.{effects, need_at, In, IsNode, IsBranch};
-ghost use Rattle.tmw_search.specs.Narrowed.{AllOpen, Entails, IsOnly, KeepsOthers, LeavesOut, NoneMay};
+ghost use Rattle.tmw_search.specs.Legal.{effects, need_at, In, IsNode, IsBranch, AllOpen, Entails, IsOnly, LeavesOut, NoneMay, TakesIn};
 
 use crate::effects::{need_at, written_at};
 use crate::node::{Branch, Node};
@@ -57,8 +56,8 @@ fn give_only(
     requires branch { IsBranch (effects items.now) start.now may node.now branch.now }
     requires only { IsOnly branch.now source }
     requires free { IsTrue free → NoneMay (effects items.now) may branch.now.register }
-    ensures follows { Entails (effects items.now) start.now may node.old node.new result }
-    ensures others { KeepsOthers branch.now.reader branch.now.register node.old node.new }
+    ensures { TakesIn (effects items.now) start.now may branch.now.reader branch.now.register
+        node.old node.new result }
 {
     let j = branch.reader;
     let r = branch.register;
@@ -92,8 +91,7 @@ fn read_one(
     requires open { source_at node.now.choices j r ≡ Open }
     requires node { IsNode (effects items.now) start.now may node.now }
     requires free { IsTrue free → NoneMay (effects items.now) may r }
-    ensures follows { Entails (effects items.now) start.now may node.old node.new result }
-    ensures others { KeepsOthers j r node.old node.new }
+    ensures { TakesIn (effects items.now) start.now may j r node.old node.new result }
 {
     if free && node.choices.writers[r] & !(1 << j) == 0 {
         leave_out(node, j, r);

@@ -5,9 +5,7 @@ ghost use Rattle.tmw_defs.specs.Opaque.{State};
 ghost use Rattle.tmw_search.specs.declared.sources.Source.TheVariants.{Open};
 ghost use Rattle.tmw_search.specs.Legal.{In, effects, IsNode};
 ghost use Rattle.tmw_search.specs.Order.{IsOrder};
-ghost use Rattle.tmw_search.specs.Polygraph.{members_of};
-ghost use Rattle.tmw_search.specs.Rooted.{Agree, Begins, IsRow, IsRoot, AreRising, ShowReads, ShowWriters, orderly};
-ghost use Rattle.tmw_search.specs.WindowLaws.{HaveEight, ShowsStatus};
+ghost use Rattle.tmw_search.specs.Polygraph.{members_of, Agree, Begins, IsRow, IsRoot, AreRising, ShowReads, ShowWriters, orderly, HaveEight, ShowsStatus};
 
 use crate::effects::{agrees, needed_at, written_at};
 use crate::node::Node;

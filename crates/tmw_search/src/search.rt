@@ -1,12 +1,10 @@
 ghost use Rattle.std.specs.Prelude.{◌≡◌, ◌⊎◌, ◌↔◌, ◌<◌, IsTrue, ℕ, slice_index, get_or, MatchOption, None};
 ghost use Rattle.std.specs.Int.{bit_at};
-ghost use Rattle.tmw_search.specs.Chosen.{IsRead, WithinSource, source_at};
+ghost use Rattle.tmw_search.specs.Order.{IsRead, WithinSource, source_at, opens, Has};
 ghost use Rattle.tmw_search.specs.declared.sources.Source.{Source};
-ghost use Rattle.tmw_search.specs.declared.sources.Source.TheVariants.{Open};
-ghost use Rattle.tmw_search.specs.Opens.{opens};
+ghost use Rattle.tmw_search.specs.declared.sources.Source.TheVariants.{From, Open};
 ghost use Rattle.tmw_defs.specs.Opaque.{State};
-ghost use Rattle.tmw_search.specs.Order.{Has};
-ghost use Rattle.tmw_search.specs.Legal.{effects, left_at, Leaves, In, Holds, IsMid, FromIs, idle, MayBe, IsNode, IsFound, HasNone, IsBranch, MayGive, Gives};
+ghost use Rattle.tmw_search.specs.Legal.{effects, left_at, In, Holds, FromIs, idle, MayBe, IsNode, IsFound, HasNone, IsBranch, MayGive, Gives};
 
 use crate::effects::{agrees, left_at, need_at, needed_at, written_at};
 use crate::node::{Branch, Node};
@@ -34,7 +32,7 @@ fn hold(items: &[Txn], node: &mut Node, i: usize)
     requires { i < 8 }
     ensures { (start : State) (may : ℕ) → IsNode (effects items.now) start may node.old
         → In node.old.held i ⊎ (In may i × IsTrue (get_or (effects items.now) i idle).agrees)
-        → Holds (effects items.now) start may i node.old node.new }
+        → Holds (effects items.now) start may (From i) node.old node.new }
 {
     if node.held >> i & 1 == 1 {
         return;
@@ -53,7 +51,7 @@ fn hold_source(items: &[Txn], node: &mut Node, source: Source)
     ensures { (start : State) (may : ℕ) → IsNode (effects items.now) start may node.old
         → ((i : ℕ) → FromIs source i
         → In node.old.held i ⊎ (In may i × IsTrue (get_or (effects items.now) i idle).agrees))
-        → IsMid (effects items.now) start may source node.old node.new }
+        → Holds (effects items.now) start may source node.old node.new }
 {
     match source {
         Source::Open => {}
@@ -85,17 +83,6 @@ pub fn give(
     node.choices.sources[8 * j + r] = source;
 }
 
-/// Tells whether the transaction leaves the value in the register.
-#[inline(always)]
-fn leaves(items: &[Txn], i: usize, r: usize, value: u64) -> bool
-    requires { r < 8 }
-    ensures { IsTrue result ↔ Leaves (effects items.now) i r
-        × (left_at (effects items.now) i r ≡ value)
-        × IsTrue (get_or (effects items.now) i idle).agrees }
-{
-    written_at(items, i) >> r & 1 == 1 && left_at(items, i, r) == value && agrees(items, i)
-}
-
 /// Tells whether the read may have its value from the transaction.
 #[inline(always)]
 fn may_give(items: &[Txn], node: &Node, i: usize, j: usize, r: usize) -> bool
@@ -104,7 +91,10 @@ fn may_give(items: &[Txn], node: &Node, i: usize, j: usize, r: usize) -> bool
     requires register { r < 8 }
     ensures { IsTrue result ↔ MayBe (effects items.now) node.now j r i }
 {
-    leaves(items, i, r, need_at(items, j, r)) && !has(&node.reach, j, i)
+    written_at(items, i) >> r & 1 == 1
+        && left_at(items, i, r) == need_at(items, j, r)
+        && agrees(items, i)
+        && !has(&node.reach, j, i)
 }
 
 /// Tells whether one of the mask comes before the transaction.

@@ -1,28 +1,9 @@
 ghost use Rattle.std.specs.Prelude.{◌≡◌, ◌<◌, IsTrue, ℕ};
 ghost use Rattle.std.specs.Int.{bit_at};
-ghost use Rattle.tmw_search.specs.Order.{Has, IsOrder, Narrows, Out};
-ghost use Rattle.tmw_search.specs.Settled.{
-  IsSource,
-  FromStart,
-  IsOut,
-  IsSettled,
-  IfClear,
-  IfStuck,
-  ByStep,
-  step_lives,
-  lives,
-};
+ghost use Rattle.tmw_search.specs.Order.{Has, IsOrder, Narrows, Out, IsSource, FromStart, IsOut, IsSettled, IfClear, IfStuck, Passes, lives};
 
 use crate::order::{has, precede};
 use tmw_cuts::lowest;
-
-/// On which side of two another is.
-#[derive(Clone, Copy, Drop)]
-pub enum Step {
-    Dead,
-    Decided,
-    Undecided,
-}
 
 /// What follows from the sources: that there is no order, that all of them are so, or that one may still be on either
 /// side of two.
@@ -48,32 +29,33 @@ impl Found {
 
 /// Keeps one from between the other two.
 #[inline(always)]
-fn keep_out(reach: &mut [u8; 8], k: usize, i: usize, j: usize) -> Step
+fn keep_out(reach: &mut [u8; 8], k: usize, i: usize, j: usize) -> Found
     requires first { i < 8 }
     requires second { j < 8 }
     requires third { k < 8 }
     requires order { IsOrder reach.now }
-    ensures narrows { Narrows (Out k i j) reach.old reach.new (step_lives result) }
-    ensures settled { ByStep result (IsOut reach.new k i j) (IsOut reach.old k i j → ⊥) }
+    ensures narrows { Narrows (Out k i j) reach.old reach.new (lives result) }
+    ensures clear { IfClear result (IsOut reach.new k i j) }
+    ensures stuck { IfStuck result (Out k i j) reach.old }
 {
     if has(reach, k, i) || has(reach, j, k) {
-        return Step::Decided;
+        return Found::Clear;
     }
     if has(reach, k, j) {
         return if precede(reach, k, i) {
-            Step::Decided
+            Found::Clear
         } else {
-            Step::Dead
+            Found::Never
         };
     }
     if has(reach, i, k) {
         return if precede(reach, j, k) {
-            Step::Decided
+            Found::Clear
         } else {
-            Step::Dead
+            Found::Never
         };
     }
-    Step::Undecided
+    Found::Stuck(i, j, k)
 }
 
 /// Keeps the others of these from between the source and its read.
@@ -81,9 +63,7 @@ pub fn settle_read(reach: &mut [u8; 8], i: usize, j: usize, writers: u8) -> Foun
     requires first { i < 8 }
     requires second { j < 8 }
     requires order { IsOrder reach.now }
-    ensures narrows { Narrows (IsSource writers i j) reach.old reach.new (lives result) }
-    ensures clear { IfClear result (IsSettled writers i j reach.new) }
-    ensures stuck { IfStuck result (IsSource writers i j) reach.old }
+    ensures { Passes (IsSource writers i j) (IsSettled writers i j) reach.old reach.new result }
 {
     if has(reach, j, i) || !precede(reach, i, j) {
         return Found::Never;
@@ -94,9 +74,9 @@ pub fn settle_read(reach: &mut [u8; 8], i: usize, j: usize, writers: u8) -> Foun
         let k = lowest(left);
         left -= 1 << k;
         match keep_out(reach, k, i, j) {
-            Step::Dead => return Found::Never,
-            Step::Decided => {}
-            Step::Undecided => found = Found::Stuck(i, j, k),
+            Found::Never => return Found::Never,
+            Found::Clear => {}
+            Found::Stuck(a, b, k) => found = Found::Stuck(a, b, k),
         }
     }
     found

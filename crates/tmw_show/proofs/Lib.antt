@@ -1,4 +1,3 @@
-mod Appends
 mod Explained
 mod GivenFaults
 mod Shared

@@ -1,6 +1,6 @@
 -- What the proofs of this crate take from the libraries, from the crates below and from its specs.
-pub use Rattle.std.proofs.Common.{All, Bool, Err, IsTrue, List, Ok, Result, [], add-one, ap, append-nil, append_assoc, arith, codes, decimal, drop, drop-cons, false, find, inl, inr, length, map, max, refl, rules, subst, sym, take-append-drop, true, ℕ, ◌++◌, ◌+◌, ◌-◌, ◌<◌, ◌==◌, ◌^◌, ◌∙◌, ◌∷◌, ◌≡◌, ◌≢◌, ◌≤◌}
-pub use Rattle.std.proofs.lemmas.List.{drop_all, length-drop, length-take, replicate-append-replicate}
+pub use Rattle.std.proofs.Common.{All, Bool, Err, IsTrue, List, Ok, Result, [], ap, append-nil, append_assoc, arith, drop, false, inl, inr, length, map, max, refl, rules, subst, sym, take-append-drop, true, ℕ, ◌++◌, ◌+◌, ◌-◌, ◌<◌, ◌==◌, ◌^◌, ◌∙◌, ◌∷◌, ◌≡◌, ◌≢◌, ◌≤◌}
+pub use Rattle.std.proofs.lemmas.List.{length-drop, length-take, replicate-append-replicate}
 pub use Rattle.std.specs.List.{AllByRecursion, Contains, flat_map, list_all}
 pub use Rattle.std.specs.Prelude.{IfErr, IfOk, get_or, take}
 pub use Rattle.tmw_cuts.specs.Members.{members}
@@ -30,10 +30,8 @@ pub use Rattle.tmw_window.specs.StatesLaw.{FitsRegisters, StatesLaw}
 pub use Rattle.tmw_window.specs.WindowLaw.{IsJudgedAlike, WindowLaw, at_end}
 pub use Rattle.tmw_window.specs.declared.showing.Showing.{Showing}
 pub use Rattle.tmw_show.specs.Drawing.{blanks, last_thread, rows_text}
-pub use Rattle.tmw_show.specs.Explaining.{IsNeededOf, IsShownFor, IsViolation, marks_of, reason_of}
-pub use Rattle.tmw_show.specs.Page.{about_json, criterion_json, event_json, json_text, list_json, mark_json, needed_json, state_json, told_of, why_json, window_json}
+pub use Rattle.tmw_show.specs.Explaining.{IsNeededOf, IsShownFor, IsViolation, marks_of}
 pub use Rattle.tmw_show.specs.Running.{AnswersShow, IsShownOf, shown_events}
-pub use Rattle.tmw_show.specs.Sentences.{clause_text, end_text, step_text, told_sentence}
 pub use Rattle.tmw_show.specs.TracesLaw.{AreJudgedLike, IsContradictory, IsHeaderFor, TellOf, TracesLaw, rules_from}
 pub use Rattle.tmw_show.specs.Values.{long_values, names_from, values_after}
 pub use Rattle.tmw_show.specs.declared.command.needed.Needed.{Needed}

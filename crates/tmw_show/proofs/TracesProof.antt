@@ -1,11 +1,12 @@
 -- The traces that are written of what is shown are judged as the run is.
-use Rattle.tmw_show.proofs.Shared.{All, AllByRecursion, AreJudgedLike, Bool, Bounds, Contains, Criterion, Event, FindsPart, FitsKind, FitsRegisters, HasOrderBy, Header, IsContradictory, IsFinalBy, IsHeaderFor, IsJudgedAlike, IsNeededOf, IsShowing, IsVerdict, IsViolated, List, Needed, NotViolated, One, Opacity, Part, Registers, Shown, State, StatesLaw, Strict, TellOf, TracesLaw, Two, Unasked, Verdict, Version, WindowLaw, [], ap, arith, at_end, drop, false, get_or, inl, inr, length, list_all, map, marks_of, members, refl, rules_for, rules_from, shown_events, shown_length, subst, sym, take, take-append-drop, transactions, true, ℕ, ◌==◌, ◌^◌, ◌∙◌, ◌∷◌, ◌≡◌, ◌≢◌, ◌≤◌}
+use Rattle.tmw_show.proofs.Shared.{All, AllByRecursion, AreJudgedLike, Bool, Bounds, Contains, Criterion, Event, FindsPart, FitsKind, FitsRegisters, HasOrderBy, Header, IsContradictory, IsFinalBy, IsHeaderFor, IsJudgedAlike, IsNeededOf, IsShowing, IsVerdict, IsViolated, List, Needed, One, Opacity, Part, Registers, Shown, State, StatesLaw, Strict, TellOf, TracesLaw, Two, Verdict, Version, WindowLaw, [], ap, arith, at_end, drop, false, get_or, inl, inr, length, list_all, map, marks_of, members, refl, rules_for, rules_from, shown_events, shown_length, subst, sym, take, take-append-drop, transactions, true, ℕ, ◌==◌, ◌^◌, ◌∙◌, ◌∷◌, ◌≡◌, ◌≢◌, ◌≤◌}
 use Rattle.std.proofs.lemmas.Bool.{and_parts}
 use Rattle.std.proofs.lemmas.List.Elements.{All-contains, All-drop, All-from_recursion, All-take, Contains-get_or, recursion_from_All}
 use Rattle.std.proofs.lemmas.List.Folds.{list_all-append}
 use Rattle.tmw_trace.specs.Start.{is_start}
 use Rattle.tmw_defs.specs.declared.verdict.Verdict.TheVariants.{Violated}
-use Rattle.tmw_part.specs.Kept.{all_kept, kept_of}
+use Rattle.tmw_part.specs.Kept.{kept_of}
+use Rattle.tmw_part.proofs.Fewer.{kept-all}
 use Rattle.tmw_show.proofs.Shows.{shown-numbered}
 use Rattle.tmw_show.proofs.StateHeaders.{header_of, headers_of, initials-headers_of, each-headers_of, headers_of-each, heads-header_of, text-headers_of}
 
@@ -68,11 +69,6 @@ module _ (c : Criterion) (bounds : Bounds) (registers : Registers) (start : Stat
         single = sole-header heads;
       }
 
--- all events are those that all marks keep
-kept-all : (events : List Event) → kept_of (all_kept events) events ≡ events
-kept-all [] = refl
-kept-all (event ∷ events) = ap (λ (es : List Event). event ∷ es) (kept-all events)
-
 -- of these events some are kept
 kept-each : (P : Event → Type 0) (marks : List Bool) (events : List Event) → AllByRecursion P events → AllByRecursion P (kept_of marks events)
 kept-each P [] events all = tt
@@ -122,11 +118,7 @@ tells-by c bounds shown start why (Part marks reason) fit is of alike heads =
     (each-headers_of registers (IsContradictory c (kept_of marks.items events)) states fit
     (each-member (λ s. (f : FitsRegisters registers.number s) → IsContradictory c (kept_of marks.items events) (header_of registers s f)) states
     (λ s among f. contradictory c bounds registers states events marks.items of.2 s f among (alike.violated.0 of.1 s among)))))
-tells-by c bounds shown start why Unasked fit is of alike heads =
-    let same : shown_events shown ≡ shown.showing.events.items = rw is (kept-all shown.showing.events.items) in
-    rw same (judged c bounds shown.registers start shown.showing.verdict (members shown.showing.states) shown.showing.events.items fit alike
-    (rw same at heads))
-tells-by c bounds shown start why NotViolated fit is of alike heads =
+tells-by c bounds shown start why needed fit is of alike heads =
     let same : shown_events shown ≡ shown.showing.events.items = rw is (kept-all shown.showing.events.items) in
     rw same (judged c bounds shown.registers start shown.showing.verdict (members shown.showing.states) shown.showing.events.items fit alike
     (rw same at heads))

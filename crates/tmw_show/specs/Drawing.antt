@@ -118,23 +118,23 @@ told_row width row told = row ++ beside (width - length row) told
 
 -- a line for each event that has the mark. The first has this place in the window, behind which its number is one more than so many.
 abbrev pub rows_text : Told → ℕ → List Name → List ℕ → ℕ → ℕ → List Bool → List Event → List ℕ
-rows_text told width names values from place [] events = []
-rows_text told width names values from place (mark ∷ marks) [] = []
-rows_text told width names values from place (false ∷ marks) (event ∷ events) =
-    rows_text told width names values from (place + 1) marks events
-rows_text told width names values from place (true ∷ marks) (event ∷ events) =
-    line (told_row width (event_row names values place (from + (place + 1)) event) (told_text told (from + (place + 1))))
-    ++ rows_text told width names values from (place + 1) marks events
+rows_text told width names values before place [] events = []
+rows_text told width names values before place (mark ∷ marks) [] = []
+rows_text told width names values before place (false ∷ marks) (event ∷ events) =
+    rows_text told width names values before (place + 1) marks events
+rows_text told width names values before place (true ∷ marks) (event ∷ events) =
+    line (told_row width (event_row names values place (before + (place + 1)) event) (told_text told (before + (place + 1))))
+    ++ rows_text told width names values before (place + 1) marks events
 
 -- the heads of the columns that these events need
 abbrev pub heads_for : List Event → List ℕ
 heads_for events = heads_text (last_thread events)
 
--- The line of the heads, a line for each event that has the mark, and one for each short name. The first event has the number that
--- follows `from`.
+-- The line of the heads, a line for each event that has the mark, and one for each short name. So many events
+-- of the run stand before the first.
 abbrev pub window_text : Told → ℕ → List Bool → List Event → List ℕ
-window_text told from marks events =
+window_text told before marks events =
     let kept = kept_of marks events in
     line (heads_for kept)
-    ++ (rows_text told (length (heads_for kept)) (names_of marks events) (long_values kept) from 0 marks events
+    ++ (rows_text told (length (heads_for kept)) (names_of marks events) (long_values kept) before 0 marks events
     ++ names_from 0 (long_values kept))

@@ -10,7 +10,7 @@ use Rattle.tmw_events.specs.declared.registers.Registers.{Registers}
 use Rattle.tmw_lines.specs.Text.{line}
 use Rattle.tmw_defs.specs.History.{transactions}
 use Rattle.tmw_part.specs.Finding.{FindsPart}
-use Rattle.tmw_part.specs.Found.{IsFound}
+use Rattle.tmw_part.specs.Reasons.{IsFound}
 use Rattle.tmw_part.specs.declared.reason.Reason.{Reason}
 use Rattle.tmw_part.specs.Kept.{all_kept, kept_of}
 use Rattle.tmw_window.specs.declared.showing.Showing.{Showing}
@@ -46,14 +46,12 @@ abbrev pub reason_of : Needed → Option Reason
 reason_of (Part marks reason) = reason
 reason_of _ = None
 
--- how many events of how many are shown
-abbrev pub counts_words : ℕ → ℕ → List ℕ
-counts_words shown all = decimal shown ++ (codes " of " ++ (decimal all ++ codes " events, violated by themselves"))
-
--- of more than 1,000 all are, since only in fewer a part is searched for
+-- how many events of how many are shown: of more than 1,000 all are, since only in fewer a part is searched for
 abbrev pub part_words : ℕ → ℕ → List ℕ
 part_words shown all =
-    if nat_lt 1000 all then codes "all events: of more than 1000 no part is searched for" else counts_words shown all
+    if nat_lt 1000 all
+    then codes "all events: of more than 1000 no part is searched for"
+    else decimal shown ++ (codes " of " ++ (decimal all ++ codes " events, violated by themselves"))
 
 -- the line that says so, where it is asked why the window is violated
 abbrev pub needed_text : Needed → List Event → List ℕ

@@ -1,5 +1,5 @@
 -- The names of a window's transactions: T1, T2 .. in the order of their first events.
-use Rattle.std.specs.Prelude.{ℕ, List, ◌++◌, ◌+◌, ◌==◌, find, codes, Option, Some, None}
+use Rattle.std.specs.Prelude.{ℕ, List, ◌++◌, ◌+◌, ◌==◌, find, codes, Option, Some, None, option_map}
 use Rattle.std.specs.Fmt.{decimal}
 use Rattle.tmw_part.specs.declared.names.Name.{Name}
 
@@ -7,10 +7,14 @@ use Rattle.tmw_part.specs.declared.names.Name.{Name}
 abbrev pub name_text : ℕ → List ℕ
 name_text place = codes "T" ++ decimal (place + 1)
 
--- what stands before the event at this place of the window: the name of the transaction whose first event it is, or blanks
-abbrev pub label_by : Option Name → List ℕ
+-- the transaction whose first event has this place in the window
+abbrev pub begun_at : List Name → ℕ → Option ℕ
+begun_at names place = option_map (λ name. name.transaction) (find (λ name. name.first == place) names)
+
+-- what stands before the event at this place: the name of the transaction that it begins, or blanks
+abbrev pub label_by : Option ℕ → List ℕ
 label_by None = codes "   "
-label_by (Some name) = name_text name.transaction ++ codes " "
+label_by (Some transaction) = name_text transaction ++ codes " "
 
 abbrev pub label_at : List Name → ℕ → List ℕ
-label_at names place = label_by (find (λ name. name.first == place) names)
+label_at names place = label_by (begun_at names place)

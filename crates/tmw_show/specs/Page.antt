@@ -40,20 +40,19 @@ window_json registers states events =
     codes ",\"states\":["
     ++ (list_json (state_json registers) states ++ (codes "],\"events\":[" ++ (list_json event_json events ++ codes "]")))
 
--- the criterion, how many registers there are, and how many events of the run stand before the window
-abbrev pub criterion_json : Criterion → List ℕ
-criterion_json Opacity = codes ",\"criterion\":\"opacity\",\"registers\":"
-criterion_json Strict = codes ",\"criterion\":\"strict\",\"registers\":"
+-- the criterion's name
+abbrev pub criterion_name : Criterion → List ℕ
+criterion_name Opacity = codes "opacity"
+criterion_name Strict = codes "strict"
 
-abbrev pub numbers_json : Criterion → Registers → ℕ → List ℕ
-numbers_json criterion registers from =
-    criterion_json criterion ++ ((48 + registers.number) ∷ codes ",\"before\":" ++ decimal from)
-
--- the line that `judge` writes, and these
+-- the line that `judge` writes, the criterion, how many registers there are, and how many events of the run stand before the window
 abbrev pub about_json : Criterion → ℕ → Shown → List ℕ
-about_json criterion from shown =
+about_json criterion before shown =
     codes "{\"report\":"
-    ++ (report_by criterion shown.showing.fed shown.showing.verdict ++ numbers_json criterion shown.registers from)
+    ++ (report_by criterion shown.showing.fed shown.showing.verdict
+    ++ (codes ",\"criterion\":\""
+    ++ (criterion_name criterion
+    ++ (codes "\",\"registers\":" ++ (decimal shown.registers.number ++ (codes ",\"before\":" ++ decimal before))))))
 
 -- What is told of the event at which something is wrong, where so many events of the run come before the trace.
 abbrev pub told_of : Criterion → ℕ → Shown → Told
@@ -85,12 +84,11 @@ why_json told (Some reason) = codes ",\"why\":\"" ++ (clauses_text told reason +
 -- what is shown, as one JSON object and a line feed
 abbrev pub json_text : Criterion → ℕ → Shown → List ℕ
 json_text criterion before shown =
-    let from = before + shown.showing.from in
-    about_json criterion from shown
+    about_json criterion (before + shown.showing.from) shown
     ++ (window_json shown.registers (members shown.showing.states) shown.showing.events.items
     ++ (mark_json (told_of criterion before shown)
     ++ (needed_json shown.needed
-    ++ (why_json (told_sentence [] from shown.showing.events.items (reason_of shown.needed)) (reason_of shown.needed)
+    ++ (why_json (told_sentence [] (before + shown.showing.from) shown.showing.events.items (reason_of shown.needed)) (reason_of shown.needed)
     ++ codes "}\n"))))
 
 -- the page

@@ -57,13 +57,13 @@ shown_events shown = kept_of (marks_of shown.needed shown.showing.events.items) 
 -- line, which numbers events in the trace, the numbers are those in the whole run, of which so many events come before the trace.
 abbrev pub drawn_text : Criterion → ℕ → Shown → List ℕ
 drawn_text criterion before shown =
-    let from = before + shown.showing.from in
+    let earlier = before + shown.showing.from in
     report_by criterion shown.showing.fed shown.showing.verdict
     ++ (states_text shown.registers (members shown.showing.states)
     ++ (needed_text shown.needed shown.showing.events.items
-    ++ (window_text (told_of criterion before shown) from (marks_of shown.needed shown.showing.events.items) shown.showing.events.items
+    ++ (window_text (told_of criterion before shown) earlier (marks_of shown.needed shown.showing.events.items) shown.showing.events.items
     ++ (let values = long_values (shown_events shown) in
-    reason_text values (told_sentence values from shown.showing.events.items (reason_of shown.needed)) (reason_of shown.needed)))))
+    reason_text values (told_sentence values earlier shown.showing.events.items (reason_of shown.needed)) (reason_of shown.needed)))))
 
 abbrev pub shown_text : Criterion → ℕ → Form → Shown → List ℕ
 shown_text criterion before Drawing shown = drawn_text criterion before shown

@@ -18,61 +18,52 @@ use Rattle.tmw_show.specs.Names.{name_text}
 use Rattle.tmw_show.specs.Values.{value_text}
 
 -- what follows: the one stands before the other
-abbrev pub so_text : ℕ → ℕ → List ℕ
+unfoldable pub so_text : ℕ → ℕ → List ℕ
 so_text one other = codes ": " ++ (name_text one ++ (codes " before " ++ name_text other))
 
--- what is said of a transaction and a value
-abbrev pub said_text : List ℕ → ℕ → List ℕ → ℕ → List ℕ
-said_text values place said value = name_text place ++ (said ++ value_text values value)
-
--- what was read
-abbrev pub read_text : List ℕ → ℕ → ℕ → ℕ → List ℕ
-read_text values reader value register = said_text values reader (codes " read ") value ++ (codes " from register " ++ decimal register)
-
--- The one had ended before the other began.
-abbrev pub real_time_text : ℕ → ℕ → List ℕ
-real_time_text one other = name_text one ++ (codes " ended before " ++ (name_text other ++ (codes " began" ++ so_text one other)))
+-- what was read, and more
+abbrev pub read_text : List ℕ → ℕ → ℕ → ℕ → List ℕ → List ℕ
+read_text values reader value register more =
+    name_text reader ++ (codes " read " ++ (value_text values value ++ (codes " from register " ++ (decimal register ++ more))))
 
 -- who left a value that was read, if it did not stand there from the start
 abbrev pub source_text : List ℕ → Source → Option ℕ → List ℕ
 source_text values s None = []
 source_text values s (Some writer) =
     read_text values s.reader s.value s.register.number
-    ++ (codes ", which " ++ (name_text writer ++ (codes " left there" ++ so_text writer s.reader)))
+    (codes ", which " ++ (name_text writer ++ (codes " left there" ++ so_text writer s.reader)))
 
--- A value was read before the rival changed it.
-abbrev pub read_first_text : List ℕ → Source → ℕ → ℕ → List ℕ
-read_first_text values s rival left =
-    read_text values s.reader s.value s.register.number
-    ++ (codes ", where " ++ (said_text values rival (codes " left ") left ++ so_text s.reader rival))
-
--- The rival changed the register before the writer of the value.
+-- The rival stands before the writer, if there is one.
 abbrev pub later_text : ℕ → Option ℕ → List ℕ
 later_text rival None = []
 later_text rival (Some writer) = so_text rival writer
 
-abbrev pub changed_first_text : List ℕ → ℕ → ℕ → Source → List ℕ
-changed_first_text values rival left s =
-    said_text values rival (codes " left ") left
-    ++ (codes " in register " ++ (decimal s.register.number
-    ++ (codes ", where " ++ (said_text values s.reader (codes " read ") s.value ++ later_text rival s.writer))))
-
 -- The sentence of a step. What follows through a third transaction is in the sentences of the others, and that a value stood there from the
 -- start is in the sentence that tells who changed it.
 abbrev pub step_text : List ℕ → Step → List ℕ
-step_text values (RealTime one other) = real_time_text one other
+step_text values (RealTime one other) =
+    name_text one ++ (codes " ended before " ++ (name_text other ++ (codes " began" ++ so_text one other)))
 step_text values (From s) = source_text values s s.writer
-step_text values (ReadFirst s rival left) = read_first_text values s rival left
-step_text values (ChangedFirst rival left s) = changed_first_text values rival left s
+step_text values (ReadFirst s rival left) =
+    read_text values s.reader s.value s.register.number
+    (codes ", where " ++ (name_text rival ++ (codes " left " ++ (value_text values left ++ so_text s.reader rival))))
+step_text values (ChangedFirst rival left s) =
+    name_text rival
+    ++ (codes " left "
+    ++ (value_text values left
+    ++ (codes " in register "
+    ++ (decimal s.register.number
+    ++ (codes ", where "
+    ++ (name_text s.reader ++ (codes " read " ++ (value_text values s.value ++ later_text rival s.writer))))))))
 step_text values (Through one between other) = []
 
 -- The sentence of what the steps come to.
 abbrev pub end_text : List ℕ → Contradiction → List ℕ
 end_text values (Cycle place) = name_text place ++ codes " would come before itself"
 end_text values (NoSource reader register value) =
-    read_text values reader value register.number ++ codes ", which neither the start nor another commit left"
+    read_text values reader value register.number (codes ", which neither the start nor another commit left")
 end_text values (Unlike reader register expected read) =
-    read_text values reader read register.number ++ (codes ", where its own earlier calls make it " ++ value_text values expected)
+    read_text values reader read register.number (codes ", where its own earlier calls make it " ++ value_text values expected)
 
 -- What became of what a transaction put there.
 abbrev pub fate_text : Fate → List ℕ
@@ -81,29 +72,29 @@ fate_text Unasked = codes ", and had not asked to commit"
 fate_text Overwritten = codes ", then another value"
 fate_text Stays = []
 
--- which value into which register
-abbrev pub put_text : List ℕ → ℕ → ℕ → List ℕ
-put_text values register value = value_text values value ++ (codes " into register " ++ decimal register)
-
 -- Where a value comes from in a window before which so many events stand.
 abbrev pub origin_text : List ℕ → ℕ → ℕ → ℕ → Option Origin → List ℕ
-origin_text values from register value None = codes "no earlier event of this window puts " ++ put_text values register value
-origin_text values from register value (Some origin) =
-    name_text origin.writer ++ (codes " put " ++ (put_text values register value
-    ++ (codes " at event " ++ (decimal (from + (origin.place + 1)) ++ fate_text origin.fate))))
+origin_text values before register value None =
+    codes "no earlier event of this window puts " ++ (value_text values value ++ (codes " into register " ++ decimal register))
+origin_text values before register value (Some origin) =
+    name_text origin.writer
+    ++ (codes " put "
+    ++ (value_text values value
+    ++ (codes " into register "
+    ++ (decimal register ++ (codes " at event " ++ (decimal (before + (origin.place + 1)) ++ fate_text origin.fate))))))
 
 -- So of the value that the transaction at this place of the window read and that no order explains, if there is one; if a value is
 -- `expected`, while its own calls made the register that.
 abbrev pub told_by : List ℕ → ℕ → List Event → Contradiction → List ℕ
-told_by values from window (Cycle place) = []
-told_by values from window (NoSource reader register value) =
-    origin_text values from register.number value (origin_of window register.number value None reader)
-told_by values from window (Unlike reader register expected read) =
-    origin_text values from register.number read (origin_of window register.number read (Some expected) reader)
+told_by values before window (Cycle place) = []
+told_by values before window (NoSource reader register value) =
+    origin_text values before register.number value (origin_of window register.number value None reader)
+told_by values before window (Unlike reader register expected read) =
+    origin_text values before register.number read (origin_of window register.number read (Some expected) reader)
 
 abbrev pub told_sentence : List ℕ → ℕ → List Event → Option Reason → List ℕ
-told_sentence values from window None = []
-told_sentence values from window (Some reason) = told_by values from window reason.end
+told_sentence values before window None = []
+told_sentence values before window (Some reason) = told_by values before window reason.end
 
 -- a sentence as a line, unless it is empty
 abbrev pub sentence_line : List ℕ → List ℕ

@@ -2,11 +2,10 @@
 use Rattle.std.specs.Prelude.{ℕ, ◌+◌, ◌==◌, ◌||◌, Bool, nat_lt, List, [], ◌∷◌, ◌++◌, codes, position, Option, Some, None, if◌then◌else◌}
 use Rattle.std.specs.List.{list_any}
 use Rattle.std.specs.Fmt.{decimal}
-use Rattle.tmw_events.specs.Text.{digit, kind_text}
+use Rattle.tmw_events.specs.Text.{kind_text}
 use Rattle.tmw_events.specs.declared.event.Event.{Event}
 use Rattle.tmw_events.specs.declared.event.Kind.{Kind}
 use Rattle.tmw_events.specs.declared.event.Kind.TheVariants.{N, V, W}
-use Rattle.tmw_lines.specs.Text.{line}
 
 -- A value of at most nine digits is short.
 abbrev pub is_short : ℕ → Bool
@@ -35,27 +34,29 @@ values_after values (event ∷ events) = values_after (with_kind values event.ki
 abbrev pub long_values : List Event → List ℕ
 long_values events = values_after [] events
 
--- the name of the long value at this place
-abbrev pub short_name : ℕ → List ℕ
-short_name place = codes "v" ++ decimal (place + 1)
-
+-- a value: by its name, if it is the long one at this place
 abbrev pub named : ℕ → Option ℕ → List ℕ
 named value None = decimal value
-named value (Some place) = short_name place
+named value (Some place) = codes "v" ++ decimal (place + 1)
 
 -- a value: by its name, if it has one
 abbrev pub value_text : List ℕ → ℕ → List ℕ
 value_text values value = named value (position (λ other. other == value) values)
 
+abbrev pub stored_text : ℕ → List ℕ → List ℕ
+stored_text register value = codes " " ++ (decimal register ++ (codes " " ++ value))
+
 -- an event's kind, with its value by its name
 abbrev pub shown_kind : List ℕ → Kind → List ℕ
-shown_kind values (W register value) = codes "W " ++ digit register ∷ 32 ∷ value_text values value
-shown_kind values (N register value) = codes "N " ++ digit register ∷ 32 ∷ value_text values value
+shown_kind values (W register value) = codes "W" ++ stored_text register.number (value_text values value)
+shown_kind values (N register value) = codes "N" ++ stored_text register.number (value_text values value)
 shown_kind values (V value) = codes "V " ++ value_text values value
 shown_kind values kind = kind_text kind
 
--- a line for each of these names, of which the first is of this place
+-- a line for each of these values, of which the first is of this place: what it is called
+abbrev pub name_line : ℕ → ℕ → List ℕ
+name_line place value = codes "    value  v" ++ (decimal (place + 1) ++ (codes " is " ++ (decimal value ++ codes "\n")))
+
 abbrev pub names_from : ℕ → List ℕ → List ℕ
 names_from place [] = []
-names_from place (value ∷ values) =
-    line (codes "    value  " ++ (short_name place ++ (codes " is " ++ decimal value))) ++ names_from (place + 1) values
+names_from place (value ∷ values) = name_line place value ++ names_from (place + 1) values

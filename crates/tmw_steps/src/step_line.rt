@@ -18,24 +18,9 @@ pub fn step_of(bytes: &[u8]) -> Option<Step>
         [b'p', rest @ ..] => step_of_p(rest),
         [b'f', rest @ ..] => step_of_f(rest),
         [b'r', b'e', b'a', b'd'] => Some(Step::Read),
-        [b't', b'a', b'i', b'l', b' ', rest @ ..] => {
-            let Some(writer) = writer_of(rest) else {
-                return None;
-            };
-            Some(Step::Tail(writer))
-        }
-        [b'c', b'l', b'a', b'i', b'm', b' ', rest @ ..] => {
-            let Some(writer) = writer_of(rest) else {
-                return None;
-            };
-            Some(Step::Claim(writer))
-        }
-        [b's', b't', b'o', b'p', b' ', rest @ ..] => {
-            let Some(writer) = writer_of(rest) else {
-                return None;
-            };
-            Some(Step::Stop(writer))
-        }
+        [b't', b'a', b'i', b'l', b' ', rest @ ..] => writer_of(rest).map(Step::Tail),
+        [b'c', b'l', b'a', b'i', b'm', b' ', rest @ ..] => writer_of(rest).map(Step::Claim),
+        [b's', b't', b'o', b'p', b' ', rest @ ..] => writer_of(rest).map(Step::Stop),
         _ => None,
     }
 }
@@ -48,12 +33,7 @@ fn step_of_p(bytes: &[u8]) -> Option<Step>
 {
     match bytes {
         [b'e', b'e', b'k'] => Some(Step::Peek),
-        [b'u', b'b', b'l', b'i', b's', b'h', b' ', rest @ ..] => {
-            let Some(writer) = writer_of(rest) else {
-                return None;
-            };
-            Some(Step::Publish(writer))
-        }
+        [b'u', b'b', b'l', b'i', b's', b'h', b' ', rest @ ..] => writer_of(rest).map(Step::Publish),
         _ => None,
     }
 }
@@ -72,12 +52,7 @@ fn step_of_f(bytes: &[u8]) -> Option<Step>
             };
             Some(Step::Front(writer, kind))
         }
-        [b'i', b'l', b'l', b' ', rest @ ..] => {
-            let Some(writer) = writer_of(rest) else {
-                return None;
-            };
-            Some(Step::Fill(writer))
-        }
+        [b'i', b'l', b'l', b' ', rest @ ..] => writer_of(rest).map(Step::Fill),
         _ => None,
     }
 }

@@ -1,10 +1,6 @@
 -- Bytes that were taken in parts, of which the last may be a beginning of what was to be taken.
-use Rattle.std.proofs.Common.{◌+◌, ◌≤◌, length, take, ◌++◌, ℕ, List, arith}
-use Rattle.std.proofs.lemmas.List.{length-append, take-append-le}
-use Rattle.std.proofs.Math.Seq.{take-append-add}
+use Rattle.tmw_streams.proofs.Shared.{arith, length, length-append, List, take, take-append-add, take-append-le, Takes, TakesBeginning, ToSink, ℕ, ◌++◌, ◌+◌, ◌≤◌}
 use Rattle.tmw_streams.proofs.ToldBytes.{Takes-more}
-use Rattle.tmw_streams.specs.Streams.{ToSink}
-use Rattle.tmw_streams.specs.Told.{Takes, TakesBeginning}
 
 module _ {K : Type 0} (To : ToSink K) (a : K) where
   -- all of the first part, and a beginning of the second

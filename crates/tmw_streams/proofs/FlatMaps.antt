@@ -1,7 +1,5 @@
 -- Texts one after another, up to one of them and beyond it.
-use Rattle.std.proofs.Common.{◌≡◌, ℕ, ◌+◌, ◌<◌, List, [], ◌∷◌, ◌++◌, length, take, drop, get_or, sym, ap, ◌∙◌, add-one, append-nil, drop-cons, take-add, take-append-drop}
-use Rattle.std.proofs.lemmas.Grind.{flat_map-append}
-use Rattle.std.specs.List.{flat_map}
+use Rattle.tmw_streams.proofs.Shared.{[], add-one, ap, append-nil, drop, drop-cons, flat_map, flat_map-append, get_or, length, List, sym, take, take-add, take-append-drop, ℕ, ◌++◌, ◌+◌, ◌<◌, ◌∙◌, ◌∷◌, ◌≡◌}
 
 module _ {A : Type 0} (text : A → List ℕ) (items : List A) (i : ℕ) (item fallback : A) where
   -- the items from this one on

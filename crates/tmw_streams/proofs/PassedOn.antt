@@ -1,12 +1,8 @@
 -- Bytes that a sink took a front of, and more behind those that are held.
-use Rattle.std.proofs.Common.{◌≡◌, ℕ, Result, Ok, Err, List, [], ◌++◌, sym, ap, ◌∙◌, subst, append_assoc, append-nil}
-use Rattle.std.specs.Result.{IsErr}
+use Rattle.tmw_streams.proofs.Shared.{[], ap, append-nil, append_assoc, Err, IsErr, List, Ok, one_more, PassesOn, Puts, PutsOn, Result, subst, sym, Takes, TakesBeginning, ToSink, ℕ, ◌++◌, ◌∙◌, ◌≡◌}
 use Rattle.tmw_streams.proofs.Beginnings.{TakesBeginning-more, TakesBeginning-front}
 use Rattle.tmw_streams.proofs.Putting.{Puts-more, Puts-front}
 use Rattle.tmw_streams.proofs.ToldBytes.{Takes-none, Takes-more}
-use Rattle.tmw_streams.specs.PassedOn.{PassesOn, PutsOn}
-use Rattle.tmw_streams.specs.Streams.{ToSink}
-use Rattle.tmw_streams.specs.Told.{Takes, TakesBeginning, Puts, one_more}
 
 -- what went out, what was held and what comes behind it
 gone-more : (bytes gone held more : List ℕ) → bytes ≡ gone ++ held → bytes ++ more ≡ gone ++ (held ++ more)

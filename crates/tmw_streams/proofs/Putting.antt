@@ -1,10 +1,7 @@
 -- Bytes that were put in parts, one write after another, up to one that fails.
-use Rattle.std.proofs.Common.{◌≡◌, ◌++◌, ℕ, Result, Ok, Err, List, ap, ◌∙◌}
-use Rattle.std.specs.Result.{IsErr}
+use Rattle.tmw_streams.proofs.Shared.{ap, Err, IsErr, List, Ok, one_more, Puts, Result, Takes, TakesBeginning, ToSink, ℕ, ◌++◌, ◌∙◌, ◌≡◌}
 use Rattle.tmw_streams.proofs.Beginnings.{TakesBeginning-more, TakesBeginning-front}
 use Rattle.tmw_streams.proofs.ToldBytes.{Takes-more}
-use Rattle.tmw_streams.specs.Streams.{ToSink}
-use Rattle.tmw_streams.specs.Told.{Takes, TakesBeginning, Puts, one_more}
 
 module _ {K : Type 0} (To : ToSink K) (a b : K) (xs ys : List ℕ) where
   -- all of the first part, and the second as it was put

@@ -1,8 +1,5 @@
 -- What was told, and taken, in no step and in two steps, one after the other.
-use Rattle.std.proofs.Common.{◌≡◌, ℕ, List, [], ◌++◌, sym, ap, ◌∙◌, subst, append_assoc, append-nil}
-use Rattle.std.proofs.KnownBytes.{Consumes-nil, Consumes-trans, Appends-nil, Appends-trans}
-use Rattle.tmw_streams.specs.Streams.{FromSource, ToSink}
-use Rattle.tmw_streams.specs.Told.{Adds, Tells, Takes, Reads}
+use Rattle.tmw_streams.proofs.Shared.{[], Adds, ap, append-nil, append_assoc, Appends-nil, Appends-trans, Consumes-nil, Consumes-trans, FromSource, List, Reads, subst, sym, Takes, Tells, ToSink, ℕ, ◌++◌, ◌∙◌, ◌≡◌}
 
 module _ {S : Type 0} (Told : S → List ℕ → Type 0) (a : S) where
   Adds-none : Adds Told a [] a

@@ -30,9 +30,10 @@ fn first_digits(bytes: &[u8]) -> Option<(u64, usize)>
 {
     let mut number: u64 = 0;
     for index in 0..20 {
-        let byte = bytes[index];
-        if !byte.is_ascii_digit() {
-            if byte != b'\n' {
+        // (48 is the digit 0, and a byte below it wraps to more than 9)
+        let digit = u64::from(bytes[index]).wrapping_sub(48);
+        if digit > 9 {
+            if bytes[index] != b'\n' {
                 return None;
             }
             return Some((number, index + 1));
@@ -40,7 +41,7 @@ fn first_digits(bytes: &[u8]) -> Option<(u64, usize)>
         if index == 19 {
             return None;
         }
-        number = number * 10 + (byte - b'0') as u64;
+        number = number * 10 + digit;
     }
     None
 }

@@ -1,5 +1,5 @@
 -- What one event more makes of a transaction's text: whether it is a text still, its pending call, and whether it has ended.
-use Rattle.tmw_wellformed.proofs.Shared.{A, Bool, C, K, Kind, List, None, Option, Some, V, [], and_parts, answers, arith, asks, call_of, ends, false, is_call, is_ended, is_ended-cons, is_over-ends, is_text, length, length-append, next_call, not, refl, slice_get_end, sym, true, ℕ, ◌&&◌, ◌++◌, ◌-◌, ◌∙◌, ◌∷◌, ◌≡◌}
+use Rattle.tmw_wellformed.proofs.Shared.{Bool, Kind, List, None, Option, Some, [], and_parts, answers, arith, asks, call_of, ends, false, is_call, is_ended, is_ended-cons, is_over-ends, is_text, length, length-append, next_call, not, refl, slice_get_end, true, ℕ, ◌&&◌, ◌++◌, ◌-◌, ◌∷◌, ◌≡◌}
 
 pub is_ended-push : (text : List Kind) (k : Kind) → is_ended (text ++ k ∷ []) ≡ ends k
 is_ended-push text k =
@@ -21,27 +21,17 @@ pub is_text-push : (registers : ℕ) (text : List Kind) (k : Kind) → is_text r
     → is_text registers (text ++ k ∷ []) ≡ goes_on registers (call_of text) k
 is_text-push registers [] k formed still = refl
 is_text-push registers (c ∷ []) k formed still = rw formed refl
-is_text-push registers (c ∷ a ∷ []) k formed still =
-    let (call, answer) = and_parts (is_call registers c) (answers c a) formed in
-    let unended : ends a ≡ false = sym (is_over-ends a) ∙ still in
-    rw (call, answer, unended) refl
+is_text-push registers (c ∷ a ∷ []) k formed still = grind (arith, (is_over-ends a))
 is_text-push registers (c ∷ a ∷ b ∷ more) k formed still =
-    let (front, rest) = and_parts (is_call registers c && answers c a && not (ends a)) (is_text registers (b ∷ more)) formed in
-    let still_rest : is_ended (b ∷ more) ≡ false = sym (is_ended-cons a b more) ∙ sym (is_ended-cons c a (b ∷ more)) ∙ still in
-    rw front (is_text-push registers (b ∷ more) k rest still_rest)
+    grind (arith, (is_text-push registers (b ∷ more) k), (is_ended-cons a b more), (is_ended-cons c a (b ∷ more)))
 
 is_call-asks : (registers : ℕ) (k : Kind) → is_call registers k ≡ true → asks k ≡ true
-is_call-asks registers (V v) call = cc
-is_call-asks registers K call = cc
-is_call-asks registers C call = cc
-is_call-asks registers A call = cc
-is_call-asks registers _ call = refl
+is_call-asks registers k call = grind arith
 
 -- what is pending is a call
 pub pending_asks : (registers : ℕ) (text : List Kind) (c : Kind) → is_text registers text ≡ true → call_of text ≡ Some c → asks c ≡ true
-pending_asks registers [] c formed is = cc
-pending_asks registers (d ∷ []) c formed is = let same : d ≡ c = cc in rw (← same) (is_call-asks registers d formed)
-pending_asks registers (d ∷ a ∷ []) c formed is = cc
+pending_asks registers (d ∷ []) c formed is = let call = is_call-asks registers d formed in grind arith
 pending_asks registers (d ∷ a ∷ b ∷ more) c formed is =
     let (front, rest) = and_parts (is_call registers d && answers d a && not (ends a)) (is_text registers (b ∷ more)) formed in
     pending_asks registers (b ∷ more) c rest is
+pending_asks registers _ c formed is = cc

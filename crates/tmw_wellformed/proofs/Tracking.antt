@@ -1,5 +1,5 @@
 -- A tracker that a history fits, one event further.
-use Rattle.tmw_wellformed.proofs.Shared.{Between, Err, Event, IsTrue, List, Malformed, None, Ok, Option, Phase, Refuses, Register, Some, Txn, [], add_event, and_parts, ap, arith, both_ways, cases_Bool, cases_eq, count_by, ends, false, inl, inr, is_ended, is_live, is_some, is_text, is_well_formed, lacks_register, length, list_all, live_count, live_of, ne_eqb, next_phase, not, not-true, pending_call, phase_of, refl, slice_get, slice_index_or, slice_set, suc, sum_by-set, sym, texts_law, transactions, transactions-push, true, zero, ℕ, ◌&&◌, ◌++◌, ◌+◌, ◌<◌, ◌==◌, ◌↔◌, ◌∙◌, ◌∷◌, ◌≡◌}
+use Rattle.tmw_wellformed.proofs.Shared.{Between, Err, Event, IsTrue, List, Malformed, Ok, Option, Phase, Refuses, Register, Some, Txn, [], add_event, and_parts, ap, arith, both_ways, cases_Bool, cases_eq, count_by, ends, false, inl, inr, is_ended, is_live, is_some, is_text, is_well_formed, lacks_register, length, list_all, live_count, live_of, ne_eqb, next_phase, not, not-true, pending_call, phase_of, slice_get, slice_index_or, slice_set, suc, sum_by-set, sym, texts_law, transactions, transactions-push, true, ℕ, ◌&&◌, ◌++◌, ◌+◌, ◌<◌, ◌==◌, ◌↔◌, ◌∙◌, ◌∷◌, ◌≡◌}
 use Rattle.tmw_wellformed.specs.declared.tracker.Tracker.{Tracker}
 use Rattle.std.proofs.lemmas.Option.{get_or_from_slice_get, slice_get_within}
 use Rattle.tmw_wellformed.specs.declared.note.Note.{Note}
@@ -28,9 +28,7 @@ is_well_formed-push registers history e formed =
     ∙ is_text-goes_on registers live e.kind (live_is_open registers e.thread.number history formed)
 
 phase_of-after : (place : ℕ) (e : Event) (live : Option Txn) → phase_of (live_after place e live) ≡ phase_after (pending_of live) e.kind
-phase_of-after place e None = elim (cases_Bool (ends e.kind)) [ inl over ↦ rw over refl | inr goes_on ↦ rw goes_on refl ]
-phase_of-after place e (Some t) =
-    elim (cases_Bool (ends e.kind)) [ inl over ↦ rw over refl | inr goes_on ↦ rw (goes_on, call_of-push t.text e.kind) refl ]
+phase_of-after place e live = grind (arith, call_of-push)
 
 -- the phases of the event's thread and of each other with the event
 phase_of-own : (history : List Event) (e : Event)
@@ -47,17 +45,12 @@ live_of-other thread history e other =
     ap (live_of thread) (transactions-push history e) ∙ live_of-add_other thread (length history) e (transactions history) other
 
 slice_get-set_same : {A : Type 0} (xs : List A) (i : ℕ) (x y : A) → slice_get xs i ≡ Some x → slice_get (slice_set xs i y) i ≡ Some y
-slice_get-set_same [] i x y at = cc
-slice_get-set_same (z ∷ xs) zero x y at = refl
 slice_get-set_same (z ∷ xs) (suc i) x y at = slice_get-set_same xs i x y at
+slice_get-set_same _ i x y at = grind arith
 
 slice_get-set_other : {A : Type 0} (xs : List A) (i j : ℕ) (y : A) → (j ≡ i → ⊥) → slice_get (slice_set xs i y) j ≡ slice_get xs j
-slice_get-set_other [] zero j y other = refl
-slice_get-set_other [] (suc i) j y other = refl
-slice_get-set_other (z ∷ xs) zero zero y other = absurd (other refl)
-slice_get-set_other (z ∷ xs) zero (suc j) y other = refl
-slice_get-set_other (z ∷ xs) (suc i) zero y other = refl
 slice_get-set_other (z ∷ xs) (suc i) (suc j) y other = slice_get-set_other xs i j y (λ same. other (ap suc same))
+slice_get-set_other _ _ j y other = grind arith
 
 -- the phase that the tracker has of a thread
 phase_read : (registers : ℕ) (history : List Event) (tracker : Tracker) (thread : ℕ) → Tracks registers history tracker → thread < 8

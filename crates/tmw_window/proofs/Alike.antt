@@ -1,5 +1,5 @@
 -- What is shown of a history, as a history of its own from each of its states, is judged like it.
-use Rattle.tmw_window.proofs.Shared.{Contains, Event, HasMany, HasWide, IsFinalBy, IsFine, IsFirst, IsTrue, IsVerdict, IsViolated, List, Malformed, OpaqueSoFar, Rules, State, States, StrictSoFar, Transactions, Undecided, Verdict, Violated, WindowLaw, [], ap, arith, cases_lt, false, formed-final, from_state, inl, inr, is_well_formed, length, outcome-final, refl, shown_length, subst, sym, take, take-length, transactions, true, ℕ, ◌+◌, ◌-◌, ◌<◌, ◌∙◌, ◌≡◌, ◌≤◌}
+use Rattle.tmw_window.proofs.Shared.{Contains, Event, HasMany, HasWide, IsFinalBy, IsFine, IsFirst, IsTrue, IsVerdict, IsViolated, List, Malformed, OpaqueSoFar, Rules, State, States, StrictSoFar, Transactions, Undecided, Verdict, Violated, WindowLaw, [], ap, arith, cases_lt, false, formed-final, from_state, inl, inr, is_well_formed, length, outcome-final, refl, shown_length, subst, sym, take, take-length, transactions, true, ℕ, ◌+◌, ◌-◌, ◌<◌, ◌∙◌, ◌≡◌, ◌≤◌, rules}
 use Rattle.tmw_window.proofs.Single.{single}
 use Rattle.tmw_window.proofs.Part.{IsPart, shown-part, shown-within, long, formed-part, narrow-part, uncut-part, none-fine, violated-each, all-violated, some-state, all-formed, wide-events, wide-end}
 
@@ -16,13 +16,10 @@ each-violated rules h (Malformed m) from states events few is part all =
     let order = part.order in
     elim (cases_lt 0 m) [
       | inl some ↦
-          let formed = all-formed rules h m from states events part (is.before from (omega (arith, order, some))) all in
-          let bad : true ≡ false = sym formed ∙ is.here.ill_formed in
-          absurd (cc)
-      | inr none ↦
-          let empty : take m h ≡ [] = ap (λ n. take n h) (let same : m ≡ 0 = omega (arith, none) in same) in
-          let bad : true ≡ false = sym (ap (is_well_formed rules.registers) empty) ∙ is.here.ill_formed in
-          absurd (cc)
+          let formed = all-formed rules h m from states events part (is.before from (
+          omega arith)) all in
+          cc
+      | inr none ↦ grind arith
     ]
 each-violated rules h (Undecided m Transactions) from states events few is part all =
     let order = part.order in

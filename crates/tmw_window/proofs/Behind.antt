@@ -10,9 +10,7 @@ formed-later : (registers n : ℕ) (ts us : List Txn) → Pairs (IsLater n) ts u
 formed-later registers n [] [] pairs = refl
 formed-later registers n [] (u ∷ us) pairs = absurd pairs
 formed-later registers n (t ∷ ts) [] pairs = absurd pairs
-formed-later registers n (t ∷ ts) (u ∷ us) pairs =
-    ap (λ text. is_text registers text && list_all (λ x. is_text registers x.text) ts) pairs.0.text
-    ∙ ap (λ b. is_text registers u.text && b) (formed-later registers n ts us pairs.1)
+formed-later registers n (t ∷ ts) (u ∷ us) pairs = cc (formed-later registers n ts us pairs.1)
 
 pub formed-append : (registers : ℕ) (past rest : List Event) → IsTrue (is_cut past)
     → is_well_formed registers (past ++ rest) ≡ is_well_formed registers past && is_well_formed registers rest

@@ -1,5 +1,5 @@
 -- The outcomes of a well-formed history that begins with a state of the run are states of the run.
-use Rattle.tmw_window.proofs.Shared.{All, Bool, Criterion, Event, FitsKind, FitsRegisters, IsTrue, List, Opacity, Placed, State, Strict, Txn, [], add_event, after, and_from, and_parts, cases_Bool, false, inl, inr, is_ended, is_text, is_well_formed, list_all, list_all-append, not, operations, outcomes_by, refl, slice_index_or, subst, sym, transactions, transactions_from, true, ℕ, ◌&&◌, ◌+◌, ◌==◌, ◌∙◌, ◌∷◌, ◌≡◌}
+use Rattle.tmw_window.proofs.Shared.{All, Bool, Criterion, Event, FitsKind, FitsRegisters, IsTrue, List, Opacity, Placed, State, Strict, Txn, [], add_event, after, and_from, and_parts, false, is_text, is_well_formed, list_all, list_all-append, operations, outcomes_by, refl, slice_index_or, subst, sym, transactions, transactions_from, true, ℕ, ◌+◌, ◌∙◌, ◌∷◌, ◌≡◌, arith}
 use Rattle.std.proofs.lemmas.List.Sums.{list_all-from_AllPass}
 use Rattle.tmw_defs.specs.Outcomes.{end_state}
 use Rattle.tmw_defs.proofs.Held.{list_all-held}
@@ -12,11 +12,7 @@ words-add : (place : ℕ) (e : Event) (ts : List Txn) → writes_word e.kind ≡
 words-add place e [] word words = and_from _ true (and_from (writes_word e.kind) true word refl) refl
 words-add place e (t ∷ ts) word words =
     let parts = and_parts (list_all writes_word t.text) _ words in
-    elim (cases_Bool ((t.thread == e.thread.number) && not (is_ended t.text))) [
-      | inl joins ↦ rw joins (and_from _ _
-          (list_all-append writes_word t.text (e.kind ∷ []) ∙ and_from _ _ parts.0 (and_from (writes_word e.kind) true word refl)) parts.1)
-      | inr past ↦ rw past (and_from _ _ parts.0 (words-add place e ts word parts.1))
-    ]
+    let more = words-add place e ts word parts.1 in grind (arith, list_all-append)
 
 words-from : (place : ℕ) (ts : List Txn) (history : List Event) → list_all (λ e. writes_word e.kind) history ≡ true
     → list_all (λ t. list_all writes_word t.text) ts ≡ true

@@ -1,29 +1,16 @@
 -- The states from which a window that is shown begins are states of the run.
-use Rattle.tmw_window.proofs.Shared.{All-take, Event, FitsKind, IsFine, IsTrue, IsVerdict, List, Malformed, OpaqueSoFar, Rules, States, StatesLaw, StrictSoFar, Transactions, Undecided, Verdict, Violated, arith, cases_lt, formed-final, inl, inr, is_well_formed, length, refl, shown_length, subst, sym, take, ℕ, ◌-◌, ◌<◌, ◌≡◌, ◌≤◌}
+use Rattle.tmw_window.proofs.Shared.{All-take, Event, FitsKind, IsFine, IsTrue, IsVerdict, List, Rules, StatesLaw, Verdict, arith, formed-final, is_well_formed, length, shown_length, take, ℕ, ◌-◌, ◌<◌, ◌≤◌, rules}
 use Rattle.tmw_window.proofs.Outcomes.{outcome_kept}
 use Rattle.tmw_window.proofs.Part.{shown-part, shown-within}
 
 -- what precedes the length at which something is wrong first is well-formed
 before-formed : (rules : Rules) (h : List Event) (m from : ℕ) → from ≤ m - 1 → ((k : ℕ) → k < m → IsFine rules (take k h))
     → IsTrue (is_well_formed rules.registers (take from h))
-before-formed rules h m from order before =
-    elim (cases_lt from m) [
-      | inl below ↦ formed-final rules.criterion rules.registers rules.start (take from h) (before from below).final
-      | inr past ↦
-          let none : from ≡ 0 = omega (arith, order, past) in
-          subst (λ n. IsTrue (is_well_formed rules.registers (take n h))) (sym none) refl
-    ]
+before-formed rules h m from order before = grind (arith, formed-final)
 
 cut-formed : (rules : Rules) (h : List Event) (v : Verdict) (from : ℕ) → IsVerdict rules h v → from ≤ shown_length (length h) v - 1
     → IsTrue (is_well_formed rules.registers (take from h))
-cut-formed rules h OpaqueSoFar from is order =
-    formed-final rules.criterion rules.registers rules.start (take from h) (is.1 from (omega (arith, order))).final
-cut-formed rules h StrictSoFar from is order =
-    formed-final rules.criterion rules.registers rules.start (take from h) (is.1 from (omega (arith, order))).final
-cut-formed rules h (Malformed m) from is order = before-formed rules h m from order is.before
-cut-formed rules h (Undecided m Transactions) from is order = before-formed rules h m from order is.before
-cut-formed rules h (Undecided m States) from is order = before-formed rules h m from order is.before
-cut-formed rules h (Violated m) from is order = before-formed rules h m from order is.before
+cut-formed rules h v from is order = grind (arith, formed-final, take, before-formed)
 
 pub states_law : StatesLaw
 states_law rules h v from states events judged shown start fit s is =

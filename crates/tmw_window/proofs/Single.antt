@@ -1,12 +1,10 @@
 -- What is shown of a history that begins from a single state has the history's verdict, at its end.
-use Rattle.tmw_window.proofs.Shared.{Contains, Event, HasWide, IsFinalBy, IsFine, IsFirst, IsMalformed, IsTooMany, IsTooWide, IsTrue, IsVerdict, IsViolated, List, Malformed, OpaqueSoFar, Rules, State, States, StrictSoFar, Transactions, Undecided, Verdict, Violated, [], ap, arith, at_end, cases_lt, cut_law, false, formed-final, from_state, get_or, inl, inr, is_cut, is_cut-append, is_well_formed, length, outcomes_by, refl, shown_length, subst, sym, take, take-length, true, ℕ, ◌&&◌, ◌+◌, ◌-◌, ◌<◌, ◌∙◌, ◌∷◌, ◌≡◌, ◌≤◌}
+use Rattle.tmw_window.proofs.Shared.{Contains, Event, HasWide, IsFinalBy, IsFine, IsFirst, IsMalformed, IsTooMany, IsTooWide, IsTrue, IsVerdict, IsViolated, List, Malformed, OpaqueSoFar, Rules, State, States, StrictSoFar, Transactions, Undecided, Verdict, Violated, [], ap, arith, at_end, cases_lt, cut_law, false, formed-final, from_state, get_or, inl, inr, is_cut, is_cut-append, is_well_formed, length, outcomes_by, refl, shown_length, subst, sym, take, take-length, true, ℕ, ◌&&◌, ◌+◌, ◌-◌, ◌<◌, ◌∙◌, ◌∷◌, ◌≡◌, ◌≤◌, rules}
 use Rattle.tmw_window.proofs.Behind.{formed-append, formed-behind, HasWide-behind}
 use Rattle.tmw_window.proofs.Part.{IsPart, whole, long, formed-whole, final-part, final-events, none-fine, violated-each, wide-end, fine-before}
 
 sole : (s t : State) → Contains (s ∷ []) t → t ≡ s
-sole s t (i, below, is) =
-    let first : 0 ≡ i = omega (arith, below) in
-    sym (ap (λ n. get_or (s ∷ []) n t) first ∙ is)
+sole s t (i, below, is) = grind arith
 
 module _ (rules : Rules) (h : List Event) (m from : ℕ) (states : List State) (events : List Event)
     (part : IsPart rules h m from states events) (s : State) (one : states ≡ s ∷ []) where
@@ -132,11 +130,7 @@ module _ (rules : Rules) (h : List Event) (m from : ℕ) (states : List State) (
 some-event : (rules : Rules) (h : List Event) (m from : ℕ) (states : List State) (events : List Event)
     → IsPart rules h m from states events → 0 < rules.states → (Wrong : Rules → List Event → Type 0) → Wrong rules (take m h)
     → (Wrong rules [] → ⊥) → 0 < m
-some-event rules h m from states events part some Wrong here apart =
-    elim (cases_lt 0 m) [
-      | inl later ↦ later
-      | inr none ↦ absurd (apart (subst (Wrong rules) (ap (λ n. take n h) (let same : m ≡ 0 = omega (arith, none) in same)) here))
-    ]
+some-event rules h m from states events part some Wrong here apart = grind arith
 
 pub single : (rules : Rules) (h : List Event) (v : Verdict) (from : ℕ) (states : List State) (events : List Event) → 0 < rules.states
     → IsVerdict rules h v → IsPart rules h (shown_length (length h) v) from states events → (s : State) → states ≡ s ∷ []

@@ -1,15 +1,11 @@
 -- What is shown of a history with an event more.
-use Rattle.tmw_window.proofs.Shared.{AreFine, AreLastOutcomes, Contains, Criterion, Event, IsFalse, IsFine, IsFirst, IsLastCut, IsMalformed, IsShown, IsTooMany, IsTooWide, IsTrue, IsVerdict, IsViolated, KeepsSame, KeepsShown, KeptWindow, List, Malformed, Opacity, OpaqueSoFar, Rules, State, States, Strict, StrictSoFar, Transactions, Undecided, Verdict, Violated, [], ap, arith, before_shown, between, between-open, cases_lt, drop, drop_all, false, formed-final, inl, inr, is_cut, length, length-push, length-take-le, members, outcomes_by, refl, shown_length, so_far, so_far-fine, subst, sums_up-new, sym, take, take-length, take-push, take-take, take_all, true, verdict-one, ℕ, ◌++◌, ◌+◌, ◌-◌, ◌<◌, ◌↔◌, ◌∙◌, ◌∷◌, ◌≡◌, ◌≤◌}
+use Rattle.tmw_window.proofs.Shared.{AreFine, AreLastOutcomes, Contains, Criterion, Event, IsFalse, IsFine, IsFirst, IsLastCut, IsMalformed, IsShown, IsTooMany, IsTooWide, IsTrue, IsVerdict, IsViolated, KeepsSame, KeepsShown, KeptWindow, List, Malformed, OpaqueSoFar, Rules, State, States, StrictSoFar, Transactions, Undecided, Verdict, Violated, [], ap, arith, before_shown, between, between-open, cases_lt, drop, drop_all, false, formed-final, inl, inr, is_cut, length, length-push, length-take-le, outcomes_by, shown_length, so_far, so_far-fine, subst, sums_up-new, sym, take, take-length, take-push, take-take, take_all, true, verdict-one, ℕ, ◌++◌, ◌+◌, ◌-◌, ◌<◌, ◌↔◌, ◌∙◌, ◌∷◌, ◌≡◌, ◌≤◌, rules}
 use Rattle.tmw_monitor.proofs.Final.{verdict-stays}
 
 -- what is wrong first with a history, and was not before its last event, is so at its whole length
 first-last : (Wrong : Rules → List Event → Type 0) → ((rules : Rules) (history : List Event) → Wrong rules history → IsFine rules history → ⊥)
     → (rules : Rules) (h : List Event) (e : Event) (m : ℕ) → AreFine rules h → IsFirst Wrong rules (h ++ e ∷ []) m → m ≡ length h + 1
-first-last Wrong apart rules h e m fine first =
-    elim (cases_lt (length h) m) [
-      | inl past ↦ (let within = first.within in let same = length-push h e in omega (arith, past, within, same))
-      | inr before ↦ absurd (apart rules (take m h) (subst (Wrong rules) (take-push m h e before) first.here) (fine m before))
-    ]
+first-last Wrong apart rules h e m fine first = grind (arith, length-push, take-push)
 
 -- so the whole is shown of a history where nothing was wrong before its last event
 pub shown_length-push : (rules : Rules) (h : List Event) (e : Event) (v : Verdict) → AreFine rules h → IsVerdict rules (h ++ e ∷ []) v
@@ -72,22 +68,8 @@ shown-cut rules h e v from states events fine is cut o begins window =
 
 -- a history that is at no cut has the last cut that it had before its last event
 last_cut-open : (h : List Event) (c : ℕ) → IsFalse (is_cut h) → IsLastCut (take (length h - 1) h) c → IsLastCut h c
-last_cut-open h c uncut last =
-    let long : length (take (length h - 1) h) ≡ length h - 1 = length-take-le (length h - 1) h (omega arith) in
-    let within = last.is.0 in
-    record {
-      is = (omega (arith, within, long), subst (λ (s : List Event). IsTrue (is_cut s)) (take-take c (length h - 1) h (omega (arith, within, long))) last.is.1);
-      last = λ at after cut. let inside = cut.0 in
-          elim (cases_lt at (length h)) [
-            | inl before ↦ last.last at after (
-              omega (arith, before, long),
-              subst (λ (s : List Event). IsTrue (is_cut s)) (sym (take-take at (length h - 1) h (omega (arith, before)))) cut.1,
-            )
-            | inr past ↦
-                let whole : take at h ≡ h = take_all at h past in
-                let bad : true ≡ false = sym cut.1 ∙ (ap is_cut whole ∙ uncut) in absurd (cc)
-          ];
-    }
+last_cut-open h c uncut last = grind (arith, length-take-le, take-take, take_all) steps
+    2000000
 
 pub shown-open : (rules : Rules) (h : List Event) (e : Event) (old new : Verdict) (from : ℕ) (states : List State) (events all : List Event)
     → AreFine rules h → IsVerdict rules (h ++ e ∷ []) new → shown_length (length h) old ≡ length h → IsFalse (is_cut h)
@@ -95,9 +77,7 @@ pub shown-open : (rules : Rules) (h : List Event) (e : Event) (old new : Verdict
 shown-open rules h e old new from states events all fine is long uncut shown window =
     let o = shown.outcomes in
     let before : before_shown h old ≡ take (length h - 1) h = ap (λ n. take (n - 1) h) long in
-    let inside : o.cut ≤ length h - 1 =
-    (let a = o.last.is.0 in let b : length (before_shown h old) ≡ length h - 1 =
-    ap length before ∙ length-take-le (length h - 1) h (omega arith) in omega (arith, a, b)) in
+    let inside : o.cut ≤ length h - 1 = grind (arith, length-take-le) in
     let same : take o.cut (before_shown h old) ≡ take o.cut h = ap (take o.cut) before ∙ take-take o.cut (length h - 1) h inside in
     let now : AreLastOutcomes rules h states = record {
       cut = o.cut;
@@ -116,12 +96,7 @@ pub record IsSettled (h : List Event) (e : Event) (v : Verdict) : Type 0 where
   pub within : shown_length (length h) v ≤ length h
 
 settled : (rules : Rules) (h : List Event) (e : Event) (v : Verdict) → IsVerdict rules h v → (v ≡ so_far rules.criterion → ⊥) → IsSettled h e v
-settled rules h e OpaqueSoFar is final = absurd (final (sym (ap so_far is.0)))
-settled rules h e StrictSoFar is final = absurd (final (sym (ap so_far is.0)))
-settled rules h e (Malformed m) is final = record { same = refl; within = is.within }
-settled rules h e (Undecided m Transactions) is final = record { same = refl; within = is.within }
-settled rules h e (Undecided m States) is final = record { same = refl; within = is.within }
-settled rules h e (Violated m) is final = record { same = refl; within = is.within }
+settled rules h e v is final = grind arith
 
 pub shown-final : (rules : Rules) (h : List Event) (e : Event) (v w : Verdict) (from : ℕ) (states : List State) (events : List Event)
     → IsVerdict rules h v → (v ≡ so_far rules.criterion → ⊥) → IsVerdict rules (h ++ e ∷ []) w → IsShown rules h v from states events
@@ -143,8 +118,7 @@ shown-final rules h e v w from states events is final now shown =
 
 -- where nothing is wrong, the whole is shown
 pub so_far-length : (c : Criterion) (n : ℕ) (v : Verdict) → v ≡ so_far c → shown_length n v ≡ n
-so_far-length Opacity n v is = ap (shown_length n) is
-so_far-length Strict n v is = ap (shown_length n) is
+so_far-length c n v is = grind arith
 
 -- of no event nothing is shown
 pub shown-none : (rules : Rules) (v : Verdict) (states : List State) (events : List Event) → v ≡ so_far rules.criterion
@@ -165,14 +139,9 @@ fine-empty rules some v is = verdict-one rules [] v (so_far rules.criterion) is 
 -- the same is shown of a history by its one verdict
 pub shown-same : (rules : Rules) (h : List Event) (v w : Verdict) (from : ℕ) (states : List State) (old new : List Event) → IsVerdict rules h v
     → IsVerdict rules h w → IsShown rules h v from states old → new ≡ old → IsShown rules h w from states new
-shown-same rules h v w from states old new a b shown same =
-    let one = subst (λ u. IsShown rules h u from states old) (verdict-one rules h v w a b) shown in
-    record { outcomes = one.outcomes; begins = one.begins; window = same ∙ one.window }
+shown-same rules h v w from states old new a b shown same = grind (arith, verdict-one)
 
 -- what is kept is shown, where the same is kept
 pub kept-same : (rules : Rules) (h : List Event) (v : Verdict) (old new : KeptWindow) → KeepsSame old new → KeepsShown rules h v old
     → KeepsShown rules h v new
-kept-same rules h v old new same shown =
-    subst (λ n. IsShown rules h v n (members new.states) new.events.items) (sym same.from)
-    (subst (λ (s : List State). IsShown rules h v old.from s new.events.items) (sym same.states)
-    (subst (λ (l : List Event). IsShown rules h v old.from (members old.states) l) (sym same.events) shown))
+kept-same rules h v old new same shown = grind arith

@@ -1,36 +1,26 @@
 -- What one event more makes of the views of a window's transactions: one of them turns, or one begins.
-use Rattle.tmw_witness.proofs.Shared.{Begin, Bool, C, IsNext, List, PrecedesNone, Some, StandsFor, TurnsAt, Txn, View, [], and_parts, ap, arith, bit, bit_at, bit_at_above, cases_lt, completed_mask, count_of, descriptors_of, ends_at, false, found-begun, found-moved, found_lives, found_within, inl, inr, is_ended, is_over, length, length-map, map, new_view, next_view, pow-suc, precedes, refl, same_place, slice_get, slice_get_some, slice_get_within, subst, suc, sym, transactions, true, view_of, views, views-told, views_of, views_of-push, zero, ℕ, ◌++◌, ◌<◌, ◌^◌, ◌∙◌, ◌∷◌, ◌≡◌, ◌≤◌}
+use Rattle.tmw_witness.proofs.Shared.{Begin, C, IsNext, List, PrecedesNone, Some, StandsFor, TurnsAt, View, [], and_parts, ap, arith, bit, bit_at, completed_mask, count_of, ends_at, false, found-begun, found-moved, found_lives, found_within, inl, inr, is_ended, is_over, length, new_view, next_view, pow-suc, refl, same_place, shows-views_of, slice_get, slice_get_some, slice_get_within, subst, sym, transactions, true, views, views_of, views_of-push, ℕ, ◌++◌, ◌<◌, ◌^◌, ◌∙◌, ◌∷◌, ◌≡◌, ◌≤◌}
 use Rattle.tmw_events.specs.declared.event.Kind.{Kind}
 use Rattle.tmw_events.specs.declared.event.Event.{Event}
 use Rattle.tmw_events.specs.declared.ix.Ix.{Ix}
 use Rattle.tmw_cuts.specs.declared.turn.Move.{Move}
 use Rattle.tmw_cuts.specs.declared.window.Window.{Window}
 use Rattle.tmw_cuts.specs.Turns.{change, ops_of, place_of, views_after}
-use Rattle.tmw_cuts.proofs.Bits.{bit_at-before_of}
 use Rattle.tmw_cuts.proofs.Changes.{length-change, slice_get-change_here, slice_get-change_other}
 use Rattle.tmw_cuts.proofs.Masks.{bit-le}
-use Rattle.tmw_cuts.specs.Descriptors.{view_in}
-
--- the view at a place is that of the transaction there
-view-at : (all ts : List Txn) (i : ℕ) (x : View) → slice_get (map (view_of all) ts) i ≡ Some x
-    → (t : Txn) × (slice_get ts i ≡ Some t) × (x ≡ view_of all t)
-view-at all [] i x at = absurd (cc)
-view-at all (t ∷ ts) zero x at = (t, refl, cc)
-view-at all (t ∷ ts) (suc i) x at = view-at all ts i x at
+use Rattle.tmw_cuts.proofs.Standings.{length-views_of}
+use Rattle.tmw_search.proofs.Bits.{bit_within}
+use Rattle.tmw_search.proofs.LayerSteps.{shown_bit}
 
 -- one that precedes another has completed
-completed-before : (ts : List Txn) (p : ℕ) (x z : View) → slice_get (map (view_of ts) ts) p ≡ Some x
-    → (i : ℕ) → slice_get (map (view_of ts) ts) i ≡ Some z → bit_at z.before p ≡ 1 → is_over x.status ≡ true
-completed-before ts p x z at i there one =
-    let (t, t_at, t_is) = view-at ts ts p x at in
-    let (u, u_at, u_is) = view-at ts ts i z there in
-    let b : bit (precedes t u) ≡ 1 = sym (bit_at-before_of ts u t p t_at) ∙ sym (ap (λ (v : View). bit_at v.before p) u_is) ∙ one in
-    let before : precedes t u ≡ true = bit_true (precedes t u) b in
-    rw t_is (and_parts (is_ended t.text) _ before).0
-  where
-    bit_true : (b : Bool) → bit b ≡ 1 → b ≡ true
-    bit_true true h = refl
-    bit_true false h = absurd (omega (arith, h))
+completed-before : (events : List Event) (p : ℕ) (x z : View) → slice_get (views_of events) p ≡ Some x
+    → (i : ℕ) → slice_get (views_of events) i ≡ Some z → bit_at z.before p ≡ 1 → is_over x.status ≡ true
+completed-before events p x z at i there one =
+    let ts = transactions events in
+    let shows = shows-views_of events in
+    let (u, u_at) = slice_get_some ts i (let w = slice_get_within (views_of events) i z there in omega (arith, w, shows.same_length)) in
+    let (t, t_at, before) = shown_bit ts z u p (shows.each i z u there u_at) one in
+    rw ((shows.each p x t at t_at).status) (and_parts (is_ended t.text) _ before).0
 
 -- one that is not over stands as it stood
 pub turns-still : (events : List Event) (p : ℕ) (x : View) → slice_get (views_of events) p ≡ Some x → is_over x.status ≡ false
@@ -42,7 +32,7 @@ turns-still events p x at lives = record {
   before = refl;
   others = λ i apart. refl;
   alone = λ i z there one.
-      absurd (let k : true ≡ false = sym (completed-before (transactions events) p x z at i there one) ∙ lives in cc);
+      absurd (let k : true ≡ false = sym (completed-before events p x z at i there one) ∙ lives in cc);
 }
 
 -- the transaction at the move's place turns: it becomes what it is with the event
@@ -57,9 +47,9 @@ turns-next events e w move p x stands next at was =
     = views_of-push events e ∙ ap (λ g. views_after g e.kind (completed_mask vs) vs) told.1
     ∙ ap (λ ops. change p.number (next_view e.kind ops) vs) told.2 in
     let lives : is_over x.status ≡ false
-    = found_lives e.thread.number (descriptors_of events) _ x told.1 (ap (λ xs. slice_get xs p.number) (views-told events) ∙ was) in
+    = found_lives e.thread.number (transactions events) (transactions events) _ x told.1 was in
     let none_before : PrecedesNone vs p.number = λ i z there one.
-    absurd (let k : true ≡ false = sym (completed-before (transactions events) p.number x z was i there one) ∙ lives in cc) in
+    absurd (let k : true ≡ false = sym (completed-before events p.number x z was i there one) ∙ lives in cc) in
     let here : slice_get (views_of (events ++ e ∷ [])) p.number ≡ Some (f x) = rw pushed (slice_get-change_here f vs p.number x was) in
     let others : (i : ℕ) → (i ≡ p.number → ⊥) → slice_get (views_of (events ++ e ∷ [])) i ≡ slice_get vs i
     = λ i apart. rw pushed (slice_get-change_other f vs p.number i apart) in
@@ -89,9 +79,8 @@ pub slot-shown : (events : List Event) (e : Event) (w : Window) (move : Move) (p
     → place_of move ≡ Some p → (p.number < count_of w → slice_get (views w) p.number ≡ Some x) → slice_get (views_of events) p.number ≡ Some x
 slot-shown events e w move p x stands next at shown =
     let told = found-moved events e w move p stands next at in
-    let low = found_within e.thread.number (descriptors_of events) _ told.1 in
-    let size : length (descriptors_of events) ≡ count_of w
-    = sym (length-map (descriptors_of events) view_in) ∙ ap length (views-told events ∙ sym stands.shows) in
+    let low = found_within e.thread.number (transactions events) _ told.1 in
+    let size = sym (length-views_of events) ∙ ap length (sym stands.shows) in
     ap (λ vs. slice_get vs p.number) (sym stands.shows) ∙ shown (omega (arith, low, size))
 
 -- so some transaction turns
@@ -100,10 +89,8 @@ pub turned : (events : List Event) (e : Event) (w : Window) (move : Move) (p : I
     → (x : View) × TurnsAt (views_of events) (views_of (events ++ e ∷ [])) p.number x (next_view e.kind (ops_of move) x)
 turned events e w move p stands next at =
     let told = found-moved events e w move p stands next at in
-    let ds = descriptors_of events in
-    let low = found_within e.thread.number ds _ told.1 in
-    let size : length ds ≡ length (views_of events) = sym (length-map ds view_in) ∙ ap length (views-told events) in
-    let x = slice_get_some (views_of events) p.number (omega (arith, low, size)) in
+    let low = found_within e.thread.number (transactions events) _ told.1 in
+    let x = slice_get_some (views_of events) p.number (omega (arith, low, length-views_of events)) in
     (x.0, turns-next events e w move p x.0 stands next at x.1)
 
 -- and is what the window then shows at the place
@@ -125,11 +112,7 @@ begun-pushed events e w stands next =
     views_of-push events e ∙ ap (λ g. views_after g e.kind (completed_mask (views_of events)) (views_of events)) (found-begun events e w stands next).0
 
 pub completed-within : (vs : List View) (j : ℕ) → bit_at (completed_mask vs) j ≡ 1 → j < length vs
-completed-within vs j one =
-    elim (cases_lt j (length vs)) [
-      | inl within ↦ within
-      | inr past ↦ absurd (omega (arith, one, bit_at_above (completed_mask vs) (length vs) j (completed_mask-lt vs) past))
-    ]
+completed-within vs j one = bit_within (completed_mask vs) (length vs) j (completed_mask-lt vs) one
 
 -- an event that does not end its transaction commits none
 pub no_commit : (kind : Kind) → ends_at kind ≡ false → kind ≡ C → ⊥

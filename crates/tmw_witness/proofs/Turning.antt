@@ -1,246 +1,128 @@
--- One transaction of a window that has a witness gets an event more: what has to hold of it for the others to stand as before.
-use Rattle.tmw_witness.proofs.Shared.{Bool, HasWriter, IsTrue, IsWitness, List, Some, Stands, State, TurnsAt, View, [], ap, arith, bit, bit_at, cases_lt, false, inl, inr, length, length-append, may_hold, refl, same_place, slice_get, slice_get_some, slice_get_within, suc, sym, true, zero, ℕ, ◌++◌, ◌+◌, ◌<◌, ◌∙◌, ◌∷◌, ◌≡◌, ◌≤◌}
+-- One transaction begins, gets an event more or is placed behind others: what has to hold of it for the others to stand as before.
+use Rattle.tmw_witness.proofs.Shared.{Below, HasWriter, IsWitness, List, PlacesThose, Some, Stands, State, TurnsAt, View, Witness, ap, arith, bit, bit_at, cases_Bool, cases_lt, committed_of, false, inl, inr, length, rank_of, same_place, slice_get, slice_get_some, slice_get_within, state_of, sym, true, ℕ, ◌+◌, ◌∙◌, ◌≡◌, ◌≤◌, ◌⊎◌}
 
--- The new ranks are the old ones but at the place, where they are well told; the states are as before up to a rank that is above all
--- others.
-pub record IsTurned (ys : List View) (p : ℕ) (y : View) (rank rank_new : ℕ → ℕ) (held held_new : ℕ → Bool)
-    (state state_new : ℕ → State) (top_new : ℕ) : Type 0 where
-  pub high : ℕ
-  pub unmoved : (i : ℕ) → (i ≡ p → ⊥) → (rank_new i ≡ rank i) × (held_new i ≡ held i)
-  pub below : (i : ℕ) → i < length ys → (i ≡ p → ⊥) → rank i + bit (held i) ≤ high
-  pub under : high ≤ top_new
-  pub states : (r : ℕ) → r ≤ high → state_new r ≡ state r
-  pub stands : Stands rank_new held_new state_new top_new p y
-  pub apart : (i : ℕ) → i < length ys → (i ≡ p → ⊥) → held_new p ≡ true → held i ≡ true → rank_new p ≡ rank i → ⊥
-  pub full : (r : ℕ) → r < top_new → HasWriter (length ys) rank_new held_new r
+-- The members are those that were and the one at the place, which is shown so; what is shown of the others is the same, and none of
+-- them needs it before.
+pub record Adds (was member : ℕ → Type 0) (xs ys : List View) (p : ℕ) (y : View) : Type 0 where
+  pub size : length xs ≤ length ys
+  pub here : slice_get ys p ≡ Some y
+  pub is : member p
+  pub others : (i : ℕ) → member i → (i ≡ p → ⊥) → was i × (slice_get ys i ≡ slice_get xs i)
+  pub back : (i : ℕ) → was i → (i ≡ p → ⊥) → member i
+  pub alone : (i : ℕ) (x : View) → member i → (i ≡ p → ⊥) → slice_get ys i ≡ Some x → bit_at x.before p ≡ 1 → ⊥
+  pub before : (j : ℕ) → bit_at y.before j ≡ 1 → member j
 
-stands-others : (xs ys : List View) (p i : ℕ) (v y x : View) (rank rank_new : ℕ → ℕ) (held held_new : ℕ → Bool)
-    (state state_new : ℕ → State) (top top_new : ℕ) → TurnsAt xs ys p v y
-    → IsTurned ys p y rank rank_new held held_new state state_new top_new → (i ≡ p → ⊥) → slice_get ys i ≡ Some x
-    → Stands rank held state top i x → Stands rank_new held_new state_new top_new i x
-stands-others xs ys p i v y x rank rank_new held held_new state state_new top top_new turns turned apart at stands =
-    let (same_rank, same_held) = turned.unmoved i apart in
-    let high = turned.below i (slice_get_within ys i x at) apart in
-    let under = turned.under in
-    let same_state : state_new (rank i) ≡ state (rank i) = turned.states (rank i) (omega (arith, high)) in
-    record {
-      within = rw (same_rank, same_held) (omega (arith, high, under));
-      may = rw (same_rank, same_held, same_state) stands.may;
-      reads = rw (same_rank, same_state) stands.reads;
-      kept = λ j one.
-          let (before, kept) = stands.kept j one in
-          let (j_rank, j_held) = turned.unmoved j (λ same. turns.alone i x at (rw same at one)) in
-          (before, rw (j_rank, j_held, same_rank) kept);
-      leads = λ is.
-          let was : held i ≡ true = sym same_held ∙ is in
-          let next : state_new (rank i + 1) ≡ state (rank i + 1) =
-          turned.states (rank i + 1) (let k : rank i + bit true ≤ turned.high = rw was at high in k) in
-          rw (same_rank, next, same_state) (stands.leads was);
-    }
+-- The one at the place stays where it stood, or it was not held and is left out somewhere or goes to the end. No other is moved.
+pub record Goes (was : ℕ → Type 0) (p : ℕ) (y : View) (w new : Witness) : Type 0 where
+  pub unmoved : (i : ℕ) → was i → (i ≡ p → ⊥) → (rank_of new i ≡ rank_of w i) × (committed_of new i ≡ committed_of w i)
+  pub states : (r : ℕ) → r ≤ w.top → state_of new r ≡ state_of w r
+  pub how : (was p × (new.top ≡ w.top) × (rank_of new p ≡ rank_of w p) × (committed_of new p ≡ committed_of w p))
+      ⊎ ((was p → committed_of w p ≡ false) × (new.top ≡ w.top + bit (committed_of new p)) × (committed_of new p ≡ true → rank_of new p ≡ w.top))
+  pub stands : Stands new p y
 
--- so there is a witness of the window with the event more
-pub witness-turned : (S : State → Type 0) (xs ys : List View) (p : ℕ) (x y : View) (rank rank_new : ℕ → ℕ) (held held_new : ℕ → Bool)
-    (state state_new : ℕ → State) (top top_new : ℕ) → IsWitness S xs rank held state top → TurnsAt xs ys p x y
-    → IsTurned ys p y rank rank_new held held_new state state_new top_new
-    → IsWitness S ys rank_new held_new state_new top_new
-witness-turned S xs ys p x y rank rank_new held held_new state state_new top top_new w turns turned =
-    let size = turns.same_length in
-    record {
-      few = (let few = w.few in omega (arith, few, size));
-      start = rw (turned.states 0 (omega arith)) w.start;
-      each = λ i z at. elim (same_place i p) [
-        | inl same ↦
-            let is : y ≡ z = (let here = turns.here in let there = rw same at at in cc) in
-            rw (same, ← is) turned.stands
-        | inr other ↦ stands-others xs ys p i x y z rank rank_new held held_new state state_new top top_new turns turned other at
-            (w.each i z (sym (turns.others i other) ∙ at))
-      ];
-      apart = λ i j i_in j_in i_held j_held same. elim (same_place i p) [
-        | inl i_p ↦ elim (same_place j p) [
-          | inl j_p ↦ i_p ∙ sym j_p
-          | inr j_other ↦ absurd (turned.apart j j_in j_other (rw i_p at i_held) (sym (turned.unmoved j j_other).1 ∙ j_held)
-              (ap rank_new (sym i_p) ∙ same ∙ (turned.unmoved j j_other).0))
-        ]
-        | inr i_other ↦ elim (same_place j p) [
-          | inl j_p ↦ absurd (turned.apart i i_in i_other (rw j_p at j_held) (sym (turned.unmoved i i_other).1 ∙ i_held)
-              (ap rank_new (sym j_p) ∙ sym same ∙ (turned.unmoved i i_other).0))
-          | inr j_other ↦
-              let (i_rank, i_same) = turned.unmoved i i_other in
-              let (j_rank, j_same) = turned.unmoved j j_other in
-              w.apart i j (omega (arith, i_in, size)) (omega (arith, j_in, size)) (sym i_same ∙ i_held) (sym j_same ∙ j_held)
-              (sym i_rank ∙ same ∙ j_rank)
-        ]
-      ];
-      full = turned.full;
-    }
-
--- none is moved: the one at the place stands as well with the event
-pub witness-stays : (S : State → Type 0) (xs ys : List View) (p : ℕ) (x y : View) (rank : ℕ → ℕ) (held : ℕ → Bool) (state : ℕ → State)
-    (top : ℕ) → IsWitness S xs rank held state top → TurnsAt xs ys p x y → Stands rank held state top p y
-    → IsWitness S ys rank held state top
-witness-stays S xs ys p x y rank held state top w turns stands =
-    let size = turns.same_length in
-    witness-turned S xs ys p x y rank rank held held state state top top w turns (record {
-      high = top;
-      unmoved = λ i apart. (refl, refl);
-      below = λ i within apart. standing i (omega (arith, within, size));
-      under = omega arith;
-      states = λ r low. refl;
-      stands = stands;
-      apart = λ i within other p_held i_held same.
-          other (sym (w.apart p i (inside turns) (omega (arith, within, size)) p_held i_held same));
-      full = λ r low. let writer = w.full r low in
-          record { place = writer.place; within = (let in_xs = writer.within in omega (arith, in_xs, size)); is = writer.is; ranked = writer.ranked };
-    })
-  where
-    standing : (i : ℕ) → i < length xs → rank i + bit (held i) ≤ top
-    standing i within = let z = slice_get_some xs i within in (w.each i z.0 z.1).within
-
-    inside : TurnsAt xs ys p x y → p < length xs
-    inside turns = let size = turns.same_length in let within = slice_get_within ys p y turns.here in omega (arith, size, within)
-
--- one that is left out goes to another rank, or stays
-pub witness-moved : (S : State → Type 0) (xs ys : List View) (p : ℕ) (x y : View) (rank rank_new : ℕ → ℕ) (held held_new : ℕ → Bool)
-    (state : ℕ → State) (top : ℕ) → IsWitness S xs rank held state top → TurnsAt xs ys p x y
-    → ((i : ℕ) → (i ≡ p → ⊥) → (rank_new i ≡ rank i) × (held_new i ≡ held i)) → held p ≡ false → held_new p ≡ false
-    → Stands rank_new held_new state top p y → IsWitness S ys rank_new held_new state top
-witness-moved S xs ys p x y rank rank_new held held_new state top w turns unmoved out left stands =
-    let size = turns.same_length in
-    witness-turned S xs ys p x y rank rank_new held held_new state state top top w turns (record {
-      high = top;
-      unmoved = unmoved;
-      below = λ i within apart. let z = slice_get_some xs i (omega (arith, within, size)) in (w.each i z.0 z.1).within;
-      under = omega arith;
-      states = λ r low. refl;
-      stands = stands;
-      apart = λ i within other p_held i_held same. absurd (let k : true ≡ false = sym p_held ∙ left in cc);
-      full = λ r low.
-          let writer = w.full r low in
-          let other : writer.place ≡ p → ⊥ = λ same. absurd (let k : true ≡ false = sym writer.is ∙ ap held same ∙ out in cc) in
-          let (same_rank, same_held) = unmoved writer.place other in
-          record {
-            place = writer.place;
-            within = (let in_xs = writer.within in omega (arith, in_xs, size));
-            is = same_held ∙ writer.is;
-            ranked = same_rank ∙ writer.ranked;
-          };
-    })
-
--- one that was left out goes to the end and is held
-pub witness-held : (S : State → Type 0) (xs ys : List View) (p : ℕ) (x y : View) (rank rank_new : ℕ → ℕ) (held held_new : ℕ → Bool)
-    (state state_new : ℕ → State) (top : ℕ) → IsWitness S xs rank held state top → TurnsAt xs ys p x y
-    → ((i : ℕ) → (i ≡ p → ⊥) → (rank_new i ≡ rank i) × (held_new i ≡ held i)) → held p ≡ false → held_new p ≡ true
-    → rank_new p ≡ top → ((r : ℕ) → r ≤ top → state_new r ≡ state r) → Stands rank_new held_new state_new (top + 1) p y
-    → IsWitness S ys rank_new held_new state_new (top + 1)
-witness-held S xs ys p x y rank rank_new held held_new state state_new top w turns unmoved out is at_top states stands =
-    let size = turns.same_length in
-    let below : (i : ℕ) → i < length ys → rank i + bit (held i) ≤ top =
-    λ i within. let z = slice_get_some xs i (omega (arith, within, size)) in (w.each i z.0 z.1).within in
-    witness-turned S xs ys p x y rank rank_new held held_new state state_new top (top + 1) w turns (record {
-      high = top;
-      unmoved = unmoved;
-      below = λ i within apart. below i within;
-      under = omega arith;
-      states = states;
-      stands = stands;
-      apart = λ i within other p_held i_held same.
-          let k : rank i + bit true ≤ top = rw i_held at (below i within) in
-          absurd (omega (arith, k, same, at_top));
-      full = λ r low. elim (cases_lt r top) [
-        | inl earlier ↦
-            let writer = w.full r earlier in
-            let other : writer.place ≡ p → ⊥ = λ same. absurd (let k : true ≡ false = sym writer.is ∙ ap held same ∙ out in cc) in
-            let (same_rank, same_held) = unmoved writer.place other in
-            record {
-              place = writer.place;
-              within = (let in_xs = writer.within in omega (arith, in_xs, size));
-              is = same_held ∙ writer.is;
-              ranked = same_rank ∙ writer.ranked;
-            }
-        | inr not_earlier ↦ record {
-          place = p;
-          within = slice_get_within ys p y turns.here;
-          is = is;
-          ranked = at_top ∙ omega (arith, low, not_earlier);
-        }
-      ];
-    })
-
-slice_get_front : {A : Type 0} (xs ys : List A) (i : ℕ) → i < length xs → slice_get (xs ++ ys) i ≡ slice_get xs i
-slice_get_front [] ys i within = absurd (omega arith)
-slice_get_front (x ∷ xs) ys zero within = refl
-slice_get_front (x ∷ xs) ys (suc i) within = slice_get_front xs ys i (omega (arith, within))
-
-slice_get_last : {A : Type 0} (xs : List A) (x y : A) (i : ℕ) → length xs ≤ i → slice_get (xs ++ x ∷ []) i ≡ Some y
-    → (i ≡ length xs) × (y ≡ x)
-slice_get_last [] x y zero past at = (refl, cc)
-slice_get_last [] x y (suc i) past at = absurd (cc)
-slice_get_last (z ∷ xs) x y zero past at = absurd (omega arith)
-slice_get_last (z ∷ xs) x y (suc i) past at =
-    let rest = slice_get_last xs x y i (omega (arith, past)) at in (ap suc rest.0, rest.1)
-
--- one that begins stands at the end, and is left out
-pub witness-begun : (S : State → Type 0) (xs : List View) (y : View) (rank rank_new : ℕ → ℕ) (held held_new : ℕ → Bool)
-    (state : ℕ → State) (top : ℕ) → IsWitness S xs rank held state top → length xs < 8 → y.ops ≡ [] → IsTrue (may_hold y.status false)
-    → ((j : ℕ) → bit_at y.before j ≡ 1 → j < length xs)
-    → ((i : ℕ) → i < length xs → (rank_new i ≡ rank i) × (held_new i ≡ held i)) → rank_new (length xs) ≡ top
-    → held_new (length xs) ≡ false → IsWitness S (xs ++ y ∷ []) rank_new held_new state top
-witness-begun S xs y rank rank_new held held_new state top w few none may before same at_top out = record {
-  few = (let size = length-append xs (y ∷ []) in omega (arith, size, few));
-  start = w.start;
-  each = λ i x at. elim (cases_lt i (length xs)) [
-    | inl within ↦ others i x within (sym (slice_get_front xs (y ∷ []) i within) ∙ at)
-    | inr past ↦ let (last, is) = slice_get_last xs y x i past at in rw (last, is) new
+pub placed : {starts : List State} {xs ys : List View} {was member : ℕ → Type 0} {p : ℕ} {y : View} {w new : Witness}
+    → PlacesThose starts xs was w → Adds was member xs ys p y → Goes was p y w new → PlacesThose starts ys member new
+placed {xs = xs} {ys = ys} {was = was} {member = member} {p = p} {y = y} {w = w} {new = new} o k g = record {
+  start = rw (g.states 0 (omega arith)) o.start;
+  within = grind (arith, k.others, o.within, slice_get_within ys p y k.here);
+  each = λ i x at is. elim (same_place i p) [
+    | inl same ↦ rw (same, ← shown i x same at) g.stands
+    | inr other ↦ stands i x at is other
   ];
-  apart = λ i j i_in j_in i_held j_held ranks.
-      let i_old = old i i_in i_held in
-      let j_old = old j j_in j_held in
-      w.apart i j i_old j_old (sym (same i i_old).1 ∙ i_held) (sym (same j j_old).1 ∙ j_held)
-      (sym (same i i_old).0 ∙ ranks ∙ (same j j_old).0);
-  full = λ r low.
-      let writer = w.full r low in
-      let (same_rank, same_held) = same writer.place writer.within in
-      record {
-        place = writer.place;
-        within = (let inside = writer.within in let size = length-append xs (y ∷ []) in omega (arith, inside, size));
-        is = same_held ∙ writer.is;
-        ranked = same_rank ∙ writer.ranked;
-      };
+  closed = grind (arith, shown, k.others, k.before, k.back, k.alone, o.closed);
+  apart = grind (arith, clash, k.others, g.unmoved, o.apart);
+  full = λ r low. elim g.how [
+    | inl (own, top, same_rank, same_held) ↦
+        let writer = o.full r (omega (arith, low, top)) in
+        elim (same_place writer.place p) [
+          | inl same ↦ record {
+            place = p;
+            among = k.is;
+            is = same_held ∙ ap (committed_of w) (sym same) ∙ writer.is;
+            ranked = same_rank ∙ ap (rank_of w) (sym same) ∙ writer.ranked;
+          }
+          | inr other ↦ wrote r writer other
+        ]
+    | inr (out, top, last) ↦ elim (cases_lt r w.top) [
+      | inl earlier ↦
+          let writer = o.full r earlier in
+          wrote r writer (λ same. absurd (let k : true ≡ false = sym writer.is ∙ ap (committed_of w) same ∙ out (rw same at writer.among) in cc))
+      | inr late ↦ elim (cases_Bool (committed_of new p)) [
+        | inl is ↦ record { place = p; among = k.is; is = is; ranked = last is ∙ (let all = rw is at top in omega (arith, all, low, late)) }
+        | inr not ↦ absurd (let all = rw not at top in omega (arith, all, low, late))
+      ]
+    ]
+  ];
 }
   where
-    old : (i : ℕ) → i < length (xs ++ y ∷ []) → held_new i ≡ true → i < length xs
-    old i within is = elim (cases_lt i (length xs)) [
-      | inl inside ↦ inside
-      | inr past ↦
-          let size = length-append xs (y ∷ []) in
-          let last : i ≡ length xs = omega (arith, size, within, past) in
-          absurd (let k : true ≡ false = sym is ∙ ap held_new last ∙ out in cc)
-    ]
+    shown : (i : ℕ) (x : View) → i ≡ p → slice_get ys i ≡ Some x → y ≡ x
+    shown i x same at = let here = k.here in let there = rw same at at in cc
 
-    others : (i : ℕ) (x : View) → i < length xs → slice_get xs i ≡ Some x → Stands rank_new held_new state top i x
-    others i x within at =
-        let stands = w.each i x at in
-        let (same_rank, same_held) = same i within in
+    wrote : (r : ℕ) (writer : HasWriter was w r) → (writer.place ≡ p → ⊥) → HasWriter member new r
+    wrote r writer other =
+        let (same_rank, same_held) = g.unmoved writer.place writer.among other in
         record {
-          within = rw (same_rank, same_held) stands.within;
-          may = rw (same_rank, same_held) stands.may;
-          reads = rw same_rank stands.reads;
-          kept = λ j one.
-              let (earlier, kept) = stands.kept j one in
-              let (j_rank, j_held) = same j (omega (arith, earlier, within)) in
-              (earlier, rw (j_rank, j_held, same_rank) kept);
-          leads = λ is. rw same_rank (stands.leads (sym same_held ∙ is));
+          place = writer.place;
+          among = k.back writer.place writer.among other;
+          is = same_held ∙ writer.is;
+          ranked = same_rank ∙ writer.ranked;
         }
 
-    new : Stands rank_new held_new state top (length xs) y
-    new = record {
-      within = rw (at_top, out) (omega arith);
-      may = inl (rw out may);
-      reads = rw none refl;
-      kept = λ j one.
-          let inside = before j one in
-          let x = slice_get_some xs j inside in
-          let (j_rank, j_held) = same j inside in
-          (inside, rw (j_rank, j_held, at_top) (w.each j x.0 x.1).within);
-      leads = λ is. absurd (let k : true ≡ false = sym is ∙ out in cc);
+    -- another that is held has another rank
+    clash : (i : ℕ) → member i → (i ≡ p → ⊥) → committed_of new i ≡ true → committed_of new p ≡ true → rank_of new i ≡ rank_of new p → ⊥
+    clash i is other held_i held_p same =
+        let (old, there) = k.others i is other in
+        let (i_rank, i_held) = g.unmoved i old other in
+        let held = sym i_held ∙ held_i in
+        elim g.how [
+          | inl (own, top, p_rank, p_held) ↦ other (o.apart i p old own held (sym p_held ∙ held_p) (sym i_rank ∙ same ∙ p_rank))
+          | inr (out, top, last) ↦
+              let (x, at) = slice_get_some xs i (o.within i old) in
+              let low : rank_of w i + bit true ≤ w.top = rw held at ((o.each i x at old).within) in
+              absurd (omega (arith, low, i_rank, same, last held_p))
+        ]
+
+    stands : (i : ℕ) (x : View) → slice_get ys i ≡ Some x → member i → (i ≡ p → ⊥) → Stands new i x
+    stands i x at is other =
+        let (old, there) = k.others i is other in
+        let s = o.each i x (sym there ∙ at) old in
+        let low = s.within in
+        let (same_rank, same_held) = g.unmoved i old other in
+        let top : w.top ≤ new.top = elim g.how [ inl (own, same, ranked, more) ↦ omega (arith, same) | inr (out, same, last) ↦ omega (arith, same) ] in
+        let same_state : state_of new (rank_of w i) ≡ state_of w (rank_of w i) = g.states (rank_of w i) (omega (arith, low)) in
+        record {
+          within = rw (same_rank, same_held) (omega (arith, low, top));
+          may = rw (same_rank, same_held, same_state) s.may;
+          reads = rw (same_rank, same_state) s.reads;
+          kept = λ j one.
+              let (earlier, kept) = s.kept j one in
+              let (j_rank, j_held) = g.unmoved j (o.closed i j x (sym there ∙ at) old one) (λ same. k.alone i x is other at (rw same at one)) in
+              (earlier, rw (j_rank, j_held, same_rank) kept);
+          leads = λ held.
+              let was_held : committed_of w i ≡ true = sym same_held ∙ held in
+              let next : state_of new (rank_of w i + 1) ≡ state_of w (rank_of w i + 1) =
+              g.states (rank_of w i + 1) (let k : rank_of w i + bit true ≤ w.top = rw was_held at low in k) in
+              rw (same_rank, next, same_state) (s.leads was_held);
+        }
+
+-- so there is a witness of the window with the event more
+pub witness-turned : {starts : List State} {xs ys : List View} {p : ℕ} {x y : View} {w new : Witness} → IsWitness starts xs w
+    → TurnsAt xs ys p x y → Goes (Below xs) p y w new → IsWitness starts ys new
+witness-turned {xs = xs} {ys = ys} {p = p} {x = x} {y = y} w turns goes =
+    let size = turns.same_length in
+    let inside = slice_get_within ys p y turns.here in
+    record {
+      few = (let few = w.few in omega (arith, few, size));
+      places = placed w.places (record {
+        size = omega (arith, size);
+        here = turns.here;
+        is = inside;
+        others = λ i within other. (omega (arith, within, size), turns.others i other);
+        back = λ i within other. omega (arith, within, size);
+        alone = λ i z within other at one. turns.alone i z at one;
+        before = λ j one.
+            let old = w.places.each p x turns.was (slice_get_within xs p x turns.was) in
+            let (earlier, kept) = old.kept j (rw turns.before at one) in
+            omega (arith, earlier, inside);
+      }) goes;
     }

@@ -1,4 +1,2 @@
-pub mod Placing
 pub mod Turns
-pub mod Witness
 pub mod Witnessing

@@ -37,6 +37,9 @@ impl Witness {
             → IsTrue (reads_hold (state_of self.now (rank_of self.now place.number))
             (item.now.ops.items ++ op ∷ [])) }
     {
+        if let Op::Write(_, _) = op {
+            return true;
+        }
         match self
             .states
             .get(usize::from(self.ranks[place.get() as usize]))

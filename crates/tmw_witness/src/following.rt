@@ -1,4 +1,4 @@
-ghost use Rattle.std.specs.Prelude.{◌≡◌, ◌+◌, ◌≤◌, ◌<◌, ℕ, [], ◌∷◌, ◌++◌, List, IfSome, IsTrue, IsFalse, length, false, true};
+ghost use Rattle.std.specs.Prelude.{◌≡◌, ◌⊎◌, ◌+◌, ◌≤◌, ◌<◌, ℕ, [], ◌∷◌, ◌++◌, List, IfSome, IsTrue, IsFalse, length, false, true};
 ghost use Rattle.std.specs.Int.{bit_at};
 ghost use Rattle.tmw_defs.specs.Opaque.{State, may_hold, reads_hold, after_writes};
 ghost use Rattle.tmw_defs.specs.declared.status.Status.TheVariants.{Pending, Committed, Aborted};
@@ -106,23 +106,33 @@ impl Witness {
         }
     }
 
-    /// Puts the transaction, which was left out, at the end and takes it as committed, if its reads hold there. It is called, so
-    /// that what has to be inlined into the reading of each line stays small enough to be.
+    /// Whether the transaction stands at the end, or else its reads hold there.
+    #[inline(always)]
+    fn fits_end(&self, item: &Txn, place: usize) -> bool
+        requires place { place < 8 }
+        requires room { self.now.top < 9 }
+        ensures { IsTrue result → (rank_of self.now place ≡ self.now.top)
+            ⊎ IsTrue (reads_hold (state_of self.now self.now.top) item.now.ops.items) }
+    {
+        self.ranks[place] == self.top || item.fits(&self.states[usize::from(self.top)])
+    }
+
+    /// Puts the transaction, which was left out, at the end and takes it as committed, if it stands there or its reads hold there. Else it
+    /// returns `false`. It is called, so that what has to be inlined into the reading of each line stays small enough to be.
     #[inline(never)]
     fn hold(&mut self, item: &Txn, place: usize) -> bool
         ensures held { IsTrue result → (starts : List State) (xs ys : List View) (x : View)
-            → TurnsAt xs ys place x (view item.now) → IsTrue (may_hold item.now.status true)
+            → TurnsAt xs ys place x (view item.now) → item.now.ops.items ≡ x.ops
+            → IsTrue (may_hold item.now.status true)
             → Witnesses starts xs self.old → Witnesses starts ys self.new }
         ensures left { IsFalse result → self.new ≡ self.old }
         ensures known { self.new.known ≡ self.old.known }
     {
         let rank = usize::from(self.top);
-        if place >= 8 || rank >= 8 || self.committed[place] {
+        if place >= 8 || rank >= 8 || self.committed[place] || !self.fits_end(item, place) {
             return false;
         }
-        let Some(end) = item.after(&self.states[rank]) else {
-            return false;
-        };
+        let end = item.end_from(&self.states[rank]);
         self.ranks[place] = self.top;
         self.committed[place] = true;
         self.states[rank + 1] = end;

@@ -13,16 +13,16 @@ use tmw_defs::Criterion;
 use tmw_search::{Step, find_order, is_next, may_hold};
 
 impl Witness {
-    ghost use Rattle.tmw_witness.specs.Witnessing.{Witnesses};
-    ghost use Rattle.tmw_witness.specs.Placing.{PlacesThose};
+    ghost use Rattle.tmw_witness.specs.Witnessing.{PlacesThose, Witnesses};
+    ghost use Rattle.tmw_search.specs.Legal.{In};
 
     /// Places a transaction after those of the mask, if it can stand there, and returns the mask with it.
     fn place(&mut self, items: &[Txn], step: Step, mask: u8) -> Option<u8>
         requires { length items.now ≤ 8 }
         ensures known { self.new.known ≡ self.old.known }
         ensures placed { IfSome result (λ above. (starts : List State)
-            → PlacesThose starts (map view items.now) mask self.old
-            → PlacesThose starts (map view items.now) above self.new) }
+            → PlacesThose starts (map view items.now) (In mask) self.old
+            → PlacesThose starts (map view items.now) (In above) self.new) }
     {
         let place = step.place;
         let Some(item) = items.get(place) else {

@@ -1,4 +1,4 @@
-ghost use Rattle.std.specs.Prelude.{◌≡◌, ◌<◌, [], List, IfSome, IsTrue, None, false, slice_get, if◌then◌else◌};
+ghost use Rattle.std.specs.Prelude.{◌≡◌, ◌<◌, ◌≤◌, [], List, IfSome, IfNone, IsTrue, false};
 ghost use Rattle.std.specs.List.{Contains};
 ghost use Rattle.tmw_events.specs.declared.event.Event.{Event};
 ghost use Rattle.tmw_defs.specs.History.{transactions};
@@ -53,20 +53,16 @@ impl Witness {
         self.top = 0;
     }
 
-    /// Begins anew, with a window without a transaction, from the state in which the order ends, and returns that
-    /// state.
+    /// Begins anew, with a window without a transaction, from the state in which the order ends.
     #[inline(always)]
-    pub fn restart_at_end(&mut self) -> State
+    pub fn restart_at_end(&mut self)
         requires { self.old.top < 9 }
-        ensures end { result ≡ state_of self.old self.old.top }
         ensures known { self.new.known ≡ self.old.known }
-        ensures witnesses { (starts : List State) → Contains starts result
-            → Witnesses starts [] self.new }
+        ensures witnesses { (starts : List State)
+            → Contains starts (state_of self.old self.old.top) → Witnesses starts [] self.new }
     {
-        let end = self.states[usize::from(self.top)];
-        self.states[0] = end;
+        self.states[0] = self.states[usize::from(self.top)];
         self.top = 0;
-        end
     }
 
     /// Forgets the order.
@@ -86,24 +82,19 @@ impl Witness {
         self.known
     }
 
-    /// The state at the rank.
-    fn state_at(&self, rank: usize) -> Option<State>
-        ensures { result ≡ slice_get self.now.states rank }
-    {
-        self.states.get(rank).copied()
-    }
-
     /// Returns the state in which the order ends, if one is known.
-    pub fn known_end(&self) -> Option<State>
-        ensures shown { result
-            ≡ (if self.now.known then slice_get self.now.states self.now.top else None) }
+    #[inline(always)]
+    pub fn known_end(&self) -> Option<&State>
+        ensures shown { IfSome result (λ end. IsTrue self.now.known × (self.now.top < 9)
+            × (end.now ≡ state_of self.now self.now.top)) }
+        ensures none { IfNone result (IsTrue self.now.known → 9 ≤ self.now.top) }
         ensures end { IfSome result (λ end. (starts : List State) (events : List Event)
             → Witnesses starts (views_of events) self.now
-            → Ends (Contains starts) (transactions events) end) }
+            → Ends (Contains starts) (transactions events) end.now) }
     {
         if !self.known {
             return None;
         }
-        self.state_at(usize::from(self.top))
+        self.states.get(usize::from(self.top))
     }
 }

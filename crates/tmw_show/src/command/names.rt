@@ -1,28 +1,31 @@
-ghost use Rattle.std.specs.Prelude.{◌≡◌, ◌==◌, ◌++◌, OnOk, find};
-ghost use Rattle.tmw_show.specs.Names.{label_at, label_by, name_text};
+ghost use Rattle.std.specs.Prelude.{◌≡◌, ◌++◌, OnOk, Some};
+ghost use Rattle.tmw_show.specs.Names.{begun_at, label_at, name_text};
 
-use crate::command::numbers::push_number;
 use std::alloc::AllocError;
+use std::fmt;
 use tmw_part::Name;
 
-/// Adds the name of the transaction at this place among those of the window.
-pub fn push_name(text: &mut Vec<u8>, place: usize) -> Result<(), AllocError>
-    ensures { OnOk result (text.new.items ≡ text.old.items ++ name_text place) }
-{
-    text.push(b'T')?;
-    push_number(text, place as u128 + 1)
+/// Prints the name of the transaction at this place among those of the window.
+#[derive(Clone, Copy)]
+pub struct Tx(pub usize);
+
+impl fmt::Display for Tx {
+    ghost output = { λ tx. Some (name_text tx.0) };
+
+    fn fmt<W: fmt::Write>(&self, f: &mut fmt::Formatter<W>) -> fmt::Result {
+        let number = self.0 as u128 + 1;
+        write!(f, "T{number}")
+    }
 }
 
-/// Finds the name of the transaction whose first event that is shown has this place in the window.
-fn find_name(names: &[Name], place: usize) -> Option<Name>
-    ensures { result ≡ find (λ name. name.first == place) names.now }
+/// Finds the transaction whose first event that is shown has this place in the window.
+fn begun_at(names: &[Name], place: usize) -> Option<usize>
+    ensures { result ≡ begun_at names.now place }
 {
-    for name in names {
-        if name.first == place {
-            return Some(*name);
-        }
-    }
-    None
+    names
+        .iter()
+        .find(|name| name.first == place)
+        .map(|name| name.transaction)
 }
 
 /// Adds what stands before the event at this place of the window: the name of the transaction whose first event it is,
@@ -30,10 +33,11 @@ fn find_name(names: &[Name], place: usize) -> Option<Name>
 pub fn push_label(text: &mut Vec<u8>, names: &[Name], place: usize) -> Result<(), AllocError>
     ensures { OnOk result (text.new.items ≡ text.old.items ++ label_at names.now place) }
 {
-    match find_name(names, place) {
-        Some(name) => {
-            push_name(text, name.transaction)?;
-            text.push(b' ')?;
+    match begun_at(names, place) {
+        Some(transaction) => {
+            let tx = Tx(transaction);
+            let label = format!(in *text.allocator(); "{tx} ")?;
+            text.extend_from_slice(label.as_bytes())?;
         }
         None => text.extend_from_slice(b"   ")?,
     }

@@ -1,7 +1,6 @@
-ghost use Rattle.std.specs.Prelude.{◌≡◌, ◌++◌, IfOk, OnOk};
-ghost use Rattle.tmw_show.specs.Explaining.{counts_words, marks_of, needed_text, part_words};
+ghost use Rattle.std.specs.Prelude.{◌≡◌, ◌++◌, IfOk, OnOk, string_bytes};
+ghost use Rattle.tmw_show.specs.Explaining.{marks_of, needed_text, part_words};
 
-use crate::command::numbers::push_number;
 use std::alloc::{AllocError, Global};
 use tmw_events::Event;
 use tmw_part::{MOST_EVENTS, Reason, kept_of};
@@ -40,34 +39,23 @@ pub fn push_needed(text: &mut Vec<u8>, needed: &Needed, events: &[Event]) -> Res
             text.extend_from_slice(b"    part   all events: the run isn't violated\n")?;
         }
         Needed::Part { marks, .. } => {
-            let kept = kept_of(*text.allocator(), marks, events)?;
-            text.extend_from_slice(b"    part   ")?;
-            push_part_words(text, kept.len(), events.len())?;
-            text.push(b'\n')?;
+            let alloc = *text.allocator();
+            let kept = kept_of(alloc, marks, events)?;
+            let words = part_words(alloc, kept.len(), events.len())?;
+            let line = format!(in alloc; "    part   {words}\n")?;
+            text.extend_from_slice(line.as_bytes())?;
         }
     }
     Ok(())
 }
 
-/// Adds how many events of how many are shown.
-fn push_counts(text: &mut Vec<u8>, shown: usize, all: usize) -> Result<(), AllocError>
-    ensures { OnOk result (text.new.items ≡ text.old.items ++ counts_words shown all) }
-{
-    push_number(text, shown as u128)?;
-    text.extend_from_slice(b" of ")?;
-    push_number(text, all as u128)?;
-    text.extend_from_slice(b" events, violated by themselves")?;
-    Ok(())
-}
-
-/// Adds how many events of how many are shown, or that no part is searched for.
-fn push_part_words(text: &mut Vec<u8>, shown: usize, all: usize) -> Result<(), AllocError>
-    ensures { OnOk result (text.new.items ≡ text.old.items ++ part_words shown all) }
+/// Tells how many events of how many are shown, or that no part is searched for.
+fn part_words(alloc: Global, shown: usize, all: usize) -> Result<String, AllocError>
+    ensures { IfOk result (λ words. string_bytes words ≡ part_words shown all) }
 {
     if MOST_EVENTS < all {
-        text.extend_from_slice(b"all events: of more than 1000 no part is searched for")?;
+        format!(in alloc; "all events: of more than 1000 no part is searched for")
     } else {
-        push_counts(text, shown, all)?;
+        format!(in alloc; "{shown} of {all} events, violated by themselves")
     }
-    Ok(())
 }

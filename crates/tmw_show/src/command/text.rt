@@ -65,26 +65,26 @@ fn drawn_text(
         verdict: showing.verdict,
         broken: showing.broken,
     };
-    let from = before as u128 + showing.from as u128;
+    let earlier = before as u128 + showing.from as u128;
     let marks = marks_of(alloc, &shown.needed, &showing.events)?;
-    push_window(&mut text, told, from, &marks, &showing.events)?;
+    push_window(&mut text, told, earlier, &marks, &showing.events)?;
     let kept = kept_of(alloc, &marks, &showing.events)?;
     let values = long_values(alloc, &kept)?;
-    push_reason_of(&mut text, from, &values, &showing.events, &shown.needed)?;
+    push_reason_of(&mut text, earlier, &values, &showing.events, &shown.needed)?;
     Ok(text)
 }
 
 /// Adds the reason that is told, if one is, of a window before which so many events stand. These values have names.
 fn push_reason_of(
     text: &mut Vec<u8>,
-    from: u128,
+    before: u128,
     values: &[u64],
     events: &[Event],
     needed: &Needed,
 ) -> Result<(), AllocError>
-    requires { from + length events.now < 2 ^ 128 }
+    requires { before + length events.now < 2 ^ 128 }
     ensures { let reason = reason_of needed.now in
-        let told = told_sentence values.now from events.now reason in
+        let told = told_sentence values.now before events.now reason in
         OnOk result (text.new.items ≡ text.old.items ++ reason_text values.now told reason) }
 {
     match needed {
@@ -92,7 +92,7 @@ fn push_reason_of(
             reason: Some(reason),
             ..
         } => {
-            let told = told_by(*text.allocator(), values, from, events, &reason.end)?;
+            let told = told_by(*text.allocator(), values, before, events, &reason.end)?;
             push_reason(text, values, &told, reason)
         }
         _ => Ok(()),

@@ -30,7 +30,7 @@ pub fn marked_at(told: Told) -> Option<u128>
 
 /// Returns what is printed beside the event of this number in the whole run: what is wrong there if the verdict names
 /// it, else nothing.
-pub fn told_of(told: Told, number: u128) -> &'static str
+pub fn told_text(told: Told, number: u128) -> &'static str
     ensures { result.now ≡ told_text told number }
 {
     match marked_at(told) {

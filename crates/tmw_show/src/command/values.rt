@@ -1,10 +1,9 @@
-ghost use Rattle.std.specs.Prelude.{◌≡◌, ◌==◌, ◌∷◌, ◌++◌, IfOk, OnOk, position};
-ghost use Rattle.tmw_events.specs.Text.{digit};
-ghost use Rattle.tmw_show.specs.Values.{has_name, long_values, named, names_from, short_name, shown_kind, value_text, with_kind, with_value};
+ghost use Rattle.std.specs.Prelude.{◌≡◌, ◌==◌, ◌++◌, IfOk, OnOk, Some, position};
+ghost use Rattle.tmw_show.specs.Values.{has_name, long_values, name_line, names_from, shown_kind, stored_text, value_text, with_kind, with_value};
 
 use crate::command::event_text::push_kind;
-use crate::command::numbers::push_number;
 use std::alloc::{AllocError, Global};
+use std::fmt;
 use tmw_events::{Event, Ix, Kind};
 
 /// The least value of more than nine digits: it is shown by a short name.
@@ -58,40 +57,40 @@ fn place_of(values: &[u64], value: u64) -> Option<usize>
     values.iter().position(|other| *other == value)
 }
 
-/// Adds the short name of the long value at this place.
-fn push_short_name(text: &mut Vec<u8>, place: usize) -> Result<(), AllocError>
-    ensures { OnOk result (text.new.items ≡ text.old.items ++ short_name place) }
-{
-    text.push(b'v')?;
-    push_number(text, place as u128 + 1)
-}
+/// Prints a value: by its name, if it is one of these.
+#[derive(Clone, Copy)]
+pub struct Value<'a>(pub &'a [u64], pub u64);
 
-/// Adds a value: by its name, if it is one of these.
-pub fn push_value(text: &mut Vec<u8>, values: &[u64], value: u64) -> Result<(), AllocError>
-    ensures { OnOk result (text.new.items ≡ text.old.items ++ value_text values.now value) }
-{
-    match place_of(values, value) {
-        Some(place) => push_short_name(text, place),
-        None => push_number(text, value as u128),
+impl fmt::Display for Value<'_> {
+    ghost output = { λ value. Some (value_text value.0.now value.1) };
+
+    fn fmt<W: fmt::Write>(&self, f: &mut fmt::Formatter<W>) -> fmt::Result {
+        let value = self.1;
+        match place_of(self.0, value) {
+            Some(place) => {
+                let number = place as u128 + 1;
+                write!(f, "v{number}")
+            }
+            None => write!(f, "{value}"),
+        }
     }
 }
 
 /// Adds a letter, a register and a value.
 fn push_stored(
     text: &mut Vec<u8>,
-    letter: u8,
+    letter: &str,
     register: Ix,
     values: &[u64],
     value: u64,
 ) -> Result<(), AllocError>
-    ensures { OnOk result (text.new.items
-        ≡ text.old.items ++ letter ∷ 32 ∷ digit register ∷ 32 ∷ value_text values.now value) }
+    ensures { OnOk result (text.new.items ≡ text.old.items
+        ++ (letter.now ++ stored_text register.number (value_text values.now value))) }
 {
-    text.push(letter)?;
-    text.push(b' ')?;
-    text.push(b'0' + register.get())?;
-    text.push(b' ')?;
-    push_value(text, values, value)
+    let (register, value) = (register.get(), Value(values, value));
+    let stored = format!(in *text.allocator(); "{letter} {register} {value}")?;
+    text.extend_from_slice(stored.as_bytes())?;
+    Ok(())
 }
 
 /// Adds the text of an event's kind, with a value that is one of these by its name.
@@ -99,14 +98,26 @@ pub fn push_shown(text: &mut Vec<u8>, values: &[u64], event: &Event) -> Result<(
     ensures { OnOk result (text.new.items ≡ text.old.items ++ shown_kind values.now event.now.kind) }
 {
     match event.kind {
-        Kind::W(register, value) => push_stored(text, b'W', register, values, value),
-        Kind::N(register, value) => push_stored(text, b'N', register, values, value),
+        Kind::W(register, value) => push_stored(text, "W", register, values, value),
+        Kind::N(register, value) => push_stored(text, "N", register, values, value),
         Kind::V(value) => {
-            text.extend_from_slice(b"V ")?;
-            push_value(text, values, value)
+            let value = Value(values, value);
+            let answer = format!(in *text.allocator(); "V {value}")?;
+            text.extend_from_slice(answer.as_bytes())?;
+            Ok(())
         }
         _ => push_kind(text, event),
     }
+}
+
+/// Adds the line that says what the value at this place is called.
+fn push_name(text: &mut Vec<u8>, place: usize, value: u64) -> Result<(), AllocError>
+    ensures { OnOk result (text.new.items ≡ text.old.items ++ name_line place value) }
+{
+    let number = place as u128 + 1;
+    let line = format!(in *text.allocator(); "    value  v{number} is {value}\n")?;
+    text.extend_from_slice(line.as_bytes())?;
+    Ok(())
 }
 
 /// Adds a line for each of these values, which says what its name is.
@@ -116,11 +127,7 @@ pub fn push_names(text: &mut Vec<u8>, values: &[u64]) -> Result<(), AllocError>
     let mut place = 0;
     let mut rest = values;
     while let [value, more @ ..] = rest {
-        text.extend_from_slice(b"    value  ")?;
-        push_short_name(text, place)?;
-        text.extend_from_slice(b" is ")?;
-        push_number(text, *value as u128)?;
-        text.push(b'\n')?;
+        push_name(text, place, *value)?;
         place += 1;
         rest = more;
     }

@@ -1,11 +1,11 @@
-ghost use Rattle.std.specs.Prelude.{◌≡◌, ◌+◌, ◌<◌, ◌≤◌, ◌^◌, ◌++◌, OnOk, length};
+ghost use Rattle.std.specs.Prelude.{◌≡◌, ◌+◌, ◌<◌, ◌^◌, ◌++◌, OnOk, length};
 ghost use Rattle.tmw_lines.specs.Text.{line};
 ghost use Rattle.tmw_show.specs.Drawing.{beside, event_row, heads_text, last_thread, rows_text, told_row, window_text};
 
 use crate::command::legend::Legend;
 use crate::command::names::push_label;
 use crate::command::numbers::push_blanks;
-use crate::command::told::{Told, told_of};
+use crate::command::told::{Told, told_text};
 use crate::command::values::{long_values, push_names, push_shown};
 use itoa::Buffer;
 use std::alloc::AllocError;
@@ -17,18 +17,18 @@ const ALL_HEADS: &[u8] =
     b"    event  thread 0       thread 1       thread 2       thread 3       thread 4       thread 5       thread 6       thread 7";
 
 /// Adds the line of the heads, and a line for each event that has the mark, in a column for each thread, after its
-/// transaction's name if that begins with it. The first event has the number that follows `from`. Then comes a line for
-/// each short name of a value.
+/// transaction's name if that begins with it. So many events of the run stand before the first. Then comes a line for each
+/// short name of a value.
 pub fn push_window(
     text: &mut Vec<u8>,
     told: Told,
-    from: u128,
+    before: u128,
     marks: &[bool],
     events: &[Event],
 ) -> Result<(), AllocError>
-    requires { from + length events.now < 2 ^ 128 }
+    requires { before + length events.now < 2 ^ 128 }
     ensures { OnOk result
-        (text.new.items ≡ text.old.items ++ window_text told from marks.now events.now) }
+        (text.new.items ≡ text.old.items ++ window_text told before marks.now events.now) }
 {
     let alloc = *text.allocator();
     let kept = kept_of(alloc, marks, events)?;
@@ -41,7 +41,7 @@ pub fn push_window(
     let heads = heads_of(last_thread(&kept));
     text.extend_from_slice(heads)?;
     text.push(b'\n')?;
-    push_rows(text, told, heads.len(), legend, from, marks, events)?;
+    push_rows(text, told, heads.len(), legend, before, marks, events)?;
     push_names(text, &values)
 }
 
@@ -59,26 +59,28 @@ fn last_thread(events: &[Event]) -> u8
     ensures below { result < 8 }
 {
     let mut last = 0;
-    for event in events {
+    let mut rest = events;
+    while let [event, more @ ..] = rest {
         last = last.max(event.thread.get());
+        rest = more;
     }
     last
 }
 
-/// Adds a line for each event that has the mark: the first event has the number that follows `from`.
+/// Adds a line for each event that has the mark. So many events of the run stand before the first.
 fn push_rows(
     text: &mut Vec<u8>,
     told: Told,
     width: usize,
     legend: Legend,
-    from: u128,
+    before: u128,
     marks: &[bool],
     events: &[Event],
 ) -> Result<(), AllocError>
-    requires { from + length events.now < 2 ^ 128 }
+    requires { before + length events.now < 2 ^ 128 }
     ensures { OnOk result
         (text.new.items ≡ text.old.items
-        ++ rows_text told width legend.entry.names.now legend.entry.values.now from 0 marks.now events.now) }
+        ++ rows_text told width legend.entry.names.now legend.entry.values.now before 0 marks.now events.now) }
 {
     let mut place = 0;
     let mut rest_marks = marks;
@@ -88,7 +90,7 @@ fn push_rows(
             return Ok(());
         };
         if *mark {
-            let number = from + (place as u128 + 1);
+            let number = before + (place as u128 + 1);
             push_line(
                 text,
                 width,
@@ -96,7 +98,7 @@ fn push_rows(
                 place,
                 number,
                 *event,
-                told_of(told, number),
+                told_text(told, number),
             )?;
         }
         place += 1;
@@ -121,9 +123,9 @@ fn push_line(
         ++ line (told_row width
         (event_row legend.entry.names.now legend.entry.values.now place number event) told.now)) }
 {
-    let before = text.len();
+    let start = text.len();
     push_row(text, legend, place, number, event)?;
-    let gap = width.saturating_sub(text.len() - before);
+    let gap = width.saturating_sub(text.len() - start);
     push_beside(text, gap, told)?;
     text.push(b'\n')?;
     Ok(())

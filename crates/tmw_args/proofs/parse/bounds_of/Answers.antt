@@ -1,7 +1,5 @@
 -- The bounds are those of both numbers.
-use Rattle.std.proofs.Common.{◌∙◌, codes, refl}
-use Rattle.clap.specs.Words.{found_of, rows_of}
-use Rattle.tmw_args.specs.Words.{count_in}
+use Rattle.tmw_args.proofs.Shared.{codes, count_in, found_of, refl, rows_of, ◌∙◌}
 use Rattle.tmw_args.proofs.Bounding.{with_both, without_states, without_window}
 use Rattle.tmw_args.proofs.parse.bounds_of.Goals as goal
 

@@ -1,5 +1,5 @@
 -- The flag that was read is that of the words.
-use Rattle.clap.specs.Words.{found_of}
+use Rattle.tmw_args.proofs.Shared.{found_of}
 use Rattle.tmw_args.proofs.Flags.{read-flag}
 use Rattle.tmw_args.proofs.parse.flag_of.Goals as goal
 

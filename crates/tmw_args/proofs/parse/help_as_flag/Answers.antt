@@ -1,7 +1,5 @@
 -- `help` is taken out, and its flag put behind.
-use Rattle.std.proofs.Common.{◌≡◌, ◌∙◌, ap, sym, refl, subst, true, arith}
-use Rattle.clap.specs.Walk.{texts}
-use Rattle.tmw_args.specs.Words.{help_as_flag, names_help}
+use Rattle.tmw_args.proofs.Shared.{ap, arith, help_as_flag, names_help, refl, subst, sym, texts, true, ◌∙◌, ◌≡◌}
 use Rattle.tmw_args.proofs.HelpWords.{names_help-second, help_as_flag-named, help_as_flag-other}
 use Rattle.tmw_args.proofs.parse.help_as_flag.Goals as goal
 use Rattle.tmw_args.proofs.parse.help_as_flag.Goals.{then-names_help+in_ok-push, else-names_help}

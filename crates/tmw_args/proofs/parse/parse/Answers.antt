@@ -1,8 +1,5 @@
 -- The program parses the words with `help` spelled as a flag. Without memory for the program any program refuses them.
-use Rattle.std.proofs.Common.{◌∙◌, ap, map}
-use Rattle.std.proofs.lemmas.Result.{IfOk-weaker, MatchResult-weaker}
-use Rattle.clap.specs.Walk.{texts}
-use Rattle.clap.specs.Words.{app_of}
+use Rattle.tmw_args.proofs.Shared.{ap, app_of, IfOk-weaker, map, MatchResult-weaker, texts, ◌∙◌}
 use Rattle.tmw_args.proofs.Sample.{without_memory}
 use Rattle.tmw_args.proofs.parse.parse.Goals as goal
 

@@ -1,11 +1,5 @@
 -- The program is a simple command, so clap says by which kinds a parse of any words fails.
-use Rattle.std.proofs.Common.{◌≡◌, ◌∙◌, List, ap, inl, inr, subst, sym}
-use Rattle.clap.specs.Walk.{texts}
-use Rattle.clap.specs.Words.{App, HasKind, Text, app_of, fault_of, kind_of, subcommand_of}
-use Rattle.clap.specs.declared.error.Error.{Error}
-use Rattle.clap.proofs.TakesLemmas.{passed_up}
-use Rattle.tmw_args.specs.Reading.{FailsAs}
-use Rattle.tmw_args.specs.Words.{help_as_flag, kinds_of, order_in}
+use Rattle.tmw_args.proofs.Shared.{ap, App, app_of, Error, FailsAs, fault_of, HasKind, help_as_flag, inl, inr, kind_of, kinds_of, List, order_in, passed_up, subcommand_of, subst, sym, Text, texts, ◌∙◌, ◌≡◌}
 use Rattle.tmw_args.proofs.Simple.{is_free, is_plain}
 use Rattle.tmw_args.proofs.parse.parse_by.Goals as goal
 

@@ -1,7 +1,5 @@
 -- The settings are those of three numbers and of the bounds.
-use Rattle.std.proofs.Common.{◌∙◌, codes, refl}
-use Rattle.clap.specs.Words.{found_of, rows_of}
-use Rattle.tmw_args.specs.Words.{bounds_in, count_in}
+use Rattle.tmw_args.proofs.Shared.{bounds_in, codes, count_in, found_of, refl, rows_of, ◌∙◌}
 use Rattle.tmw_args.proofs.Bounding.{with_all, without_bounds, without_cells, without_patience, without_rounds}
 use Rattle.tmw_args.proofs.parse.settings_of.Goals as goal
 

@@ -1,7 +1,5 @@
 -- The text that was read is that of the words.
-use Rattle.std.proofs.Common.{◌∙◌}
-use Rattle.clap.specs.Words.{found_of}
-use Rattle.clap.proofs.WalkLemmas.{first_value-rows}
+use Rattle.tmw_args.proofs.Shared.{first_value-rows, found_of, ◌∙◌}
 use Rattle.tmw_args.proofs.parse.text_of.Goals as goal
 
 pub returns : goal.returns

@@ -1,6 +1,5 @@
 -- The words so far, as they stand.
-use Rattle.std.proofs.Common.{◌≡◌, map, take}
-use Rattle.clap.specs.Walk.{texts}
+use Rattle.tmw_args.proofs.Shared.{map, take, texts, ◌≡◌}
 use Rattle.tmw_args.proofs.parse.texts_of.Given as goal
 
 abbrev pub invariant-loop-word : goal.invariant-loop-word

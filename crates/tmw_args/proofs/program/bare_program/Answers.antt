@@ -1,7 +1,5 @@
 -- Each builder says which part of the command it changes.
-use Rattle.std.proofs.Common.{◌∙◌, ap, true}
-use Rattle.clap.specs.Simple.{app_of_fields}
-use Rattle.clap.specs.Words.{App}
+use Rattle.tmw_args.proofs.Shared.{ap, App, app_of_fields, true, ◌∙◌}
 use Rattle.tmw_args.proofs.program.bare_program.Goals as goal
 
 abbrev needing : App → App

@@ -1,6 +1,5 @@
 -- A command's texts for help are no part of what a parse reads.
-use Rattle.std.proofs.Common.{◌∙◌, ap}
-use Rattle.clap.specs.Simple.{app_of_fields}
+use Rattle.tmw_args.proofs.Shared.{ap, app_of_fields, ◌∙◌}
 use Rattle.tmw_args.proofs.program.described.Goals as goal
 
 pub returns : goal.returns

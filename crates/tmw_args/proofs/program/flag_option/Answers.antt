@@ -1,8 +1,5 @@
 -- Each builder says which part of the flag it changes.
-use Rattle.std.proofs.Common.{◌∙◌, Bool, Some, ap}
-use Rattle.clap.specs.Words.{Rule, Text, rule_of}
-use Rattle.clap.specs.declared.builder.action.ArgAction.TheVariants.{SetTrue}
-use Rattle.clap.specs.declared.builder.arg.Arg.{Arg}
+use Rattle.tmw_args.proofs.Shared.{ap, Arg, Bool, Rule, rule_of, SetTrue, Some, Text, ◌∙◌}
 use Rattle.tmw_args.proofs.program.flag_option.Goals as goal
 
 abbrev set_true : Rule → Rule

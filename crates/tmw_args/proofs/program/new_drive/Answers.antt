@@ -1,9 +1,5 @@
 -- Each step adds its options to those that are there.
-use Rattle.std.proofs.Common.{◌∙◌, ap}
-use Rattle.std.proofs.lemmas.Result.{IfOk-weaker}
-use Rattle.clap.specs.Words.{App}
-use Rattle.clap.specs.declared.builder.value_parser.ValueParser.TheVariants.{Names}
-use Rattle.tmw_args.specs.Program.{with_bounds, with_memory}
+use Rattle.tmw_args.proofs.Shared.{ap, App, IfOk-weaker, Names, with_bounds, with_memory, ◌∙◌}
 use Rattle.tmw_args.proofs.program.new_drive.Goals as goal
 
 pub returns : goal.returns

@@ -1,9 +1,5 @@
 -- Each command is added behind those that are there.
-use Rattle.std.proofs.Common.{◌≡◌, ap, refl, rules}
-use Rattle.std.proofs.lemmas.Result.{IfOk-weaker}
-use Rattle.clap.specs.Walk.{texts}
-use Rattle.clap.specs.Words.{App}
-use Rattle.tmw_args.specs.Program.{criteria_names, memory_names, shown_names}
+use Rattle.tmw_args.proofs.Shared.{ap, App, criteria_names, IfOk-weaker, memory_names, refl, rules, shown_names, texts, ◌≡◌}
 use Rattle.tmw_args.proofs.Commands.{app_of-added, app_of-with_command}
 use Rattle.tmw_args.proofs.program.new_program.Goals as goal
 

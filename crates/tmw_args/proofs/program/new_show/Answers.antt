@@ -1,9 +1,5 @@
 -- Each step adds its options to those that are there.
-use Rattle.std.proofs.Common.{◌∙◌, ap, codes}
-use Rattle.std.proofs.lemmas.Result.{IfOk-weaker}
-use Rattle.clap.specs.Words.{App}
-use Rattle.clap.specs.declared.builder.value_parser.ValueParser.TheVariants.{Names}
-use Rattle.tmw_args.specs.Program.{with_before, with_bounds, with_criterion, with_flag}
+use Rattle.tmw_args.proofs.Shared.{ap, App, codes, IfOk-weaker, Names, with_before, with_bounds, with_criterion, with_flag, ◌∙◌}
 use Rattle.tmw_args.proofs.program.new_show.Goals as goal
 
 pub returns : goal.returns

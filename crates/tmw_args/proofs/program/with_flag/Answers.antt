@@ -1,7 +1,5 @@
 -- The builder says which part of the command it changes.
-use Rattle.std.proofs.Common.{◌∙◌, ap₂, refl}
-use Rattle.std.proofs.lemmas.Result.{IfOk-weaker}
-use Rattle.clap.specs.Words.{with_rule}
+use Rattle.tmw_args.proofs.Shared.{ap₂, IfOk-weaker, refl, with_rule, ◌∙◌}
 use Rattle.tmw_args.proofs.program.with_flag.Goals as goal
 
 pub returns : goal.returns

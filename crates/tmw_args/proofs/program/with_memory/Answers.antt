@@ -1,8 +1,5 @@
 -- The memory's option is added, and behind it the flags.
-use Rattle.std.proofs.Common.{◌∙◌, ap, ap₂, refl}
-use Rattle.std.proofs.lemmas.Result.{IfOk-weaker}
-use Rattle.clap.specs.Words.{with_rule}
-use Rattle.tmw_args.specs.Program.{with_run_flags}
+use Rattle.tmw_args.proofs.Shared.{ap, ap₂, IfOk-weaker, refl, with_rule, with_run_flags, ◌∙◌}
 use Rattle.tmw_args.proofs.program.with_memory.Goals as goal
 
 pub returns : goal.returns

@@ -1,8 +1,5 @@
 -- Each step adds its flag to those that are there.
-use Rattle.std.proofs.Common.{◌∙◌, ap, codes}
-use Rattle.std.proofs.lemmas.Result.{IfOk-weaker}
-use Rattle.clap.specs.Words.{App}
-use Rattle.tmw_args.specs.Program.{with_flag}
+use Rattle.tmw_args.proofs.Shared.{ap, App, codes, IfOk-weaker, with_flag, ◌∙◌}
 use Rattle.tmw_args.proofs.program.with_run_flags.Goals as goal
 
 pub returns : goal.returns

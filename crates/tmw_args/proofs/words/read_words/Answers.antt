@@ -1,6 +1,5 @@
 -- What the error tells is a reading of the words.
-use Rattle.std.proofs.Common.{map}
-use Rattle.clap.specs.Words.{kind_of}
+use Rattle.tmw_args.proofs.Shared.{kind_of, map}
 use Rattle.tmw_args.proofs.Refusals.{refused-reads}
 use Rattle.tmw_args.proofs.words.read_words.Goals as goal
 

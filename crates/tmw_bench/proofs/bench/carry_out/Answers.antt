@@ -34,16 +34,7 @@ play_rounds-requires-clause-can g c κs within =
 
 pub settle-rest-requires-clause-count : goal.settle-rest-requires-clause-count
 settle-rest-requires-clause-count g c =
-    let workload = c.args.workload.now in
-    let rules = rules_of workload.registers zeros c.args.settings.bounds in
-    let begun = c.in_ok-left.ensures.played.begun rules (subst (Fits rules []) (sym c.keeping-pump.ensures.monitor) c.in-Ok-new.ensures.fits) in
-    let counted = begun.after.played.counted in
-    let scripts = length-map c.as_slice.result.now script_of in
-    let same : length c.as_slice.result.now ≡ length workload.scripts.items = ap (λ (l : List (Vec (Vec Kind))). length l) c.as_slice.ensures.value in
-    let sized = c.in-Ok.ensures.ok.sized.writers_are in
-    let threads = c.len-threads.ensures in
-    let whole = workload.scripts.ok.0 in
-    omega (arith, counted, scripts, same, sized, threads, whole)
+    grind (arith, rules_of, zeros, length-map, script_of, length)
 
 pub returns-clause-ok : goal.returns-clause-ok
 returns-clause-ok g c =

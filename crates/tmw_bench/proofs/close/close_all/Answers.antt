@@ -61,12 +61,5 @@ loop-worker-preserved c =
     )
 
 pub returns-clause-closed : goal.returns-clause-closed
-returns-clause-closed c = λ place a b low.
-    let at = c.loop-worker in
-    let items = into_iter_items at.worker-iterator in
-    let none : length items ≡ 0 = (let was = at.invariant.3 in let gone = c.in-None.ensures.steps.0 in omega (arith, was, gone)) in
-    let all : at.yielded ≡ c.args.back.items =
-    sym (append-nil at.yielded) ∙ ap (λ (l : List Back). at.yielded ++ l) (sym (nil_from_length items none)) ∙ at.invariant.2 in
-    let long : length at.yielded ≡ length c.args.back.items = ap (λ (l : List Back). length l) all in
-    let mapped = length-map c.args.back.items (λ (one : Back). one.0) in
-    at.invariant.7 place a b (omega (arith, low, long, mapped))
+returns-clause-closed c =
+    grind (arith, into_iter_items, length, append-nil, nil_from_length, length-map)

@@ -1,14 +1,9 @@
-use Rattle.tmw_bench.proofs.Shared.{HasLedTo, IsVerdict, [], arith, length, refl, subst, sym, ℕ, ◌+◌, ◌∙◌, ◌∷◌, ◌≡◌}
+use Rattle.tmw_bench.proofs.Shared.{HasLedTo, IsVerdict, arith, length, subst, sym, ℕ, ◌+◌, ◌∙◌, ◌∷◌, ◌≡◌}
 use Rattle.tmw_bench.proofs.Leads.{gone_on-none, gone_on-then, led-heard, led-on, led-told, led-new}
 use Rattle.tmw_bench.proofs.leading.lead.Goals as goal
 
 pub loop-round-init : goal.loop-round-init
-loop-round-init g c = (
-  c.requires.reader,
-  refl,
-  λ rules fits. ([], refl, led-new rules c.args.lines.now c.args.pump.now.front c.requires.new c.requires.judged fits),
-  gone_on-none c.args.pump.now,
-)
+loop-round-init g c = grind (arith, led-new, gone_on-none)
 
 pub returns-then-stopped-clause-led : goal.returns-then-stopped-clause-led
 returns-then-stopped-clause-led g c = λ rules fits.
@@ -77,18 +72,10 @@ returns-clause-led g c = λ rules fits.
     }
 
 pub returns-then-stopped-clause-goes_on : goal.returns-then-stopped-clause-goes_on
-returns-then-stopped-clause-goes_on g c =
-    let at = c.loop-round in
-    gone_on-then c.args.pump.now at.pump c.hear_all.new.pump at.invariant.3 c.in_ok-tail.ensures.goes_on
+returns-then-stopped-clause-goes_on g c = grind (arith, gone_on-then)
 
 pub returns-in_default-clause-goes_on : goal.returns-in_default-clause-goes_on
-returns-in_default-clause-goes_on g c =
-    let keeps = g.K.Keep.keeps in
-    let at = c.loop-round in
-    gone_on-then c.args.pump.now at.pump c.judge_up_to.new.pump at.invariant.3
-    (gone_on-then at.pump c.hear_all.new.pump c.judge_up_to.new.pump c.in_ok-tail.ensures.goes_on c.in_ok-judge_up_to.ensures.goes_on)
+returns-in_default-clause-goes_on g c = grind (arith, gone_on-then)
 
 pub returns-clause-goes_on : goal.returns-clause-goes_on
-returns-clause-goes_on g c =
-    let at = c.loop-round in
-    gone_on-then c.args.pump.now at.pump c.hear_all-2.new.pump at.invariant.3 c.in_ok-hear_all.ensures.goes_on
+returns-clause-goes_on g c = grind (arith, gone_on-then)

@@ -1,4 +1,4 @@
-use Rattle.tmw_bench.proofs.Shared.{IsTrue, Line, arith, get_or, get_or_default, length, refl, subst, ◌<◌, ◌≡◌}
+use Rattle.tmw_bench.proofs.Shared.{IsTrue, Line, arith, get_or, get_or_default, length, subst, ◌<◌, ◌≡◌}
 use Rattle.tmw_bench.proofs.Leads.{gone_on-none, gone_on-then, heard-next, some_stop-here, some_stop-later}
 use Rattle.tmw_bench.proofs.line.hear_all.Goals.{then-is_stopped, else-is_stopped}
 use Rattle.tmw_bench.proofs.line.hear_all.Goals as goal
@@ -24,9 +24,4 @@ loop-line-preserved g c =
     )
 
 pub loop-line-init : goal.loop-line-init
-loop-line-init g c = (
-  c.requires.reader,
-  gone_on-none c.args.pump.now,
-  record { counted = refl; each = λ place fallback low. absurd (omega (arith, low)); rest = λ place fallback from. refl },
-  λ none. absurd (cc),
-)
+loop-line-init g c = grind (arith, gone_on-none)

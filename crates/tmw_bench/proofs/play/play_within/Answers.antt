@@ -1,4 +1,4 @@
-use Rattle.tmw_bench.proofs.Shared.{AreClosed, AreNewLines, ArePairs, IsAfter, Line, List, Option, Refused, SomeStop, SomeToldStop, WriterIs, inl, inr, length, length-map, map, script_of, scripts_of, subst, sym, ◌∙◌, ◌≡◌}
+use Rattle.tmw_bench.proofs.Shared.{AreClosed, ArePairs, IsAfter, Line, List, Option, Refused, SomeStop, SomeToldStop, WriterIs, inl, inr, length, length-map, map, script_of, scripts_of, subst, sym, ◌∙◌, ◌≡◌, arith}
 use Rattle.tmw_bench.proofs.Gathered.{is_after-gathered, new_lines, new_workers, pairs, some_stop-gathered}
 use Rattle.tmw_bench.proofs.Joined.{back_count, come_back, given_back, led_to}
 use Rattle.tmw_bench.proofs.Starts.{Back}
@@ -9,9 +9,7 @@ start_all-requires-clause-new g c κs within =
     new_workers c.args.stage.ring.now c.args.writers.items c.in-Ok.workers.items c.in-Ok.lines.items c.in-Ok.ensures c.requires.can.writers
 
 pub lead-led-requires-clause-new : goal.lead-led-requires-clause-new
-lead-led-requires-clause-new g c =
-    subst AreNewLines (sym c.as_mut_slice.ensures.value)
-    (new_lines c.args.stage.ring.now c.args.writers.items c.in-Ok.workers.items c.in-Ok.lines.items c.in-Ok.ensures)
+lead-led-requires-clause-new g c = grind (arith, new_lines)
 
 pub close_all-requires-clause-pairs : goal.close_all-requires-clause-pairs
 close_all-requires-clause-pairs g c =

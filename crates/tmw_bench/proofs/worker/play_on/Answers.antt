@@ -1,12 +1,10 @@
-use Rattle.tmw_bench.proofs.Shared.{calls_of, refl}
+use Rattle.tmw_bench.proofs.Shared.{calls_of, refl, arith, rules}
 use Rattle.tmw_bench.proofs.Returns.{worked-more}
-use Rattle.tmw_bench.proofs.Between.{between-new, between-next, played_on-stopped, played_on-over}
+use Rattle.tmw_bench.proofs.Between.{between-next, played_on-stopped, played_on-over}
 use Rattle.tmw_bench.proofs.worker.play_on.Goals as goal
 
 pub loop-init : goal.loop-init
-loop-init g c =
-    between-new g.J.Giving.gave c.args.stage.ring.now (calls_of c.args.script.now) c.args.worker.now
-    c.requires.of_ring c.requires.new c.requires.told c.requires.sent
+loop-init g c = grind arith
 
 pub loop-preserved : goal.loop-preserved
 loop-preserved g c =
@@ -22,13 +20,7 @@ loop-preserved g c =
     c.tell-in-loop.ensures.ring c.tell-in-loop.ensures.sent next.ring next.next.1 next.next.0 c.see.ensures
 
 pub returns-in-Some-stop : goal.returns-in-Some-stop
-returns-in-Some-stop g c =
-    let worked = c.work-stop in
-    let works = worked-more ((goal.Tm-dyn g c.args.memory.now).gives c.args.memory.now.1) g.J.Giving.gave (calls_of c.args.script.now)
-    c.loop.worker.writer worked.new.writer c.work-stop.result c.requires.gives worked.ensures.worked in
-    played_on-stopped g.J.Giving.gave c.args.stage.ring.now (calls_of c.args.script.now) c.args.worker.now c.loop.worker
-    (record { writer = worked.new.writer; up = c.tell.new.up; down = c.loop.worker.down }) c.loop.invariant worked.result
-    (record { tail = 0; stop = worked.result }) refl worked.ensures.of_ring worked.ensures.number works c.tell.ensures.ring c.tell.ensures.sent refl
+returns-in-Some-stop g c = search (rules, worked-more, calls_of, played_on-stopped)
 
 pub returns-in_default-next_bound : goal.returns-in_default-next_bound
 returns-in_default-next_bound g c =

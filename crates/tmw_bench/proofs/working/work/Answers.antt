@@ -1,16 +1,10 @@
-use Rattle.tmw_bench.proofs.Shared.{Answer, Call, calls_of, refl, sym, ◌∙◌}
+use Rattle.tmw_bench.proofs.Shared.{Answer, Call, calls_of, sym, ◌∙◌, arith, rules}
 use Rattle.tmw_bench.proofs.Left.{calls_left-goes_on}
 use Rattle.tmw_bench.proofs.Works.{played-called, played-new, worked-none_left, worked-refused}
 use Rattle.tmw_bench.proofs.working.work.Goals as goal
 
 pub loop-call-init : goal.loop-call-init
-loop-call-init g c =
-    let script = c.requires.script in
-    let gives : Call → Answer → Type 0 = λ call answer. (goal.Tm-dyn g c.args.memory.now).gives c.args.memory.now.1 call answer in (
-      c.requires.of_ring,
-      refl,
-      played-new gives script.0 (calls_of c.args.script.now) c.number.result.number c.new-player.result c.args.writer.now script.1 c.new-player.ensures,
-    )
+loop-call-init g c = search (rules, played-new, calls_of)
 
 pub returns-in-Some-step-clause-worked : goal.returns-in-Some-step-clause-worked
 returns-in-Some-step-clause-worked g c =
@@ -19,21 +13,10 @@ returns-in-Some-step-clause-worked g c =
     c.step.new.writer c.loop-call.invariant.2 (sym c.next.ensures.next ∙ c.in-Some.is) c.in-Some-step.ensures.stopped
 
 pub loop-call-smaller : goal.loop-call-smaller
-loop-call-smaller g c =
-    let called = c.in_default-step.ensures.called in
-    calls_left-goes_on (calls_of c.args.script.now) c.loop-call.player c.step.new.player c.in-Some.call called.answer
-    (sym c.next.ensures.next ∙ c.in-Some.is) called.goes_on
+loop-call-smaller g c = grind (arith, calls_left-goes_on, calls_of)
 
 pub loop-call-preserved : goal.loop-call-preserved
-loop-call-preserved g c =
-    let gives : Call → Answer → Type 0 = λ call answer. (goal.Tm-dyn g c.args.memory.now).gives c.args.memory.now.1 call answer in
-    let at = c.loop-call in
-    let one = c.step.ensures in (
-      one.of_ring,
-      one.number ∙ at.invariant.1,
-      played-called gives (calls_of c.args.script.now) at.player c.step.new.player c.in-Some.call c.args.writer.now at.writer c.step.new.writer
-          at.invariant.2 (sym c.next.ensures.next ∙ c.in-Some.is) c.in_default-step.ensures.called,
-    )
+loop-call-preserved g c = grind (arith, played-called, calls_of)
 
 pub returns-clause-worked : goal.returns-clause-worked
 returns-clause-worked g c =

@@ -1,4 +1,4 @@
-use Rattle.tmw_drive.proofs.Shared.{AllEnd, AllNew, AllPlay, Answer, Call, Drives, Event, List, Player, [], ap, drop, length, length-map, script_of, scripts_of, subst, sym, take_at, ℕ, ◌∙◌, ◌≡◌}
+use Rattle.tmw_drive.proofs.Shared.{AllEnd, AllPlay, Answer, Call, Drives, Event, List, Player, [], ap, drop, length, length-map, script_of, scripts_of, subst, sym, take_at, ℕ, ◌∙◌, ◌≡◌, arith}
 use Rattle.tmw_drive.proofs.AllPlaying.{all_play-new}
 use Rattle.tmw_drive.proofs.Drives.{is_driven}
 use Rattle.tmw_drive.proofs.Workloads.{are_transactions-workload}
@@ -6,21 +6,15 @@ use Rattle.tmw_drive.proofs.driving.record.Goals as goal
 
 pub play-requires-clause-all : goal.play-requires-clause-all
 play-requires-clause-all g c =
-    let workload = c.args.workload.now in
-    let registers = workload.registers.number in
-    let scripts = scripts_of workload.scripts.items in
-    let players = c.in_ok-players.players.items in
-    let gives : Call → Answer → Type 0 = λ call answer. (goal.Tm-dyn g c.args.memory.now).gives c.args.memory.now.1 call answer in
-    let count : c.len.result ≡ length scripts
-    = c.len.ensures ∙ workload.scripts.ok.0 ∙ sym (length-map workload.scripts.items script_of)
-    in
-    let new : AllNew (length scripts) players = subst (λ n. AllNew n players) count c.in_ok-players.ensures in
-    let start : AllPlay gives scripts players []
-    = all_play-new gives registers scripts players (are_transactions-workload registers scripts workload.order.items workload.is) new
-    in
-    subst (λ (log : List Event). AllPlay gives (scripts_of c.deref.result.now) c.deref_mut.result.now log) (sym c.new-log.ensures.items)
-    (subst (λ (p : List Player). AllPlay gives (scripts_of c.deref.result.now) p []) (sym c.deref_mut.ensures.value)
-    (subst (λ s. AllPlay gives (scripts_of s) players []) (sym c.deref.ensures.value) start))
+    grind (
+      arith,
+      scripts_of,
+      length,
+      length-map,
+      script_of,
+      all_play-new,
+      are_transactions-workload,
+    )
 
 pub returns : goal.returns
 returns g c =

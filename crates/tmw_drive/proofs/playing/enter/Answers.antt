@@ -1,25 +1,22 @@
-use Rattle.tmw_drive.proofs.Shared.{AllPlay, Answer, Call, DoesEntry, Player, Plays, ap, calls_of, get_or, get_or_default, kinds_of, length, length-map, script_at, script_of, scripts_of, slice_set, subst, sym, ◌<◌, ◌∙◌, ◌≡◌}
-use Rattle.tmw_drive.proofs.AllPlaying.{all_play-entry, numbered-read, on_ok, plays-read}
+use Rattle.tmw_drive.proofs.Shared.{AllPlay, Answer, Call, DoesEntry, Player, Plays, ap, calls_of, get_or, get_or_default, kinds_of, length, length-map, script_at, script_of, scripts_of, slice_set, subst, sym, ◌<◌, ◌∙◌, ◌≡◌, arith}
+use Rattle.tmw_drive.proofs.AllPlaying.{all_play-entry, numbered-read, on_ok}
 use Rattle.tmw_drive.proofs.Positions.{script_at-read}
 use Rattle.tmw_drive.proofs.playing.enter.Goals as goal
 
 pub step-requires : goal.step-requires
 step-requires g c =
-    let place = c.from-place.result in
-    let scripts = scripts_of c.args.scripts.now in
-    let players = c.args.players.now in
-    let log = c.args.log.now.items in
-    let old : Player = get_or players place c.index-players-place.result in
-    let gives : Call → Answer → Type 0 = λ call answer. (goal.Tm-dyn g c.args.memory.now).gives c.args.memory.now.1 call answer in
-    let within : place < length c.args.scripts.now = subst (λ n. n < length c.args.scripts.now) (sym c.from-place.ensures) c.requires.within in
-    let low : place < length players
-    = subst (λ n. place < n) (sym (c.requires.all.counted ∙ length-map c.args.scripts.now script_of)) within
-    in
-    let read : old ≡ get_or players place old = get_or_default players place c.index-players-place.result old low in
-    let script : script_at scripts place ≡ calls_of c.deref.result.now
-    = script_at-read c.args.scripts.now place c.index-scripts-place.result within c.index-scripts-place.is ∙ ap calls_of (sym c.deref.ensures.value)
-    in
-    subst (λ s. Plays gives s old (kinds_of old.thread.number log)) script (plays-read gives scripts players log place old c.requires.all low read)
+    grind (
+      arith,
+      scripts_of,
+      get_or,
+      length,
+      length-map,
+      script_of,
+      get_or_default,
+      script_at,
+      calls_of,
+      script_at-read,
+    )
 
 pub returns-clause-all : goal.returns-clause-all
 returns-clause-all g c =

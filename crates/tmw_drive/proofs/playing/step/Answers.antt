@@ -1,4 +1,4 @@
-use Rattle.tmw_drive.proofs.Shared.{Answer, Call, Event, Plays, [], ap, calls_of, inl, inr, kinds_of, refl, subst, sym, ◌++◌, ◌∙◌, ◌∷◌}
+use Rattle.tmw_drive.proofs.Shared.{Answer, Call, Event, Plays, [], ap, calls_of, inl, inr, kinds_of, refl, subst, sym, ◌++◌, ◌∙◌, ◌∷◌, arith}
 use Rattle.tmw_drive.proofs.Entries.{kinds_of-pair_own, pushed-pair}
 use Rattle.tmw_drive.proofs.Players.{beginning-plays, call-plays, goes_on-same, plays-goes_on, whole-plays}
 use Rattle.tmw_drive.proofs.playing.step.Goals as goal
@@ -14,14 +14,7 @@ returns-in_default-clause-entry g c =
     )
 
 pub ask-answer-requires : goal.ask-answer-requires
-ask-answer-requires g c =
-    let old = c.args.player.now in
-    let gives : Call → Answer → Type 0 = λ call answer. (goal.Tm-dyn g c.args.memory.now).gives c.args.memory.now.1 call answer in
-    record {
-      fresh = c.requires.fresh;
-      call = call-plays gives (calls_of c.args.script.now) old (kinds_of old.thread.number c.args.log.now.items) c.in-Some.call c.requires
-          (sym c.next.ensures.next ∙ c.in-Some.is);
-    }
+ask-answer-requires g c = grind (arith, call-plays, calls_of, kinds_of)
 
 pub returns-clause-plays : goal.returns-clause-plays
 returns-clause-plays g c =

@@ -1,5 +1,5 @@
 -- While not all verdicts are final, each event that was read is fed.
-use Rattle.tmw_judge.proofs.Shared.{ap, failures_after, refl, sym, ◌∙◌}
+use Rattle.tmw_judge.proofs.Shared.{ap, failures_after, refl, sym, ◌∙◌, arith}
 use Rattle.tmw_judge.proofs.FirstFed.{HasFed-none, HasFed-push, feeds-end, feeds-fault, feeds-final, feeds-lack, reads_on, room-next}
 use Rattle.tmw_judge.proofs.feeding_first.feed_first.Goals as goal
 
@@ -52,8 +52,7 @@ returns-in-Err-clause-failed g c =
     c.in-Err.ensures.failed reading ∙ ap (failures_after c.in-Err.fault) c.loop-lines.invariant.1
 
 pub returns-clause-feeds : goal.returns-clause-feeds
-returns-clause-feeds g c =
-    feeds-final c.loop-lines.invariant.0 tt (g.S.Source.from.ended c.loop-lines.source) (sym c.loop-lines-test.ensures)
+returns-clause-feeds g c = grind (arith, feeds-final)
 
 pub returns-clause-well : goal.returns-clause-well
 returns-clause-well g c = c.loop-lines.invariant.1

@@ -1,5 +1,5 @@
 -- A trace is begun, and its events are fed.
-use Rattle.tmw_judge.proofs.Shared.{refl}
+use Rattle.tmw_judge.proofs.Shared.{arith}
 use Rattle.tmw_judge.proofs.FedFor.{fed-unbegun, fed-done, fed-fault}
 use Rattle.tmw_judge.proofs.judging.feed_judges.Goals as goal
 
@@ -10,12 +10,7 @@ returns-in-Err-clause-right g c =
     c.in-Err.fault c.args.options.first c.in-Err.ensures.begins c.quote_fault.ensures.told)
 
 pub returns-in-Ok-feed_for-clause-right : goal.returns-in-Ok-feed_for-clause-right
-returns-in-Ok-feed_for-clause-right g c =
-    let done =
-    fed-done g.S.Source.from g.C.Counting.counts (g.S.Source.from.ended c.begin.new.source) (g.S.Source.from.ended c.feed_for.new.source)
-    c.args.source.now c.begin.new.source c.feed_for.new.source c.begin.new.lines c.feed_for.new.lines c.args.options.bounds c.args.options.asked
-    c.in-Ok.judges c.feed_for.new.judges c.in-Ok.ensures.begins tt c.args.options.first c.in-Ok-feed_for.ensures.feeds in
-    (done.0, done.1, done.2, refl)
+returns-in-Ok-feed_for-clause-right g c = grind (arith, fed-done)
 
 pub returns-in-Err-feed_for-clause-right : goal.returns-in-Err-feed_for-clause-right
 returns-in-Err-feed_for-clause-right g c =

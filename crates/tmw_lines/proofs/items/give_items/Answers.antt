@@ -1,5 +1,5 @@
 -- Each item that was read is given, and where memory is refused for one, no line is read after its line.
-use Rattle.tmw_lines.proofs.Shared.{ap, arith, failures_after, refl, subst, sym, ◌∙◌}
+use Rattle.tmw_lines.proofs.Shared.{arith, refl, subst, sym, ◌∙◌}
 use Rattle.tmw_lines.proofs.ItemsGiven.{HasGiven-none, HasGiven-held, HasGiven-push, lacks-held-last, lacks-next, count-next, gives-end, gives-fault, reads_on}
 use Rattle.tmw_lines.proofs.items.give_items.Goals as goal
 
@@ -19,8 +19,7 @@ take-requires g c =
     let held = HasGiven-held c.lines.invariant.0 g.met.T.Taker.takes_more c.give_held.new.self c.give_held.new.taker c.in-Ok.ensures.gives in
     let given = rw c.in-Ok-Some.field-0-is at c.in-Ok-Some.ensures.item in
     let more = count-next held c.next.new.self given.0 c.in-Ok-Some.item given.2 c.requires.begun in
-    let few = c.next.new.self.few in
-    (c.give_held.new.self.count, omega (arith, more, few), c.in-Ok.ensures.counted)
+    grind arith
 
 pub lines-preserved : goal.lines-preserved
 lines-preserved g c =
@@ -54,8 +53,7 @@ returns-in-Err-clause-gives g c =
 pub returns-in-Err-clause-failed : goal.returns-in-Err-clause-failed
 returns-in-Err-clause-failed g c =
     let held = HasGiven-held c.lines.invariant.0 g.met.T.Taker.takes_more c.give_held.new.self c.give_held.new.taker c.in-Ok.ensures.gives in
-    let reading = reads_on held c.requires.begun in
-    c.in-Err.ensures.failed reading ∙ ap (failures_after c.in-Err.fault) c.lines.invariant.1
+    let reading = reads_on held c.requires.begun in grind arith
 
 pub returns-in_default-take-clause-failed : goal.returns-in_default-take-clause-failed
 returns-in_default-take-clause-failed g c = c.in-Ok-Some.ensures.well ∙ c.lines.invariant.1

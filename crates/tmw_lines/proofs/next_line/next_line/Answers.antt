@@ -1,65 +1,27 @@
-use Rattle.tmw_lines.proofs.Shared.{ap, arith, bytes_of, eqb-false, eqb-true, length, sym, ◌<◌, ◌^◌, ◌∙◌}
-use Rattle.tmw_lines.proofs.NextLines.{next-item, next-bad, next-end, next-cut, next-failed, long-feed, long-end, long-failed}
+use Rattle.tmw_lines.proofs.Shared.{arith}
+use Rattle.tmw_lines.proofs.NextLines.{next-end, long-feed, long-end, long-failed}
 use Rattle.tmw_lines.proofs.next_line.next_line.Goals as goal
 
 pub returns-in-Feed-clause-reads : goal.returns-in-Feed-clause-reads
-returns-in-Feed-clause-reads g c =
-    let few : c.args.count < 2 ^ 40 = omega arith in
-    long-feed g.F.LineFormat.grammar g.S.Source.from (g.S.Source.from.ended c.skip_line.new.source)
-    c.args.source.now c.next_piece.new.source c.skip_line.new.source c.args.format c.args.count (bytes_of c.args.held.now)
-    (bytes_of c.next_piece.new.held) few c.next_piece.ensures.reads c.in-Long.ensures.piece.0 c.in-Long.ensures.piece.1
-    (g.met.F.LineFormat.long_item c.args.format) c.in-Feed.ensures.skips
+returns-in-Feed-clause-reads g c = grind (arith, long-feed)
 
 pub returns-in-End-skip_line-clause-reads : goal.returns-in-End-skip_line-clause-reads
-returns-in-End-skip_line-clause-reads g c =
-    let few : c.args.count < 2 ^ 40 = omega arith in
-    long-end g.F.LineFormat.grammar g.S.Source.from (g.S.Source.from.ended c.skip_line.new.source)
-    c.args.source.now c.next_piece.new.source c.skip_line.new.source c.args.format c.args.count (bytes_of c.args.held.now)
-    (bytes_of c.next_piece.new.held) few c.next_piece.ensures.reads c.in-Long.ensures.piece.0 c.in-Long.ensures.piece.1
-    c.in-End-skip_line.ensures.skips
+returns-in-End-skip_line-clause-reads g c = grind (arith, long-end)
 
 pub returns-in-Failed-skip_line-clause-reads : goal.returns-in-Failed-skip_line-clause-reads
-returns-in-Failed-skip_line-clause-reads g c =
-    let few : c.args.count < 2 ^ 40 = omega arith in
-    long-failed g.F.LineFormat.grammar g.S.Source.from (g.S.Source.from.ended c.skip_line.new.source)
-    c.args.source.now c.next_piece.new.source c.skip_line.new.source c.args.format c.args.count (bytes_of c.args.held.now)
-    (bytes_of c.next_piece.new.held) few c.next_piece.ensures.reads c.in-Long.ensures.piece.0 c.in-Long.ensures.piece.1
-    c.in-Failed-skip_line.ensures.skips
+returns-in-Failed-skip_line-clause-reads g c = grind (arith, long-failed)
 
 pub returns-in-Some-clause-reads : goal.returns-in-Some-clause-reads
-returns-in-Some-clause-reads g c =
-    let few : c.args.count < 2 ^ 40 = omega arith in
-    next-item g.F.LineFormat.grammar g.S.Source.from (g.S.Source.from.ended c.next_piece.new.source)
-    c.args.source.now c.next_piece.new.source c.args.format c.args.count (bytes_of c.args.held.now)
-    (bytes_of c.next_piece.new.held) (bytes_of c.take_item.new.held) few c.next_piece.ensures.reads c.in-Some.item c.in-Some.ensures.some
+returns-in-Some-clause-reads g c = grind arith
 
 pub returns-in-None-clause-reads : goal.returns-in-None-clause-reads
-returns-in-None-clause-reads g c =
-    let few : c.args.count < 2 ^ 40 = omega arith in
-    next-bad g.F.LineFormat.grammar g.S.Source.from (g.S.Source.from.ended c.next_piece.new.source)
-    c.args.source.now c.next_piece.new.source c.args.format c.args.count (bytes_of c.args.held.now)
-    (bytes_of c.next_piece.new.held) (bytes_of c.take_item.new.held) few c.next_piece.ensures.reads c.in-None.ensures.none c.in-None.ensures.kept
+returns-in-None-clause-reads g c = grind arith
 
 pub returns-in-End-clause-reads : goal.returns-in-End-clause-reads
-returns-in-End-clause-reads g c =
-    let few : c.args.count < 2 ^ 40 = omega arith in
-    let none = sym (ap length c.bytes.ensures.value) ∙ eqb-true (length c.bytes.result.now) 0 (sym c.if-is_empty.ensures) in
-    next-end g.F.LineFormat.grammar g.S.Source.from (g.S.Source.from.ended c.next_piece.new.source)
-    c.args.source.now c.next_piece.new.source c.args.format c.args.count (bytes_of c.args.held.now)
-    (bytes_of c.next_piece.new.held) (bytes_of c.next_piece.new.held) few c.next_piece.ensures.reads c.in-End.ensures.piece.0 none
+returns-in-End-clause-reads g c = grind (arith, next-end)
 
 pub returns-in-End-2-clause-reads : goal.returns-in-End-2-clause-reads
-returns-in-End-2-clause-reads g c =
-    let few : c.args.count < 2 ^ 40 = omega arith in
-    let held = ap length c.bytes.ensures.value in
-    let some = eqb-false (length c.bytes.result.now) 0 (sym c.if-is_empty.ensures) in
-    next-cut g.F.LineFormat.grammar g.S.Source.from (g.S.Source.from.ended c.next_piece.new.source)
-    c.args.source.now c.next_piece.new.source c.args.format c.args.count (bytes_of c.args.held.now)
-    (bytes_of c.next_piece.new.held) (bytes_of c.next_piece.new.held) few c.next_piece.ensures.reads c.in-End.ensures.piece.0 (omega (arith, held, some)) c.in-End.ensures.piece.1
+returns-in-End-2-clause-reads g c = grind arith
 
 pub returns-in-Failed-clause-reads : goal.returns-in-Failed-clause-reads
-returns-in-Failed-clause-reads g c =
-    let few : c.args.count < 2 ^ 40 = omega arith in
-    next-failed g.F.LineFormat.grammar g.S.Source.from (g.S.Source.from.ended c.next_piece.new.source)
-    c.args.source.now c.next_piece.new.source c.args.format c.args.count (bytes_of c.args.held.now)
-    (bytes_of c.next_piece.new.held) (bytes_of c.next_piece.new.held) few c.next_piece.ensures.reads c.in-Failed.ensures.piece.0 c.in-Failed.ensures.piece.1
+returns-in-Failed-clause-reads g c = grind arith

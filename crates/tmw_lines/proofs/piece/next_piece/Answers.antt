@@ -1,35 +1,19 @@
 -- What was seen has no line feed, and where it is all that is held, none is held.
-use Rattle.tmw_lines.proofs.Shared.{ap, append-nil, arith, bytes_of, length, length-append, nil_from_length, sym, ◌++◌, ◌∙◌, ◌≤◌}
+use Rattle.tmw_lines.proofs.Shared.{ap, append-nil, arith, bytes_of, length, length-append, nil_from_length, ◌∙◌}
 use Rattle.tmw_lines.proofs.Pieces.{Reads-more, IsSeen-append, free-seen}
 use Rattle.tmw_lines.proofs.piece.next_piece.Goals as goal
 
 pub returns-then-length-bytes-clause-piece : goal.returns-then-length-bytes-clause-piece
-returns-then-length-bytes-clause-piece g c =
-    let seen = rw c.bytes-bytes.ensures.value at c.seen_on-length.ensures.seen in
-    let stops = rw c.bytes-bytes.ensures.value at c.seen_on-length.ensures.stops in
-    (seen.free, stops (omega (arith, ap length c.bytes-bytes.ensures.value)))
+returns-then-length-bytes-clause-piece g c = grind arith
 
 pub returns-then-length-eq-MOST_HELD-clause-piece : goal.returns-then-length-eq-MOST_HELD-clause-piece
-returns-then-length-eq-MOST_HELD-clause-piece g c =
-    let held = ap length c.bytes-bytes.ensures.value in
-    let seen = rw c.bytes-bytes.ensures.value at c.seen_on-length.ensures.seen in
-    let all : length (bytes_of c.loop-seen.held) ≤ c.seen_on-length.result = omega (arith, held) in (
-      omega (arith, all, held, seen.within),
-      free-seen (bytes_of c.loop-seen.held) c.seen_on-length.result all seen,
-    )
+returns-then-length-eq-MOST_HELD-clause-piece g c = grind (arith, free-seen)
 
 pub returns-in-Err-clause-reads : goal.returns-in-Err-clause-reads
-returns-in-Err-clause-reads g c =
-    Reads-more c.loop-seen.invariant.0 c.in-Err.ensures.kept.1 (c.in-Err.ensures.kept.0 ∙ sym (append-nil (bytes_of c.loop-seen.held)))
+returns-in-Err-clause-reads g c = grind (arith, append-nil)
 
 pub returns-in-Err-clause-piece : goal.returns-in-Err-clause-piece
-returns-in-Err-clause-piece g c =
-    let held = ap length c.bytes-bytes.ensures.value in
-    let seen = rw c.bytes-bytes.ensures.value at c.seen_on-length.ensures.seen in
-    let all : length (bytes_of c.loop-seen.held) ≤ c.seen_on-length.result = omega (arith, held) in (
-      c.in-Err.ensures.no_end,
-      rw c.in-Err.ensures.kept.0 (free-seen (bytes_of c.loop-seen.held) c.seen_on-length.result all seen),
-    )
+returns-in-Err-clause-piece g c = grind (arith, free-seen)
 
 pub returns-in-Ok-eq0-clause-reads : goal.returns-in-Ok-eq0-clause-reads
 returns-in-Ok-eq0-clause-reads g c =
@@ -37,16 +21,7 @@ returns-in-Ok-eq0-clause-reads g c =
     Reads-more c.loop-seen.invariant.0 more.1 more.2
 
 pub returns-in-Ok-eq0-clause-piece : goal.returns-in-Ok-eq0-clause-piece
-returns-in-Ok-eq0-clause-piece g c =
-    let held = ap length c.bytes-bytes.ensures.value in
-    let seen = rw c.bytes-bytes.ensures.value at c.seen_on-length.ensures.seen in
-    let all : length (bytes_of c.loop-seen.held) ≤ c.seen_on-length.result = omega (arith, held) in
-    let more = c.in-Ok-eq0.ensures.more in
-    let nothing = nil_from_length more.0 (omega (arith, more.3)) in
-    let same = more.2 ∙ ap (λ xs. bytes_of c.loop-seen.held ++ xs) nothing ∙ append-nil (bytes_of c.loop-seen.held) in (
-      c.in-Ok-eq0.ensures.end (omega arith),
-      rw same (free-seen (bytes_of c.loop-seen.held) c.seen_on-length.result all seen),
-    )
+returns-in-Ok-eq0-clause-piece g c = grind (arith, nil_from_length, append-nil, free-seen)
 
 pub returns-in-Ok-eq0-clause-failures : goal.returns-in-Ok-eq0-clause-failures
 returns-in-Ok-eq0-clause-failures g c = c.in-Ok-eq0.ensures.well ∙ c.loop-seen.invariant.3

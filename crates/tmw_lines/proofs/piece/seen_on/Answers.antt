@@ -14,6 +14,4 @@ returns-clause-seen c =
     IsSeen-more c.args.bytes.now c.args.seen c.length_before.result c.requires.seen more
 
 pub returns-clause-stops : goal.returns-clause-stops
-returns-clause-stops c =
-    let more = rw (take_rest c.args.bytes.now c.args.seen) at c.length_before.ensures in
-    drop-seen c.args.bytes.now c.args.seen c.length_before.result more
+returns-clause-stops c = grind (arith, take_rest, drop-seen)

@@ -1,5 +1,6 @@
 use Rattle.tmw_lines.proofs.TextsRead.{all-ends, all-fails}
 use Rattle.tmw_lines.proofs.reader.read_lines.Goals as goal
+use Rattle.tmw_lines.proofs.Shared.{arith}
 
 pub returns-in-Ok-read_items-clause-text : goal.returns-in-Ok-read_items-clause-text
 returns-in-Ok-read_items-clause-text g c =
@@ -7,16 +8,10 @@ returns-in-Ok-read_items-clause-text g c =
     (all-ends first.1 first.2 tt c.new-items.ensures.items c.in-Ok-read_items.ensures.reads).0
 
 pub returns-in-Ok-read_items-clause-ended : goal.returns-in-Ok-read_items-clause-ended
-returns-in-Ok-read_items-clause-ended g c =
-    let first = c.in-Ok.ensures.header in
-    (all-ends first.1 first.2 tt c.new-items.ensures.items c.in-Ok-read_items.ensures.reads).1
+returns-in-Ok-read_items-clause-ended g c = grind arith
 
 pub returns-in-Ok-read_items-clause-lines : goal.returns-in-Ok-read_items-clause-lines
-returns-in-Ok-read_items-clause-lines g c =
-    let first = c.in-Ok.ensures.header in
-    (all-ends first.1 first.2 tt c.new-items.ensures.items c.in-Ok-read_items.ensures.reads).2
+returns-in-Ok-read_items-clause-lines g c = grind arith
 
 pub returns-in-Err-read_items-clause-fault : goal.returns-in-Err-read_items-clause-fault
-returns-in-Err-read_items-clause-fault g c =
-    let first = c.in-Ok.ensures.header in
-    all-fails first.1 first.2 _ c.in-Err-read_items.fault c.in-Err-read_items.ensures.reads
+returns-in-Err-read_items-clause-fault g c = grind (arith, all-fails)

@@ -36,12 +36,20 @@ returns-clause-taken c took criterion bounds rules history by window states keep
     let fits = c.if-not-explains_end.false in
     let next = c.requires.next in
     let witness = c.explains_end.ensures.stands fits starts rest keeps.stands next (c.hold_pending.ensures.stands starts rest keeps.stands next keeps.witness) in
-    let only : members c.put_only.new.self ≡ state_of w w.top ∷ [] = rw (← c.restart_at_end-end.ensures.end) c.put_only.ensures in
+    let shown = c.in-Some.ensures.shown in
+    let only : members c.put_only.new.self ≡ state_of w w.top ∷ [] = rw (← shown.2) c.put_only.ensures in
     let positive = bounds.some_states in
+    let at_cut = sym (c.is_cut_with.ensures rest e keeps.stands next) ∙ c.if-not-is_cut_with.false in
     last-fine rules history e old _ keeps c.args.place (state_of w w.top) next
     (rw keeps.number at (formed-next rest e old.window (End c.args.place) keeps.stands next))
-    (sym (c.is_cut_with.ensures rest e keeps.stands next) ∙ c.if-not-is_cut_with.false) c.clear.ensures.registers
+    at_cut (c.clear.ensures.registers ∙ c.end-2.ensures.registers)
     (omega (arith, positive, states)) (sym (c.count.ensures.stands rest keeps.stands) ∙ c.if-count-ne1.false)
     (sym c.len.ensures ∙ c.if-len-ne1.false)
-    (explained rules.criterion old.states (rest ++ e ∷ []) w (c.explains_end.ensures.known fits) witness) only c.clear.ensures.stands
-    (c.restart_at_end-end.ensures.witnesses (members c.put_only.new.self) (rw c.put_only.ensures (contains_here c.restart_at_end-end.result [])))
+    (explained rules.criterion old.states (rest ++ e ∷ []) w (c.explains_end.ensures.known fits) witness) only
+    (c.clear.ensures.stands (rest ++ e ∷ []) (c.end-2.ensures.stands rest keeps.stands next) at_cut)
+    (c.restart_at_end.ensures.witnesses (members c.put_only.new.self) (rw only (contains_here (state_of w w.top) [])))
+
+pub returns-in_default-clause-left : goal.returns-in_default-clause-left
+returns-in_default-clause-left c = λ none rules history keeps.
+    keeps-order rules history c.args.kept.now c.hold_pending.new.self keeps
+    (c.hold_pending.ensures.stands (members c.args.kept.now.states) (drop keeps.cut history) keeps.stands c.requires.next keeps.witness)

@@ -1,8 +1,5 @@
-use Rattle.tmw_part.proofs.Shared.{None, left_by, length, operations, ◌≡◌}
+use Rattle.tmw_part.proofs.Shared.{None, left_by, operations, ◌≡◌}
 use Rattle.tmw_part.proofs.deeds.left_by.Given as goal
 
-abbrev pub invariant-loop-rest : goal.invariant-loop-rest
-invariant-loop-rest l = left_by l.register.number l.left (operations l.rest) ≡ left_by l.register.number None (operations l.text)
-
-abbrev pub decreases-loop-rest : goal.decreases-loop-rest
-decreases-loop-rest l = length l.rest
+abbrev pub invariant-loop-op : goal.invariant-loop-op
+invariant-loop-op l = left_by l.register l.left (operations l.op-iterator.0.now) ≡ left_by l.register None (operations l.text)

@@ -1,8 +1,5 @@
-use Rattle.tmw_part.proofs.Shared.{length, operations, writes, ◌≡◌}
+use Rattle.tmw_part.proofs.Shared.{operations, writes, ◌≡◌}
 use Rattle.tmw_part.proofs.deeds.writes.Given as goal
 
-abbrev pub invariant-loop-rest : goal.invariant-loop-rest
-invariant-loop-rest l = writes l.register.number (operations l.rest) ≡ writes l.register.number (operations l.text)
-
-abbrev pub decreases-loop-rest : goal.decreases-loop-rest
-decreases-loop-rest l = length l.rest
+abbrev pub invariant-loop-op : goal.invariant-loop-op
+invariant-loop-op l = writes l.register (operations l.op-iterator.0.now) ≡ writes l.register (operations l.text)

@@ -1,4 +1,4 @@
-use Rattle.tmw_part.proofs.Shared.{All, Bool, IsNeeded, List, members, subst, sym, ◌≡◌}
+use Rattle.tmw_part.proofs.Shared.{All, Bool, IsNeededIn, List, subst, sym, ◌≡◌}
 use Rattle.tmw_part.proofs.find.take_all_out.Goals as goal
 
 pub loop-took-preserved : goal.loop-took-preserved
@@ -7,8 +7,8 @@ loop-took-preserved c = record {
   needed = λ none.
       let (same, needed) = c.in_ok-took.ensures.needed none in
       let stays : c.take_out.new.marks.items ≡ c.loop-took.marks.items = same in
-      let IsNeededIn = λ (marks : List Bool). IsNeeded c.args.criterion c.args.registers.number (members c.args.states.now) c.args.events.now marks in
-      subst (λ (marks : List Bool). All (IsNeededIn marks) c.in_ok-pieces.pieces.items) (sym stays) (rw c.deref.ensures.value at needed);
+      subst (λ (marks : List Bool). All (IsNeededIn c.args.search.now marks) c.in_ok-pieces.pieces.items) (sym stays)
+      (rw c.deref.ensures.value at needed);
 }
 
 pub returns : goal.returns

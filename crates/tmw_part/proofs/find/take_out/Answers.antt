@@ -1,11 +1,10 @@
-use Rattle.tmw_part.proofs.Shared.{All-more, IsNeeded, arith, cases_Bool, false, inl, inr, members, sym, take_all, true, ◌∙◌, ◌≡◌}
+use Rattle.tmw_part.proofs.Shared.{All-more, IsNeededIn, arith, cases_Bool, false, inl, inr, sym, take_all, true, ◌∙◌, ◌≡◌}
 use Rattle.tmw_part.proofs.find.take_out.Goals.{in-Some, in_default}
 use Rattle.tmw_part.proofs.find.take_out.Goals as goal
 
 pub loop-piece-preserved : goal.loop-piece-preserved
 loop-piece-preserved c =
     let so_far = c.loop-piece.invariant in
-    let events = c.args.events.now in
     elim c.match-found.branch [
       | in-Some w ↦
           let less = rw (w.in-Some.is, c.deref.ensures.value) at c.in_ok-found.ensures.fewer in
@@ -25,11 +24,10 @@ loop-piece-preserved c =
             fewer = λ took. rw w.marks-is (so_far.fewer (sym w.took-is ∙ took));
             same = λ none. rw w.marks-is (so_far.same (sym w.took-is ∙ none));
             needed = λ none.
-                let IsNeededHere = IsNeeded c.args.criterion c.args.registers.number (members c.args.states.now) events c.args.marks.now.items in
                 let first = sym w.took-is ∙ none in
                 let same = so_far.same first in
                 let here = rw same at needed in
-                All-more IsNeededHere c.args.pieces.now c.loop-piece.piece-index (record { thread = 0; from = 0; upto = 0 }) c.loop-piece-test.true (so_far.needed first) here;
+                All-more (IsNeededIn c.args.search.now c.args.marks.now.items) c.args.pieces.now c.loop-piece.piece-index (record { thread = 0; from = 0; upto = 0 }) c.loop-piece-test.true (so_far.needed first) here;
           }
     ]
 

@@ -9,9 +9,10 @@ returns-then-eq-clause-needed c =
 
 pub is_violated_part-requires-clause-each : goal.is_violated_part-requires-clause-each
 is_violated_part-requires-clause-each c =
-    rw (c.deref.ensures.value, c.in_ok-left.ensures) (length-without c.args.pieces.now 0 c.args.marks.now c.args.events.now c.requires.each)
+    rw (c.deref.ensures.value, c.in_ok-left.ensures)
+    (length-without c.args.pieces.now c.args.marks.now c.args.search.now.events.now c.requires.each)
 
 pub returns-clause-fewer : goal.returns-clause-fewer
 returns-clause-fewer c =
-    fewer-kept c.args.pieces.now c.args.marks.now c.in_ok-left.left.items c.args.events.now c.requires.each c.in_ok-left.ensures
+    fewer-kept c.args.pieces.now c.args.marks.now c.in_ok-left.left.items c.args.search.now.events.now c.requires.each c.in_ok-left.ensures
     (rw c.as_slice.ensures.value at (sym c.eq.ensures ∙ c.if-eq.false))

@@ -1,6 +1,5 @@
--- The events that are left make of the transactions so far those of the whole history.
-use Rattle.tmw_part.proofs.Shared.{drop, transactions, transactions_from, txns_of, ◌≡◌}
+use Rattle.tmw_part.proofs.Shared.{drop, transactions, transactions_from, ◌≡◌}
 use Rattle.tmw_part.proofs.transaction.transactions.Given as goal
 
 abbrev pub invariant-loop-place : goal.invariant-loop-place
-invariant-loop-place l = transactions_from l.place (txns_of l.list.items) (drop l.place l.events) ≡ transactions l.events
+invariant-loop-place l = transactions_from l.place l.list.items (drop l.place l.events) ≡ transactions l.events

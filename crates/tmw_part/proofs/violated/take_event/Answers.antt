@@ -1,12 +1,11 @@
 -- With the event there is one transaction more where it begins one, for which the window has room; or the events are ill-formed with it,
 -- or have too many.
-use Rattle.tmw_part.proofs.Shared.{AreUnfit, Event, IsTrue, List, [], ap, arith, inl, inr, length, subst, sym, transactions, true, ◌++◌, ◌+◌, ◌∙◌, ◌∷◌, ◌≡◌, ◌≤◌}
+use Rattle.tmw_part.proofs.Shared.{ap, arith, inl, inr, length, subst, transactions, true, ◌+◌, ◌∙◌, ◌≡◌}
 use Rattle.tmw_events.specs.declared.registers.Registers.{Registers}
-use Rattle.tmw_wellformed.specs.Faults.{Refuses}
 use Rattle.tmw_cuts.specs.Standing.{Follows, IsNext, begun_by}
 use Rattle.tmw_cuts.specs.declared.turn.Move.TheVariants.{Begin}
 use Rattle.tmw_cuts.proofs.Following.{follows-events}
-use Rattle.tmw_cuts.proofs.Standings.{formed-next, grows}
+use Rattle.tmw_cuts.proofs.Standings.{grows}
 use Rattle.tmw_part.proofs.violated.take_event.Goals.{else-begins-via-then-begins+else-count-ge-MOST_TRANSACTIONS, else-begins-via-else-begins}
 use Rattle.tmw_part.proofs.violated.take_event.Goals as goal
 

@@ -5,23 +5,14 @@ use Rattle.tmw_plain_check.proofs.Weighing.{faultless_below_one, faultless_below
 use Rattle.tmw_plain_check.proofs.judge.judge_whole_for.Goals as goal
 
 pub loop-place-init : goal.loop-place-init
-loop-place-init c = record {
-  tracks = c.new-tracker.ensures;
-  fine = faultless_below_one c.args.criterion c.args.registers.number c.args.start.now c.args.events.now;
-}
+loop-place-init c = grind (arith, faultless_below_one)
 
 pub loop-place-preserved : goal.loop-place-preserved
 loop-place-preserved c =
     let tracks =
     tracks-next c.args.registers.number c.args.events.now c.loop-place.place c.index-events-place.result c.loop-place.tracker c.step.new.self c.step.result
     c.loop-place-test.true c.index-events-place.is c.step.ensures.takes (sym c.is_err.ensures.value ∙ c.if-is_err.false) c.loop-place.invariant.tracks
-    in
-    record {
-      tracks = tracks;
-      fine =
-          faultless_below_more c.args.criterion c.args.registers.number c.args.start.now c.args.events.now (c.loop-place.place + 1) c.loop-place.invariant.fine
-          tracks.formed (rw c.if-not-branch.false at c.in_ok-has_legal_order.ensures);
-    }
+    in grind (arith, faultless_below_more)
 
 pub returns-then-is_err : goal.returns-then-is_err
 returns-then-is_err c =
@@ -34,11 +25,7 @@ returns-in_err-has_legal_order c =
     let tracks =
     tracks-next c.args.registers.number c.args.events.now c.loop-place.place c.index-events-place.result c.loop-place.tracker c.step.new.self c.step.result
     c.loop-place-test.true c.index-events-place.is c.step.ensures.takes (sym c.is_err.ensures.value ∙ c.if-is_err.false) c.loop-place.invariant.tracks
-    in
-    let p = err_from_is_err_and c.from_residual.result c.from_residual.ensures.1 in
-    rw (p.1, p.2)
-    (judges_weighed c.args.criterion c.args.registers.number c.args.start.now c.args.events.now (c.loop-place.place + 1) c.in_err-has_legal_order.field-0.0
-    (omega arith) c.loop-place.invariant.fine tracks.formed c.in_err-has_legal_order.ensures)
+    in grind (arith, err_from_is_err_and, judges_weighed)
 
 pub returns-then-not-branch : goal.returns-then-not-branch
 returns-then-not-branch c =

@@ -1,20 +1,15 @@
 -- The steps of the search, by the lemmas on them.
-use Rattle.tmw_plain_check.proofs.Shared.{Some, arith, length, length-map, refl, shown, slice_get, slice_get_read, sym, txn_of, ◌∙◌, ◌≡◌}
+use Rattle.tmw_plain_check.proofs.Shared.{Some, arith, length, length-map, refl, shown, slice_get, slice_get_read, sym, txn_of, ◌≡◌}
 use Rattle.tmw_plain_check.proofs.OrderSteps.{shown_at, explained_found, explained_none, may_come-whole}
 use Rattle.tmw_plain_check.proofs.order.+orders.Goals as goal
 
 pub has_order-returns-then-branch : goal.has_order-returns-then-branch
 has_order-returns-then-branch t c =
-    let size : length c.args.waiting.now ≡ length (shown c.args.waiting.now) = sym (length-map c.args.waiting.now (λ t. txn_of t.now)) in
-    sym (explained_found c.args.state.now (shown c.args.waiting.now) (length c.args.waiting.now) c.loop-index.index size c.loop-index-test.true
-    (sym c.in_ok-may_come.ensures ∙ c.if-branch.true))
+    grind (arith, length, shown, length-map, txn_of, explained_found)
 
 pub has_order-returns : goal.has_order-returns
 has_order-returns t c =
-    let size : length c.args.waiting.now ≡ length (shown c.args.waiting.now) = sym (length-map c.args.waiting.now (λ t. txn_of t.now)) in
-    let all : c.loop-index.index ≡ length c.args.waiting.now = omega arith in
-    c.is_empty.ensures
-    ∙ explained_none c.args.state.now (shown c.args.waiting.now) (length c.args.waiting.now) size (rw all at c.loop-index.invariant)
+    grind (arith, length, shown, length-map, txn_of, explained_none)
 
 pub may_come-returns : goal.may_come-returns
 may_come-returns t c =

@@ -1,6 +1,7 @@
 use Rattle.tmw_pump.proofs.Keeping.{kept-same}
 use Rattle.tmw_pump.proofs.Turns.{came-more, came-same}
 use Rattle.tmw_pump.proofs.keep.judge_held.Goals as goal
+use Rattle.tmw_pump.proofs.Shared.{arith}
 
 pub returns-in_err-judge-clause-kept : goal.returns-in_err-judge-clause-kept
 returns-in_err-judge-clause-kept g c =
@@ -8,11 +9,7 @@ returns-in_err-judge-clause-kept g c =
     kept-same g.K.Keep.keeps c.args.front.now c.judge.new.self c.args.kept.now c.make_room.new.self refused.stays refused.fits c.make_room.ensures.same
 
 pub returns-in_err-judge-clause-came : goal.returns-in_err-judge-clause-came
-returns-in_err-judge-clause-came g c =
-    let refused = c.in_err-judge.ensures in
-    came-same c.args.front.now c.judge.new.self refused.stays refused.held
+returns-in_err-judge-clause-came g c = grind (arith, came-same)
 
 pub returns-clause-came : goal.returns-clause-came
-returns-clause-came g c =
-    let done = c.in_ok-judge.ensures in
-    came-more c.args.front.now c.judge.new.self c.args.event c.requires done.judged done.free
+returns-clause-came g c = grind (arith, came-more)

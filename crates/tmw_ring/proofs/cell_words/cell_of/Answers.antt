@@ -1,5 +1,5 @@
 -- The mask of a power of two divides by it.
-use Rattle.tmw_ring.proofs.Shared.{ap, arith, bit_and, mod-eq_of_lt, mod-lt, sym, ℕ, ◌%◌, ◌*◌, ◌-◌, ◌<◌, ◌^◌, ◌∙◌, ◌≡◌}
+use Rattle.tmw_ring.proofs.Shared.{ap, arith, bit_and, mod-eq_of_lt, ℕ, ◌%◌, ◌*◌, ◌-◌, ◌<◌, ◌^◌, ◌∙◌, ◌≡◌}
 use Rattle.std.proofs.Math.Pow.{pow-lt}
 use lib.Bits.{and_mask}
 use Rattle.tmw_ring.proofs.cell_words.cell_of.Goals as goal
@@ -9,9 +9,7 @@ shifted : (k : ℕ) → k < 64 → (1 * 2 ^ k) % 2 ^ 64 ≡ 2 ^ k
 shifted k few = ap (λ n. n % 2 ^ 64) (omega arith) ∙ mod-eq_of_lt (pow-lt few)
 
 masked : (place cells power k : ℕ) → k < 64 → power ≡ (1 * 2 ^ k) % 2 ^ 64 → power ≡ cells → bit_and place (power - 1) ≡ place % cells
-masked place cells power k few is same =
-    ap (λ n. bit_and place (n - 1)) (is ∙ shifted k few) ∙ and_mask place k ∙ ap (λ n. place % n) (sym (shifted k few) ∙ sym is ∙ same)
+masked place cells power k few is same = grind (arith, shifted, and_mask)
 
 pub returns-then-power-cells : goal.returns-then-power-cells
-returns-then-power-cells c =
-    masked c.args.place c.args.cells c.wrapping_shl-power.result _ (mod-lt _ (omega arith)) c.wrapping_shl-power.ensures c.if-power-cells.true
+returns-then-power-cells c = grind (arith, masked)

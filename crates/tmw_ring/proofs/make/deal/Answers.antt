@@ -1,14 +1,10 @@
-use Rattle.tmw_ring.proofs.Shared.{AreNewWriters, List, RingIs, WriterIs, ap, arith, length, length_push, subst, sym, ℕ, ◌+◌, ◌<◌, ◌∙◌}
+use Rattle.tmw_ring.proofs.Shared.{AreNewWriters, List, RingIs, WriterIs, ap, arith, length, length_push, subst, sym, ℕ, ◌+◌, ◌<◌, ◌∙◌, rules}
 use Rattle.tmw_ring.proofs.Dealing.{dealt, left_over, new_writer-idle, new_writers-dealt}
 use Rattle.tmw_ring.proofs.Seats.{splits_second}
 use Rattle.tmw_ring.proofs.make.deal.Goals as goal
 
 pub split_seat-own-requires : goal.split_seat-own-requires
-split_seat-own-requires c = (
-  c.loop-number.invariant.0 ∙ c.requires.table ∙ sym (ap (λ (ring : RingIs). ring.table) c.ring.view_is),
-  omega (arith, c.ring.invariant.words),
-  splits_second c.ring.inside.table.shared.key c.loop-number.seat.id c.loop-number.seat.me.0,
-)
+split_seat-own-requires c = search (rules, splits_second)
 
 pub invariant_of-push_reserved-in-loop-number : goal.invariant_of-push_reserved-in-loop-number
 invariant_of-push_reserved-in-loop-number c =

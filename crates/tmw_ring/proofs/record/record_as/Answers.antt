@@ -1,5 +1,5 @@
-use Rattle.tmw_ring.proofs.Shared.{Full, HasRecorded, IsRefusal, Kind, RingIs, RingSize, Spent, ap, false, is_full, is_spent, subst, sym, true, writer_in, writer_is, ◌∙◌, ◌≡◌}
-use Rattle.tmw_ring.proofs.Recordings.{looks, looks-spent, looks-full, looks-recorded}
+use Rattle.tmw_ring.proofs.Shared.{HasRecorded, Kind, RingIs, RingSize, ap, false, is_full, is_spent, subst, sym, writer_in, writer_is, ◌∙◌, ◌≡◌, arith}
+use Rattle.tmw_ring.proofs.Recordings.{looks, looks-recorded}
 use Rattle.tmw_ring.proofs.record.record_as.Goals as goal
 
 pub returns-then-is_spent-clause-err : goal.returns-then-is_spent-clause-err
@@ -7,34 +7,18 @@ returns-then-is_spent-clause-err g c =
     let old = writer_in c.args.seat.now.me.0 in
     let front = c.see_front-front.result in
     let tail = c.see_tail-tail.result in
-    let new = writer_in c.see_tail-tail.new.seat.me.0 in
-    let sizes : c.ring.inside.size ≡ old.size = ap (λ (ring : RingIs). ring.size) c.ring.view_is ∙ sym c.requires.writer.sized in
     let looked =
     looks g.C.Choice.kind front tail c.args.seat.now.me c.see_front-front.new.seat.me c.see_tail-tail.new.seat.me
-    c.see_front-front.ensures.seen c.see_tail-tail.ensures.seen in
-    let spent : is_spent old.size tail ≡ true =
-    sym (ap (λ (size : RingSize). is_spent size tail) sizes) ∙ sym c.is_spent.ensures ∙ c.if-is_spent.true in
-    subst (λ (kind : Kind). IsRefusal kind (writer_is c.args.seat.now.table_id old) (Spent tail)
-    (writer_is c.see_tail-tail.new.seat.table_id new)) (sym c.requires.kind)
-    (looks-spent g.C.Choice.kind front tail c.args.seat.now.table_id c.see_tail-tail.new.seat.table_id old new looked spent)
+    c.see_front-front.ensures.seen c.see_tail-tail.ensures.seen in grind arith
 
 pub returns-then-is_full-clause-err : goal.returns-then-is_full-clause-err
 returns-then-is_full-clause-err g c =
     let old = writer_in c.args.seat.now.me.0 in
     let front = c.see_front-front.result in
     let tail = c.see_tail-tail.result in
-    let new = writer_in c.see_tail-tail.new.seat.me.0 in
-    let sizes : c.ring.inside.size ≡ old.size = ap (λ (ring : RingIs). ring.size) c.ring.view_is ∙ sym c.requires.writer.sized in
     let looked =
     looks g.C.Choice.kind front tail c.args.seat.now.me c.see_front-front.new.seat.me c.see_tail-tail.new.seat.me
-    c.see_front-front.ensures.seen c.see_tail-tail.ensures.seen in
-    let spent : is_spent old.size tail ≡ false =
-    sym (ap (λ (size : RingSize). is_spent size tail) sizes) ∙ sym c.is_spent.ensures ∙ c.if-is_spent.false in
-    let full : is_full old.size front tail ≡ true =
-    sym (ap (λ (size : RingSize). is_full size front tail) sizes) ∙ sym c.is_full.ensures ∙ c.if-is_full.true in
-    subst (λ (kind : Kind). IsRefusal kind (writer_is c.args.seat.now.table_id old) (Full front tail)
-    (writer_is c.see_tail-tail.new.seat.table_id new)) (sym c.requires.kind)
-    (looks-full g.C.Choice.kind front tail c.args.seat.now.table_id c.see_tail-tail.new.seat.table_id old new looked spent full)
+    c.see_front-front.ensures.seen c.see_tail-tail.ensures.seen in grind arith
 
 pub returns-clause-ok : goal.returns-clause-ok
 returns-clause-ok g c =

@@ -1,17 +1,17 @@
 use Rattle.tmw_search.proofs.Shared.{arith, effects, length, refl, sym, ◌∙◌, ◌≡◌}
-use Rattle.tmw_search.proofs.Adding.{adds-empty}
+use Rattle.tmw_search.proofs.Adding.{adds-first, adds-next}
 use Rattle.tmw_search.proofs.Bits.{or-left, or-right}
-use Rattle.tmw_search.proofs.Completing.{below-next, below-same, below-all, ends-read}
+use Rattle.tmw_search.proofs.Completing.{EndsAtIndex, below-same, below-all, ends-read}
 use Rattle.tmw_search.proofs.completions.add_all.Goals.{then-index-eq0+in_ok-add_from+else-not-branch, else-index-eq0+else-differ}
 use Rattle.tmw_search.proofs.completions.add_all.Goals as goal
 
 pub returns-then-starts-eq0-clause-adds : goal.returns-then-starts-eq0-clause-adds
 returns-then-starts-eq0-clause-adds c =
-    below-all (omega arith) (λ all. sym c.if-starts-eq0.true) (adds-empty (λ e x. absurd (omega (arith, x.below))))
+    below-all (omega arith) (λ all. sym c.if-starts-eq0.true) adds-first
 
 pub loop-index-init : goal.loop-index-init
 loop-index-init c = record {
-  adds = adds-empty (λ e x. absurd (omega (arith, x.below)));
+  adds = adds-first;
   cap = refl;
   follows = c.reading_of-reading.ensures.follows;
 }
@@ -25,14 +25,14 @@ read_from-requires-clause-node c = c.requires.node _
 pub returns-then-not-branch-clause-adds : goal.returns-then-not-branch-clause-adds
 returns-then-not-branch-clause-adds c =
     below-all (omega (arith, c.loop-index-test.true)) (λ never. absurd (cc))
-    (below-next c.loop-index.invariant.adds (ends-read c.needed_registers-needed.result c.read_from.new.reading c.requires.node c.requires.waits c.requires.reads
+    (adds-next (EndsAtIndex (effects c.args.items.now) c.args.starts.now c.args.root.now) c.loop-index.index c.loop-index.invariant.adds (ends-read c.needed_registers-needed.result c.read_from.new.reading c.requires.node c.requires.waits c.requires.reads
     c.needed_registers-needed.ensures c.read_from.ensures.agree c.read_from.ensures.follows (rw c.if-not-branch.true at c.in_ok-add_from.ensures.adds)))
 
 pub loop-index-preserved : goal.loop-index-preserved
 loop-index-preserved c =
     elim c.if-index-eq0.branch [
       | then-index-eq0+in_ok-add_from+else-not-branch w ↦ rw (w.found-is, w.reading-is) (record {
-        adds = below-next c.loop-index.invariant.adds (ends-read c.needed_registers-needed.result w.read_from.new.reading c.requires.node c.requires.waits
+        adds = adds-next (EndsAtIndex (effects c.args.items.now) c.args.starts.now c.args.root.now) c.loop-index.index c.loop-index.invariant.adds (ends-read c.needed_registers-needed.result w.read_from.new.reading c.requires.node c.requires.waits
             c.requires.reads c.needed_registers-needed.ensures w.read_from.ensures.agree w.read_from.ensures.follows
             (rw w.if-not-branch.false at w.in_ok-add_from.ensures.adds));
         cap = w.in_ok-add_from.ensures.cap ∙ c.loop-index.invariant.cap;

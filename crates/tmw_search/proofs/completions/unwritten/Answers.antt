@@ -1,7 +1,6 @@
 use Rattle.tmw_search.proofs.Shared.{In, arith, inl, inr, slice_index, subst, sym, ℕ, ◌<◌}
-use Rattle.tmw_search.proofs.Bits.{same_place}
-use Rattle.tmw_search.proofs.Lasting.{some-place}
-use Rattle.tmw_search.proofs.Giving.{set_or}
+use Rattle.tmw_search.proofs.Bits.{some-place, same_place}
+use Rattle.tmw_search.proofs.Nodes.{set_or}
 use Rattle.tmw_search.proofs.completions.unwritten.Goals.{then-writers-r-eq0, else-writers-r-eq0}
 use Rattle.tmw_search.proofs.completions.unwritten.Goals as goal
 

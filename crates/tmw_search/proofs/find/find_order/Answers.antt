@@ -1,4 +1,4 @@
-use Rattle.tmw_search.proofs.Finding.{tells-none, tells-some}
+use Rattle.tmw_search.proofs.Answering.{tells-none, tells-some}
 use Rattle.tmw_search.proofs.find.find_order.Goals as goal
 
 pub returns-in-None-clause-tells : goal.returns-in-None-clause-tells

@@ -1,5 +1,5 @@
 use Rattle.tmw_search.proofs.Shared.{arith, length-map, map, rules, view}
-use Rattle.tmw_search.proofs.Forcing.{tell-none, tell-next, tell-all}
+use Rattle.tmw_search.proofs.ForcedEnds.{tell-none, tell-next, tell-all}
 use Rattle.tmw_search.proofs.WindowViews.{shown_at}
 use Rattle.tmw_search.proofs.forced.is_forced.Goals as goal
 

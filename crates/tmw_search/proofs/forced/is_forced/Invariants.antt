@@ -1,5 +1,5 @@
 use Rattle.tmw_search.proofs.Shared.{map, take, view}
-use Rattle.tmw_search.proofs.Forcing.{TellWriters}
+use Rattle.tmw_search.proofs.ForcedEnds.{TellWriters}
 use Rattle.tmw_search.proofs.forced.is_forced.Given as goal
 
 abbrev pub invariant-loop-item : goal.invariant-loop-item

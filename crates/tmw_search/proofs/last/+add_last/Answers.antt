@@ -1,6 +1,6 @@
 use Rattle.tmw_search.proofs.Shared.{arith, false, ordered, refl, slice_index, true, ◌∙◌}
 use Rattle.tmw_search.proofs.Adding.{adds-any, adds-to, adds-empty, adds-part, each-none, each-next, each-part, each-all}
-use Rattle.tmw_search.proofs.Bits.{less_of, less_has, less_lt}
+use Rattle.tmw_search.proofs.Bits.{some-place, less_of, less_has, less_lt}
 use Rattle.tmw_search.proofs.Branching.{never-true}
 use Rattle.tmw_search.proofs.Lasting.{adds-last, all-last, child-of, of-child, free-writer, free-before}
 use Rattle.tmw_search.proofs.Nodes.{node-ordered}
@@ -11,7 +11,7 @@ returns-then-is_plain-clause-adds t c =
     let r = c.lowest-register in
     adds-any (adds-last c.args.end.now r.ensures.within c.told-end r.ensures.among
     (less_of c.args.registers r.result r.ensures.within r.ensures.among) (ordered c.args.node.now c.args.reach.now) c.before_of-before.result
-    c.before_of-before.type_inv c.requires.node c.before_of-before.ensures.comes (c.requires.written r.result r.ensures.within r.ensures.among)
+    c.before_of-before.type_inv c.requires.node c.before_of-before.ensures.comes (some-place _ (omega arith) (c.requires.written r.result r.ensures.within r.ensures.among))
     _ _ c.before_of-before.ensures.fits c.if-rest-eq0.true (c.is_plain.ensures c.if-is_plain.true) c.in_ok-add_each.ensures.adds)
 
 pub loop-left-init : goal.loop-left-init
@@ -88,5 +88,5 @@ returns-clause-adds t c =
     let r = c.lowest-register in
     all-last c.args.end.now r.ensures.within c.told-end r.ensures.among (less_of c.args.registers r.result r.ensures.within r.ensures.among)
     (ordered c.args.node.now c.args.reach.now) c.before_of-before.result c.before_of-before.type_inv c.requires.node c.before_of-before.ensures.comes
-    (c.requires.written r.result r.ensures.within r.ensures.among) _ _
+    (some-place _ (omega arith) (c.requires.written r.result r.ensures.within r.ensures.among)) _ _
     (each-all c.loop-left-test.false c.loop-left.invariant.adds)

@@ -1,4 +1,4 @@
-use Rattle.tmw_search.proofs.BeforeFound.{FindsBefore}
+use Rattle.tmw_search.proofs.Lasting.{FindsBefore}
 use Rattle.tmw_search.proofs.last.before_of.Given as goal
 
 abbrev pub invariant-loop-left : goal.invariant-loop-left

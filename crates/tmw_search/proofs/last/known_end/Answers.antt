@@ -1,5 +1,5 @@
-use Rattle.tmw_search.proofs.Shared.{ap, arith, bit_at, bit_at-zero, effects, inl, inr, refl, slice_index, ℕ}
-use Rattle.tmw_search.proofs.Lasting.{some-place, writer-of, writes-in}
+use Rattle.tmw_search.proofs.Shared.{ap, arith, bit_at, bit_at-zero, effects, inl, inr, refl, ℕ}
+use Rattle.tmw_search.proofs.Lasting.{writer-of, writes-in}
 use Rattle.tmw_search.proofs.last.known_end.Goals as goal
 
 pub returns-then-writers-eq0-clause-some : goal.returns-then-writers-eq0-clause-some
@@ -23,6 +23,3 @@ returns-in-Some-clause-some c = λ start n held rank l.
             (last k w.0 (writer-of xs start c.args.node.now c.args.register k held rank c.requires n l w));
       },
     )
-
-pub returns-in-None-clause-none : goal.returns-in-None-clause-none
-returns-in-None-clause-none c = some-place (slice_index c.args.node.now.choices.writers c.args.register) (omega arith) c.if-writers-eq0.false

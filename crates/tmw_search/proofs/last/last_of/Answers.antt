@@ -1,12 +1,7 @@
 use Rattle.tmw_search.proofs.Shared.{arith, bit_at-zero, inl, inr, slice_index}
-use Rattle.tmw_search.proofs.Bits.{bit_cases, less_of, less_has}
+use Rattle.tmw_search.proofs.Bits.{bit_cases}
 use Rattle.tmw_search.proofs.Lasting.{free-bit}
 use Rattle.tmw_search.proofs.last.last_of.Goals as goal
-
-pub loop-left-preserved : goal.loop-left-preserved
-loop-left-preserved c = λ i is.
-    let next = c.lowest-place in
-    c.loop-left.invariant i (less_has c.loop-left.left next.result _ i (less_of c.loop-left.left next.result next.ensures.within next.ensures.among) is)
 
 pub returns-then-writers-reach-eq0 : goal.returns-then-writers-reach-eq0
 returns-then-writers-reach-eq0 c =

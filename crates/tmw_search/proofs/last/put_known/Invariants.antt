@@ -7,5 +7,5 @@ invariant-loop-r l = record {
   ends : (start : State) → IsNode (effects l.items) start 0 l.node → (e : State)
       → IsEndOf (effects l.items) start l.node 255 l.fn.end e ↔ IsEndOf (effects l.items) start l.node l.registers l.end e;
   rest : (r : ℕ) → l.r ≤ r → r < 8 → In l.registers r;
-  written : (r : ℕ) → r < l.r → In l.registers r → (k : ℕ) × (k < 8) × In (slice_index l.node.choices.writers r) k;
+  written : (r : ℕ) → r < l.r → In l.registers r → slice_index l.node.choices.writers r ≡ 0 → ⊥;
 }

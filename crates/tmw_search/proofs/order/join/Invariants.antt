@@ -1,5 +1,5 @@
 use Rattle.tmw_search.proofs.Shared.{length, slice_index, ℕ, ◌<◌, ◌≡◌, ◌≤◌}
-use Rattle.tmw_search.proofs.Ordering.{joined}
+use Rattle.tmw_search.proofs.Passing.{joined}
 use Rattle.tmw_search.proofs.order.join.Given as goal
 
 abbrev pub invariant-loop-k : goal.invariant-loop-k

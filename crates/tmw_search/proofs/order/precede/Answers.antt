@@ -1,9 +1,9 @@
 use Rattle.tmw_search.proofs.Shared.{Before, arith, slice_index}
-use Rattle.tmw_search.proofs.Ordering.{none-precedes, joined-narrows, same-narrows}
+use Rattle.tmw_search.proofs.Passing.{none-precedes, joined-narrows, same-narrows}
 use Rattle.tmw_search.proofs.order.precede.Goals as goal
 
 pub returns-then-has-clause-narrows : goal.returns-then-has-clause-narrows
-returns-then-has-clause-narrows c = same-narrows _ c.args.reach.now c.requires.order
+returns-then-has-clause-narrows c = same-narrows c.requires.order
 
 pub returns-then-has-2-clause-narrows : goal.returns-then-has-2-clause-narrows
 returns-then-has-2-clause-narrows c =

@@ -1,22 +1,32 @@
-use Rattle.tmw_search.proofs.Passing.{by-clear, by-stuck, by-never, by-all}
+use Rattle.tmw_search.proofs.Shared.{Clear, Stuck, arith, refl}
+use Rattle.tmw_search.proofs.Passing.{narrows-then, same-narrows, passed-all, passed-never, passed-next, passed-none, passes-then, place-left, source-grows}
 use Rattle.tmw_search.proofs.pass.settle_once.Goals.{in-Clear, in-Stuck}
 use Rattle.tmw_search.proofs.pass.settle_once.Goals as goal
 
-pub returns-in-Never-clause-narrows : goal.returns-in-Never-clause-narrows
-returns-in-Never-clause-narrows c =
-    by-never c.args.choices.now c.args.reach.now c.loop-j.reach c.settle_reads.new.reach c.loop-j.found c.loop-j.j c.loop-j-test.true
-    c.loop-j.invariant c.in-Never.ensures.narrows
+pub loop-j-init : goal.loop-j-init
+loop-j-init c = passed-none c.requires.order
+
+pub returns-in-Never : goal.returns-in-Never
+returns-in-Never c = record {
+  narrows = narrows-then (λ rank is. is) (λ rank is. λ k within any. is k within) (same-narrows c.requires.order)
+      (passed-never c.loop-j-test.true (omega arith) c.loop-j.invariant c.in-Never.ensures.narrows);
+  clear = tt;
+  stuck = tt;
+}
 
 pub loop-j-preserved : goal.loop-j-preserved
-loop-j-preserved c = elim c.match-settle_reads.branch [
-  | in-Clear w ↦ rw w.found-is (by-clear c.args.choices.now c.args.reach.now c.loop-j.reach c.settle_reads.new.reach c.loop-j.found c.loop-j.j
-      c.loop-j-test.true c.requires.within c.loop-j.invariant w.in-Clear.ensures.narrows w.in-Clear.ensures.clear)
-  | in-Stuck w ↦ rw w.found-is (by-stuck c.args.choices.now c.args.reach.now c.loop-j.reach c.settle_reads.new.reach c.loop-j.found c.loop-j.j
-      w.in-Stuck.a w.in-Stuck.b w.in-Stuck.k
-      c.loop-j-test.true c.loop-j.invariant w.in-Stuck.ensures.narrows w.in-Stuck.ensures.stuck)
-]
+loop-j-preserved c =
+    elim c.match-settle_reads.branch [
+      | in-Clear w ↦ rw w.found-is (passed-next Clear c.loop-j-test.true (omega arith) (place-left c.loop-j.j)
+          (λ k few grows is r less reads. source-grows _ k _ _ _ few (c.requires.within k r few less) grows (is r less reads))
+          c.loop-j.invariant w.in-Clear.ensures refl)
+      | in-Stuck w ↦ rw w.found-is (passed-next (Stuck w.in-Stuck.a w.in-Stuck.b w.in-Stuck.k) c.loop-j-test.true (omega arith)
+          (place-left c.loop-j.j) (λ k few grows is r less reads. source-grows _ k _ _ _ few (c.requires.within k r few less) grows (is r less reads))
+          c.loop-j.invariant w.in-Stuck.ensures refl)
+    ]
 
 pub returns : goal.returns
 returns c =
-    let p = by-all c.args.choices.now c.args.reach.now c.loop-j.reach c.loop-j.found c.loop-j.j c.loop-j-test.false c.loop-j.invariant in
-    record { narrows = p.narrows; clear = p.clear; stuck = p.stuck }
+    passes-then (λ rank is. is) (λ rank is. λ k within any. is k within) (λ grows done. λ k within. done k within (omega arith))
+    (same-narrows c.requires.order)
+    (passed-all (λ k within above. absurd (omega (arith, c.loop-j-test.false, within, above))) c.loop-j.invariant)

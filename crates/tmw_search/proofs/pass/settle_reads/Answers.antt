@@ -1,27 +1,30 @@
-use Rattle.tmw_search.proofs.Passing.{reads-none, reads-clear, reads-stuck, reads-never, reads-all}
+use Rattle.tmw_search.proofs.Shared.{Clear, Stuck, refl}
+use Rattle.tmw_search.proofs.Passing.{bit-left, no-bit, passed-all, passed-never, passed-next, passed-none, source-grows}
 use Rattle.tmw_search.proofs.pass.settle_reads.Goals as goal
 
 pub loop-left-init : goal.loop-left-init
-loop-left-init c = reads-none c.args.choices.now c.args.j c.args.reach.now c.requires.order
+loop-left-init c = passed-none c.requires.order
 
-pub returns-in-Never-clause-narrows : goal.returns-in-Never-clause-narrows
-returns-in-Never-clause-narrows c =
-    reads-never c.args.choices.now c.args.j c.args.reach.now c.loop-left.reach c.settle_source.new.reach c.loop-left.found c.loop-left.left
-    c.lowest-r.result c.lowest-r.ensures.within c.lowest-r.ensures.among c.loop-left.invariant c.in-Never.ensures.narrows
+pub returns-in-Never : goal.returns-in-Never
+returns-in-Never c = record {
+  narrows = passed-never c.lowest-r.ensures.within c.lowest-r.ensures.among c.loop-left.invariant c.in-Never.ensures.narrows;
+  clear = tt;
+  stuck = tt;
+}
 
 pub loop-left-preserved-in-Clear : goal.loop-left-preserved-in-Clear
 loop-left-preserved-in-Clear c =
-    reads-clear c.args.choices.now c.args.j c.args.reach.now c.loop-left.reach c.settle_source.new.reach c.loop-left.found c.loop-left.left
-    c.lowest-r.result c.requires.second c.lowest-r.ensures.within c.requires.within c.lowest-r.ensures.among c.loop-left.invariant
-    c.in-Clear.ensures.narrows c.in-Clear.ensures.clear
+    let r = c.lowest-r.ensures in
+    passed-next Clear r.within r.among (bit-left c.loop-left.left c.lowest-r.result r.within r.among)
+    (λ q few grows is. source-grows _ c.args.j _ _ _ c.requires.second (c.requires.within c.args.j q c.requires.second few) grows is)
+    c.loop-left.invariant c.in-Clear.ensures refl
 
 pub loop-left-preserved : goal.loop-left-preserved
 loop-left-preserved c =
-    reads-stuck c.args.choices.now c.args.j c.args.reach.now c.loop-left.reach c.settle_source.new.reach c.loop-left.found c.loop-left.left
-    c.lowest-r.result c.in-Stuck.a c.in-Stuck.b c.in-Stuck.k c.lowest-r.ensures.within c.lowest-r.ensures.among c.loop-left.invariant
-    c.in-Stuck.ensures.narrows c.in-Stuck.ensures.stuck
+    let r = c.lowest-r.ensures in
+    passed-next (Stuck c.in-Stuck.a c.in-Stuck.b c.in-Stuck.k) r.within r.among (bit-left c.loop-left.left c.lowest-r.result r.within r.among)
+    (λ q few grows is. source-grows _ c.args.j _ _ _ c.requires.second (c.requires.within c.args.j q c.requires.second few) grows is)
+    c.loop-left.invariant c.in-Stuck.ensures refl
 
-pub returns-clause-clear : goal.returns-clause-clear
-returns-clause-clear c =
-    reads-all c.args.choices.now c.args.j c.args.reach.now c.loop-left.reach c.loop-left.found c.loop-left.left c.loop-left-test.false
-    c.loop-left.invariant
+pub returns : goal.returns
+returns c = passed-all (no-bit c.loop-left.left c.loop-left-test.false) c.loop-left.invariant

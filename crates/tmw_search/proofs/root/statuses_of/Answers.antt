@@ -1,5 +1,4 @@
-use Rattle.tmw_search.proofs.Shared.{Bool, HasEight, Marks, Some, View, ap, arith, effect_of, inl, inr, is_committed, is_pending, length, length-map, map, refl, slice_get, slice_get_read, slice_get_within, sym, view, ℕ, ◌+◌, ◌<◌, ◌∙◌, ◌≡◌}
-use Rattle.tmw_search.proofs.Bits.{same_place}
+use Rattle.tmw_search.proofs.Shared.{Bool, HasEight, Marks, Some, View, ap, arith, effect_of, is_committed, is_pending, length, length-map, map, refl, slice_get, slice_get_read, slice_get_within, view, ℕ, ◌+◌, ◌<◌, ◌≡◌}
 use Rattle.tmw_search.proofs.Rooting.{marks-more, marks-same}
 use Rattle.tmw_search.proofs.WindowViews.{shown_at}
 use Rattle.tmw_search.proofs.root.statuses_of.Goals.{in-Committed, in-Pending, in-Live, in-Aborted}
@@ -16,15 +15,9 @@ loop-place-preserved c =
     let item = c.index-items-place.result in
     let sized : HasEight (effect_of item) =
     (rw c.effect.ensures at c.tell_eight.ensures, rw c.effect-in-loop-place.ensures at c.tell_eight-in-loop-place.ensures) in
-    let eight : (i : ℕ) (y : cuts.Txn) → i < place + 1 → slice_get items i ≡ Some y
-    → HasEight (effect_of y) =
-    λ i y below there. elim (same_place i place) [
-      | inl same ↦
-          let here : slice_get items place ≡ Some item = slice_get_read items (length items) place item refl c.loop-place-test.true c.index-items-place.is in
-          let is : y ≡ item = (let moved : slice_get items place ≡ Some y = ap (slice_get items) (sym same) ∙ there in cc) in
-          rw is sized
-      | inr apart ↦ c.loop-place.invariant.eight i y (omega (arith, below, apart)) there
-    ] in
+    let here : slice_get items place ≡ Some item = slice_get_read items (length items) place item refl c.loop-place-test.true c.index-items-place.is in
+    let eight : (i : ℕ) (y : cuts.Txn) → i < place + 1 → slice_get items i ≡ Some y → HasEight (effect_of y) =
+    λ i y below there. grind (arith, c.loop-place.invariant.eight i y, here, sized) in
     let set = λ (holds : View → Bool) (mask : ℕ) (m : Marks holds (map view items) place mask). marks-more holds (map view items) place mask x within at m in
     let keep = λ (holds : View → Bool) (mask : ℕ) (m : Marks holds (map view items) place mask). marks-same holds (map view items) place mask x at m in
     let committed = c.loop-place.invariant.committed in

@@ -1,6 +1,6 @@
 use Rattle.tmw_search.proofs.Shared.{arith, inl, inr, opens}
-use Rattle.tmw_search.proofs.Nodes.{node-ordered, none-settled, none-with, found-less, found-clear, none-sides}
-use Rattle.tmw_search.proofs.Picking.{tries-none, tries-next, tries-all, found-given, result-with, fewer-given, fewer-ordered}
+use Rattle.tmw_search.proofs.Nodes.{found-from, node-ordered, none-settled, none-with, found-less, found-clear, none-sides}
+use Rattle.tmw_search.proofs.Branching.{tries-none, tries-next, tries-all, result-with, fewer-given, fewer-ordered}
 use Rattle.tmw_search.proofs.search.+any.Goals.{then-branch+in-None-any, else-branch, then-precede+in-None-any-3, else-precede}
 use Rattle.tmw_search.proofs.search.+any.Goals as goal
 
@@ -9,12 +9,12 @@ returns-then-not-is_alive t c = none-settled c.requires.node c.settle-settled.en
 
 pub any-requires : goal.any-requires
 any-requires t c =
-    let fewer = fewer-given c.args.node.now.reach c.settle-settled.ensures.narrows.grows c.give.ensures.gives.reach c.give.ensures.fewer in
+    let fewer = fewer-given c.requires.node.order c.settle-settled.ensures.narrows.grows c.give.ensures.gives.reach c.give.ensures.fewer in
     (omega (arith, c.decreases, fewer), c.give.ensures.gives.is)
 
 pub returns-in-Some-any : goal.returns-in-Some-any
 returns-in-Some-any t c =
-    found-less c.settle-settled.ensures.narrows.grows (found-given c.give.ensures.gives c.in-Some-any.ensures)
+    found-less c.settle-settled.ensures.narrows.grows (found-from c.give.ensures.gives.into c.in-Some-any.ensures)
 
 pub loop-left-init : goal.loop-left-init
 loop-left-init t c =
@@ -26,12 +26,12 @@ loop-left-init t c =
 pub any-requires-in-loop-left : goal.any-requires-in-loop-left
 any-requires-in-loop-left t c =
     let child = c.give-in-loop-left.ensures in
-    let fewer = fewer-given c.args.node.now.reach c.settle-settled.ensures.narrows.grows child.gives.reach child.fewer in
+    let fewer = fewer-given c.requires.node.order c.settle-settled.ensures.narrows.grows child.gives.reach child.fewer in
     (omega (arith, c.decreases, fewer), child.gives.is)
 
 pub returns-in-Some-any-2 : goal.returns-in-Some-any-2
 returns-in-Some-any-2 t c =
-    found-less c.settle-settled.ensures.narrows.grows (found-given c.give-in-loop-left.ensures.gives c.in-Some-any-2.ensures)
+    found-less c.settle-settled.ensures.narrows.grows (found-from c.give-in-loop-left.ensures.gives.into c.in-Some-any-2.ensures)
 
 pub loop-left-preserved : goal.loop-left-preserved
 loop-left-preserved t c =
@@ -46,8 +46,7 @@ any-requires-then-precede t c =
     let b = c.in-Stuck.ensures.stuck in
     let settled = c.settle-settled.ensures.narrows in
     let p = c.precede.ensures.narrows in
-    let fewer = fewer-ordered c.args.node.now.reach c.settle-settled.new.reach c.precede.new.reach (opens c.args.node.now.choices) b.third b.first
-    settled.grows p.grows (c.precede.ensures.has c.if-precede.true) (λ is. b.free (inl is)) in (
+    let fewer = fewer-ordered (opens c.args.node.now.choices) c.requires.node.order settled.order p.order b.third b.first settled.grows p.grows (c.precede.ensures.has c.if-precede.true) (λ is. b.free (inl is)) in (
       omega (arith, c.decreases, fewer),
       node-ordered (λ a b within_a within_b is. p.grows a b within_a within_b (settled.grows a b within_a within_b is)) p.order c.requires.node,
     )
@@ -63,8 +62,7 @@ any-requires-then-precede-2 t c =
     let b = c.in-Stuck.ensures.stuck in
     let settled = c.settle-settled.ensures.narrows in
     let p = c.precede-in-Stuck.ensures.narrows in
-    let fewer = fewer-ordered c.args.node.now.reach c.settle-settled.new.reach c.precede-in-Stuck.new.reach (opens c.args.node.now.choices) b.second
-    b.third settled.grows p.grows (c.precede-in-Stuck.ensures.has c.if-precede-2.true) (λ is. b.free (inr is)) in (
+    let fewer = fewer-ordered (opens c.args.node.now.choices) c.requires.node.order settled.order p.order b.second b.third settled.grows p.grows (c.precede-in-Stuck.ensures.has c.if-precede-2.true) (λ is. b.free (inr is)) in (
       omega (arith, c.decreases, fewer),
       node-ordered (λ a b within_a within_b is. p.grows a b within_a within_b (settled.grows a b within_a within_b is)) p.order c.requires.node,
     )

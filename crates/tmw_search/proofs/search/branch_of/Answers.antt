@@ -1,5 +1,5 @@
 use Rattle.tmw_search.proofs.Shared.{effects, eq-eqb, eqb-true, ◌∙◌}
-use Rattle.tmw_search.proofs.Branching.{branches-none, branches-with, branches-without, branches-all, not-of}
+use Rattle.tmw_search.proofs.Branching.{branches-all, branches-with, branches-without, not-of}
 use Rattle.tmw_search.proofs.search.branch_of.Goals as goal
 
 pub returns-then-start-r-clause-branch : goal.returns-then-start-r-clause-branch
@@ -16,16 +16,11 @@ returns-else-start-r-clause-branch c = rw c.need_at.ensures
     c.requires.reader c.requires.register c.requires.read c.requires.free c.requires.node c.loop-left-test.false
     (eqb-true _ _) (λ value none. eq-eqb _ _ value) c.loop-left.invariant)
 
-pub loop-left-init : goal.loop-left-init
-loop-left-init c = branches-none (effects c.args.items.now) c.args.may c.args.node.now c.args.j c.args.r
-
 pub loop-left-preserved-then-may_give : goal.loop-left-preserved-then-may_give
 loop-left-preserved-then-may_give c =
-    branches-with (effects c.args.items.now) c.args.may c.args.node.now c.args.j c.args.r c.loop-left.writers c.loop-left.left c.lowest-i.result
-    c.lowest-i.ensures.within c.lowest-i.ensures.among (c.may_give.ensures.0 c.if-may_give.true) c.loop-left.invariant
+    branches-with c.lowest-i.result c.lowest-i.ensures.within c.lowest-i.ensures.among (c.may_give.ensures.0 c.if-may_give.true) c.loop-left.invariant
 
 pub loop-left-preserved : goal.loop-left-preserved
 loop-left-preserved c =
-    branches-without (effects c.args.items.now) c.args.may c.args.node.now c.args.j c.args.r c.loop-left.writers c.loop-left.left c.lowest-i.result
-    c.lowest-i.ensures.within c.lowest-i.ensures.among (λ is. absurd (let t = c.may_give.ensures.1 is in let f = c.if-may_give.false in cc))
-    c.loop-left.invariant
+    branches-without c.lowest-i.result c.lowest-i.ensures.within c.lowest-i.ensures.among
+    (λ is. absurd (let t = c.may_give.ensures.1 is in let f = c.if-may_give.false in cc)) c.loop-left.invariant

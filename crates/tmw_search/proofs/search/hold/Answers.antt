@@ -1,6 +1,6 @@
 use Rattle.tmw_search.proofs.Shared.{In, ap, arith, effects, inl, inr, length, refl, set, shr_and_one, ℕ, ◌<◌, ◌∙◌, ◌≡◌}
 use Rattle.tmw_search.proofs.Bits.{bit_cases}
-use Rattle.tmw_search.proofs.Giving.{set_or, held-with, reads-with, reads-same, member-already}
+use Rattle.tmw_search.proofs.Nodes.{set_or, held-with, reads-with, reads-same, member-already}
 use Rattle.tmw_search.proofs.search.hold.Goals as goal
 
 pub returns-then-node-i-eq0 : goal.returns-then-node-i-eq0

@@ -1,30 +1,42 @@
-use Rattle.tmw_search.proofs.Shared.{true}
-use Rattle.tmw_search.proofs.Settling.{settles-none, settles-decided, settles-undecided, settles-never, settles-all}
+use Rattle.tmw_search.proofs.Shared.{Clear, Stuck, arith, ap, bit_at, refl, slice_index, ℕ, ◌∙◌}
+use Rattle.tmw_search.proofs.Passing.{narrows-then, bit-left, no-bit, out-grows, passed-all, passed-never, passed-next, passed-none, passes-then}
 use Rattle.tmw_search.proofs.settle.settle_read.Goals as goal
 
 pub loop-left-init : goal.loop-left-init
-loop-left-init c =
-    settles-none c.args.writers c.args.i c.args.j c.args.reach.now c.precede.new.reach true c.requires.first c.requires.second c.requires.order
-    (λ is. absurd (let t = c.has.ensures.1 is in let f = c.if-has.false in cc)) c.if-not-precede.ensures.narrows (cc) (c.if-not-precede.ensures.has (cc))
+loop-left-init c = passed-none c.if-not-precede.ensures.narrows.order
 
-pub returns-in-Dead-clause-narrows : goal.returns-in-Dead-clause-narrows
-returns-in-Dead-clause-narrows c =
-    settles-never c.args.writers c.args.i c.args.j c.lowest-k.result c.args.reach.now c.loop-left.reach c.keep_out.new.reach c.loop-left.found
-    c.loop-left.left c.lowest-k.ensures.within c.lowest-k.ensures.among c.loop-left.invariant c.in-Dead.ensures.narrows
+pub returns-in-Never : goal.returns-in-Never
+returns-in-Never c = record {
+  narrows = narrows-then (λ rank is. omega (arith, is.before)) (λ rank is. is.out) c.if-not-precede.ensures.narrows
+      (passed-never c.lowest-k.ensures.within c.lowest-k.ensures.among c.loop-left.invariant c.in-Never.ensures.narrows);
+  clear = tt;
+  stuck = tt;
+}
 
-pub loop-left-preserved-in-Decided : goal.loop-left-preserved-in-Decided
-loop-left-preserved-in-Decided c =
-    settles-decided c.args.writers c.args.i c.args.j c.lowest-k.result c.args.reach.now c.loop-left.reach c.keep_out.new.reach c.loop-left.found
-    c.loop-left.left c.requires.first c.requires.second c.lowest-k.ensures.within c.lowest-k.ensures.among c.loop-left.invariant
-    c.in-Decided.ensures.narrows c.in-Decided.ensures.settled
+pub loop-left-preserved-in-Clear : goal.loop-left-preserved-in-Clear
+loop-left-preserved-in-Clear c =
+    let k = c.lowest-k.ensures in
+    passed-next Clear k.within k.among (bit-left c.loop-left.left c.lowest-k.result k.within k.among)
+    (λ q few grows is. out-grows c.args.i c.args.j q _ _ c.requires.first c.requires.second few grows is) c.loop-left.invariant
+    (record { narrows = c.in-Clear.ensures.narrows; clear = c.in-Clear.ensures.clear; stuck = tt }) refl
 
 pub loop-left-preserved : goal.loop-left-preserved
 loop-left-preserved c =
-    settles-undecided c.args.writers c.args.i c.args.j c.lowest-k.result c.args.reach.now c.loop-left.reach c.keep_out.new.reach
-    c.loop-left.found c.loop-left.left c.requires.first c.requires.second c.lowest-k.ensures.within c.lowest-k.ensures.among
-    c.loop-left.invariant c.in-Undecided.ensures.narrows c.in-Undecided.ensures.settled
+    let k = c.lowest-k.ensures in
+    passed-next (Stuck c.in-Stuck.a c.in-Stuck.b c.in-Stuck.k) k.within k.among (bit-left c.loop-left.left c.lowest-k.result k.within k.among)
+    (λ q few grows is. out-grows c.args.i c.args.j q _ _ c.requires.first c.requires.second few grows is) c.loop-left.invariant
+    (record { narrows = c.in-Stuck.ensures.narrows; clear = tt; stuck = c.in-Stuck.ensures.stuck }) refl
 
-pub returns-clause-clear : goal.returns-clause-clear
-returns-clause-clear c =
-    settles-all c.args.writers c.args.i c.args.j c.args.reach.now c.loop-left.reach c.loop-left.found c.loop-left.left c.loop-left-test.false
-    c.loop-left.invariant
+pub returns : goal.returns
+returns c =
+    let first = c.requires.first in
+    let second = c.requires.second in
+    let o = c.requires.order in
+    passes-then (λ rank is. omega (arith, is.before)) (λ rank is. is.out) (λ grows done. record {
+      has = grows c.args.i c.args.j first second (c.if-not-precede.ensures.has (cc));
+      apart = λ same. absurd (
+          let t = c.has.ensures.1 (ap (λ (m : ℕ). bit_at (slice_index c.args.reach.now m) c.args.j) same ∙ o.self c.args.j second) in
+          let f = c.if-has.false in
+          cc);
+      out = done;
+    }) c.if-not-precede.ensures.narrows (passed-all (no-bit c.loop-left.left c.loop-left-test.false) c.loop-left.invariant)

@@ -1,13 +1,17 @@
-use Rattle.tmw_search.proofs.Settling.{starts-next, starts-never}
+use Rattle.tmw_search.proofs.Shared.{Clear, refl}
+use Rattle.tmw_search.proofs.Passing.{bit-left, no-bit, passed-all, passed-never, passed-next}
 use Rattle.tmw_search.proofs.settle.settle_start.Goals as goal
 
 pub returns-then-not-precede-clause-narrows : goal.returns-then-not-precede-clause-narrows
 returns-then-not-precede-clause-narrows c =
-    starts-never c.args.others c.args.j c.lowest-k.result c.args.reach.now c.loop-left.reach c.precede.new.reach c.loop-left.left
-    c.lowest-k.ensures.within c.lowest-k.ensures.among c.loop-left.invariant c.if-not-precede.ensures.narrows
+    passed-never c.lowest-k.ensures.within c.lowest-k.ensures.among c.loop-left.invariant c.if-not-precede.ensures.narrows
 
 pub loop-left-preserved : goal.loop-left-preserved
 loop-left-preserved c =
-    starts-next c.args.others c.args.j c.lowest-k.result c.args.reach.now c.loop-left.reach c.precede.new.reach c.loop-left.left
-    c.requires.within c.lowest-k.ensures.within c.lowest-k.ensures.among c.loop-left.invariant c.if-not-precede.ensures.narrows
-    (c.if-not-precede.ensures.has (cc))
+    let k = c.lowest-k.ensures in
+    passed-next Clear k.within k.among (bit-left c.loop-left.left c.lowest-k.result k.within k.among)
+    (λ q few grows is. grows c.args.j q c.requires.within few is) c.loop-left.invariant
+    (record { narrows = c.if-not-precede.ensures.narrows; clear = c.if-not-precede.ensures.has (cc); stuck = tt }) refl
+
+pub returns-clause-clear : goal.returns-clause-clear
+returns-clause-clear c = λ is. (passed-all (no-bit c.loop-left.left c.loop-left-test.false) c.loop-left.invariant).clear

@@ -1,11 +1,11 @@
-ghost use Rattle.std.specs.Prelude.{◌≡◌, ◌+◌, ◌<◌, ◌^◌, [], ◌∷◌, ◌++◌, OnOk, length};
+ghost use Rattle.std.specs.Prelude.{◌≡◌, ◌+◌, ◌<◌, ◌^◌, [], ◌∷◌, ◌++◌, IfOk, OnOk, length, string_bytes};
 ghost use Rattle.tmw_show.specs.Explaining.{reason_of};
 ghost use Rattle.tmw_show.specs.Sentences.{told_sentence};
-ghost use Rattle.tmw_show.specs.Page.{about_json, criterion_json, digit, event_json, json_text, mark_json, needed_json, numbers_json, state_json, why_json, window_json};
+ghost use Rattle.tmw_show.specs.Page.{about_json, criterion_name, digit, event_json, json_text, mark_json, needed_json, state_json, why_json, window_json};
 
 use crate::command::event_text::push_event;
 use crate::command::needed::Needed;
-use crate::command::numbers::{push_number, push_values};
+use crate::command::numbers::push_values;
 use crate::command::origins::told_by;
 use crate::command::part::{Part, push_each, push_list};
 use crate::command::sentences::push_clauses;
@@ -31,8 +31,9 @@ pub fn push_json(
         (text.new.items ≡ text.old.items ++ json_text criterion before shown.now) }
 {
     let showing = &shown.showing;
-    let from = before as u128 + showing.from as u128;
-    push_about(alloc, text, criterion, from, shown)?;
+    let earlier = before as u128 + showing.from as u128;
+    let about = about_json(alloc, criterion, earlier, shown)?;
+    text.extend_from_slice(about.as_bytes())?;
     push_window(
         text,
         shown.registers,
@@ -47,54 +48,35 @@ pub fn push_json(
     };
     push_mark(text, told)?;
     push_needed(text, &shown.needed)?;
-    push_why(text, from, &showing.events, &shown.needed)?;
+    push_why(text, earlier, &showing.events, &shown.needed)?;
     text.extend_from_slice(b"}\n")?;
     Ok(())
 }
 
-/// Adds the members that tell of the whole run, of which so many events stand before the window.
-fn push_about(
+/// Returns the members that tell of the whole run, of which so many events stand before the window.
+fn about_json(
     alloc: Global,
-    text: &mut Vec<u8>,
     criterion: Criterion,
-    from: u128,
+    before: u128,
     shown: &Shown,
-) -> Result<(), AllocError>
-    ensures { OnOk result
-        (text.new.items ≡ text.old.items ++ about_json criterion from shown.now) }
+) -> Result<String, AllocError>
+    ensures { IfOk result (λ text. string_bytes text ≡ about_json criterion before shown.now) }
 {
     let showing = &shown.showing;
     let line = report_by(alloc, criterion, showing.fed, &showing.verdict)?;
-    text.extend_from_slice(b"{\"report\":")?;
-    text.extend_from_slice(line.as_bytes())?;
-    push_numbers(text, criterion, shown.registers, from)?;
-    Ok(())
+    let name = criterion_name(criterion);
+    let registers = shown.registers.get();
+    format!(in alloc;
+        "{{\"report\":{line},\"criterion\":\"{name}\",\"registers\":{registers},\"before\":{before}"
+    )
 }
 
-/// Adds the criterion, how many registers there are, and how many events stand before the window.
-fn push_numbers(
-    text: &mut Vec<u8>,
-    criterion: Criterion,
-    registers: Registers,
-    from: u128,
-) -> Result<(), AllocError>
-    ensures { OnOk result
-        (text.new.items ≡ text.old.items ++ numbers_json criterion registers from) }
-{
-    text.extend_from_slice(criterion_json(criterion))?;
-    text.push(b'0' + registers.get())?;
-    text.extend_from_slice(b",\"before\":")?;
-    push_number(text, from)?;
-    Ok(())
-}
-
-/// The member that names the criterion, and the key of the next.
-fn criterion_json(criterion: Criterion) -> &'static [u8]
-    ensures { result.now ≡ criterion_json criterion }
+fn criterion_name(criterion: Criterion) -> &'static str
+    ensures { result.now ≡ criterion_name criterion }
 {
     match criterion {
-        Criterion::Opacity => b",\"criterion\":\"opacity\",\"registers\":",
-        Criterion::Strict => b",\"criterion\":\"strict\",\"registers\":",
+        Criterion::Opacity => "opacity",
+        Criterion::Strict => "strict",
     }
 }
 
@@ -153,11 +135,9 @@ fn push_mark(text: &mut Vec<u8>, told: Told) -> Result<(), AllocError>
     ensures { OnOk result (text.new.items ≡ text.old.items ++ mark_json told) }
 {
     if let Some(at) = marked_at(told) {
-        text.extend_from_slice(b",\"mark\":")?;
-        push_number(text, at)?;
-        text.extend_from_slice(b",\"told\":\"")?;
-        text.extend_from_slice(wrong_of(told).as_bytes())?;
-        text.push(b'"')?;
+        let wrong = wrong_of(told);
+        let mark = format!(in *text.allocator(); ",\"mark\":{at},\"told\":\"{wrong}\"")?;
+        text.extend_from_slice(mark.as_bytes())?;
     }
     Ok(())
 }
@@ -177,13 +157,13 @@ fn push_needed(text: &mut Vec<u8>, needed: &Needed) -> Result<(), AllocError>
 /// Adds the reason, if one is told, of a window before which so many events stand.
 fn push_why(
     text: &mut Vec<u8>,
-    from: u128,
+    before: u128,
     events: &[Event],
     needed: &Needed,
 ) -> Result<(), AllocError>
-    requires { from + length events.now < 2 ^ 128 }
+    requires { before + length events.now < 2 ^ 128 }
     ensures { let reason = reason_of needed.now in
-        let told = told_sentence [] from events.now reason in
+        let told = told_sentence [] before events.now reason in
         OnOk result (text.new.items ≡ text.old.items ++ why_json told reason) }
 {
     if let Needed::Part {
@@ -191,7 +171,7 @@ fn push_why(
         ..
     } = needed
     {
-        let told = told_by(*text.allocator(), &[], from, events, &reason.end)?;
+        let told = told_by(*text.allocator(), &[], before, events, &reason.end)?;
         text.extend_from_slice(b",\"why\":\"")?;
         push_clauses(text, &told, reason)?;
         text.push(b'"')?;

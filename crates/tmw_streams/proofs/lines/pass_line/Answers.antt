@@ -1,10 +1,7 @@
 -- What was held went out, and then the line, or a beginning of it.
-use Rattle.std.proofs.Common.{◌≡◌, ℕ, List, [], ◌∷◌, ◌++◌, length, take, ap, ◌∙◌}
+use Rattle.tmw_streams.proofs.Shared.{[], ap, bounded_bytes, BoundedSink, length, List, take, TakesBeginning, to_bounded, ℕ, ◌++◌, ◌∙◌, ◌∷◌, ◌≡◌}
 use lib.Seq.{take-append_seam}
 use Rattle.tmw_streams.proofs.PassedOn.{PutsOn-gone, PutsOn-front}
-use Rattle.tmw_streams.specs.Bounded.{bounded_bytes, to_bounded}
-use Rattle.tmw_streams.specs.Told.{TakesBeginning}
-use Rattle.tmw_streams.specs.declared.bounded_sink.BoundedSink.{BoundedSink}
 use Rattle.tmw_streams.proofs.lines.pass_line.Goals as goal
 
 -- bytes that a beginning of a line came behind are had again

@@ -1,5 +1,5 @@
 -- The line feed came after the item's text.
-use Rattle.std.proofs.Common.{[], ◌∷◌}
+use Rattle.tmw_streams.proofs.Shared.{[], ◌∷◌}
 use Rattle.tmw_streams.proofs.Putting.{Puts-more, Puts-front}
 use Rattle.tmw_streams.proofs.lines.put_line.Goals as goal
 

@@ -1,12 +1,7 @@
 -- A beginning of an item's line came after all the lines before it, or a beginning of what was held last.
-use Rattle.std.proofs.Common.{◌≡◌, ℕ, ◌+◌, List, [], ◌∷◌, ◌++◌, ◌∙◌, take, drop, sym, subst}
-use Rattle.std.proofs.lemmas.List.{take_all}
+use Rattle.tmw_streams.proofs.Shared.{[], bounded_bytes, drop, lines_of, List, PassesOn, Puts, subst, sym, take, take_all, ℕ, ◌++◌, ◌+◌, ◌∙◌, ◌∷◌}
 use Rattle.tmw_streams.proofs.FlatMaps.{flat_map-take, flat_map-split}
 use Rattle.tmw_streams.proofs.PassedOn.{PassesOn-more, Puts-held, Puts-rest}
-use Rattle.tmw_streams.specs.Bounded.{bounded_bytes}
-use Rattle.tmw_streams.specs.Lines.{lines_of}
-use Rattle.tmw_streams.specs.PassedOn.{PassesOn}
-use Rattle.tmw_streams.specs.Told.{Puts}
 use Rattle.tmw_streams.proofs.lines.put_lines.Goals as goal
 
 pub loop-item-preserved : goal.loop-item-preserved

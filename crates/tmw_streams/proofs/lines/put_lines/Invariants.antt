@@ -1,7 +1,4 @@
-use Rattle.std.proofs.Common.{◌≡◌, take}
-use Rattle.tmw_streams.specs.Bounded.{bounded_bytes}
-use Rattle.tmw_streams.specs.Lines.{lines_of}
-use Rattle.tmw_streams.specs.PassedOn.{PassesOn}
+use Rattle.tmw_streams.proofs.Shared.{bounded_bytes, lines_of, PassesOn, take, ◌≡◌}
 use Rattle.tmw_streams.proofs.lines.put_lines.Given as goal
 
 abbrev pub invariant-loop-item : goal.invariant-loop-item

@@ -1,5 +1,4 @@
-use Rattle.std.proofs.Common.{◌≡◌}
-use Rattle.tmw_streams.specs.Told.{Reads}
+use Rattle.tmw_streams.proofs.Shared.{Reads, ◌≡◌}
 use Rattle.tmw_streams.proofs.reading.read_all.Given as goal
 
 abbrev pub invariant-reads : goal.invariant-reads

@@ -1,5 +1,4 @@
-use Rattle.std.proofs.Common.{[]}
-use Rattle.std.specs.Io.KnownBytes.{Appends}
+use Rattle.tmw_streams.proofs.Shared.{[], Appends}
 use Rattle.tmw_streams.proofs.std_sink.write_again.Given as goal
 
 abbrev pub invariant-loop : goal.invariant-loop

@@ -1,5 +1,4 @@
-use Rattle.std.proofs.Common.{[]}
-use Rattle.std.specs.Io.KnownBytes.{Consumes}
+use Rattle.tmw_streams.proofs.Shared.{[], Consumes}
 use Rattle.tmw_streams.proofs.std_source.read_again.Given as goal
 
 abbrev pub invariant-loop : goal.invariant-loop

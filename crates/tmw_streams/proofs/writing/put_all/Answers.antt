@@ -1,6 +1,5 @@
 -- The bytes that one more call takes follow those that were taken so far.
-use Rattle.std.proofs.Common.{take, drop, take-add, ◌∙◌, arith}
-use Rattle.std.proofs.lemmas.List.{take_rest, length-drop}
+use Rattle.tmw_streams.proofs.Shared.{arith, drop, length-drop, take, take-add, take_rest, ◌∙◌}
 use Rattle.tmw_streams.proofs.ToldBytes.{Takes-more}
 use Rattle.tmw_streams.proofs.writing.put_all.Goals as goal
 

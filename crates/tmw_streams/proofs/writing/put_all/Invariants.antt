@@ -1,5 +1,4 @@
-use Rattle.std.proofs.Common.{◌≡◌, ◌-◌, ◌≤◌, length, take}
-use Rattle.tmw_streams.specs.Told.{Takes}
+use Rattle.tmw_streams.proofs.Shared.{length, take, Takes, ◌-◌, ◌≡◌, ◌≤◌}
 use Rattle.tmw_streams.proofs.writing.put_all.Given as goal
 
 abbrev pub invariant-loop-at : goal.invariant-loop-at

@@ -1,5 +1,5 @@
 -- The number came after all the bytes before it.
-use Rattle.std.proofs.Common.{decimal, ◌∙◌}
+use Rattle.tmw_streams.proofs.Shared.{decimal, ◌∙◌}
 use Rattle.tmw_streams.proofs.Putting.{Puts-more, Puts-front}
 use Rattle.tmw_streams.proofs.writing.put_with_number.Goals as goal
 

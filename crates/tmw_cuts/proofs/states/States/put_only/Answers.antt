@@ -9,7 +9,7 @@ set-only (x ∷ y ∷ xs) s one = absurd (omega (arith, one))
 
 pub invariant_of-self : goal.invariant_of-self
 unfolding IsStrictlySortedBy
-invariant_of-self c = record { rising = rw (set-only c.args.self.now.items.items c.args.state c.requires) (tt, tt) }
+invariant_of-self c = record { rising = rw (set-only c.args.self.now.items.items c.args.state.now c.requires) (tt, tt) }
 
 pub returns : goal.returns
-returns c = set-only c.args.self.now.items.items c.args.state c.requires
+returns c = set-only c.args.self.now.items.items c.args.state.now c.requires

@@ -1,4 +1,4 @@
-use Rattle.tmw_lines.proofs.Shared.{refl}
+use Rattle.tmw_lines.proofs.Shared.{refl, arith}
 use Rattle.tmw_lines.proofs.LinesRead.{HasRead-push, text_fault-line, IsReading-over, IsReading-failed}
 use Rattle.tmw_lines.proofs.lines.Lines.next.Goals as goal
 
@@ -11,13 +11,7 @@ returns-in-Ok-Some-clause-item g c =
     )
 
 pub returns-in-Err-clause-fault : goal.returns-in-Err-clause-fault
-returns-in-Err-clause-fault g c =
-    let line = c.in-Err.ensures.reads in (
-      line.bytes,
-      line.told,
-      text_fault-line g.F.LineFormat.grammar (g.S.Source.from.ended c.next_line.new.source) c.args.self.now line.bytes
-          c.in-Err.fault line.is.0,
-    )
+returns-in-Err-clause-fault g c = grind (arith, text_fault-line)
 
 pub returns-in-Err-clause-at_line : goal.returns-in-Err-clause-at_line
 returns-in-Err-clause-at_line g c = let line = c.in-Err.ensures.reads in (line.bytes, line.told, λ reading. (line.is.0, line.is.1, refl))

@@ -21,7 +21,7 @@ pub returns-then-take_at_once-clause-ok : goal.returns-then-take_at_once-clause-
 returns-then-take_at_once-clause-ok c judged_by history fits =
     let fine = fine-of judged_by history c.args.self.now (c.is_any_so_far.ensures c.if-is_any_so_far.true) fits in
     fits-next judged_by history c.args.event c.args.self.now c.take_at_once.new.kept fits fine
-    (c.take_at_once.ensures.taken c.if-take_at_once.true judged_by history fits.criterion fits.window fits.states (fits.keeps fine))
+    (c.take_at_once.ensures.taken c.if-take_at_once.true c.args.self.now.criterion judged_by history fits.criterion fits.window fits.states (fits.keeps fine))
 
 pub returns-then-take_at_once-clause-keeps : goal.returns-then-take_at_once-clause-keeps
 returns-then-take_at_once-clause-keeps c judged_by history fits =
@@ -38,10 +38,10 @@ fits-then c rules history fits = elim c.else-is_any_so_far.branch [
 ]
 
 pub returns-clause-ok : goal.returns-clause-ok
-returns-clause-ok c judged_by history fits = c.in_ok-take.ensures.ok judged_by history (fits-then c judged_by history fits)
+returns-clause-ok c judged_by history fits = c.in_ok-take_copy.ensures.ok judged_by history (fits-then c judged_by history fits)
 
 pub returns-clause-keeps : goal.returns-clause-keeps
-returns-clause-keeps c judged_by history fits = c.in_ok-take.ensures.keeps judged_by history (fits-then c judged_by history fits)
+returns-clause-keeps c judged_by history fits = c.in_ok-take_copy.ensures.keeps judged_by history (fits-then c judged_by history fits)
 
 fits-after : (c : goal.After-from_residual) (rules : Rules) (history : List Event) → Fits rules history c.args.self.now
     → Fits rules history c.else-is_any_so_far.self
@@ -52,7 +52,7 @@ fits-after c rules history fits = elim c.else-is_any_so_far.branch [
   | else-is_any_so_far-via-else-is_any_so_far w ↦ rw w.self-is fits
 ]
 
-pub returns-in_err-take-clause-keeps_err : goal.returns-in_err-take-clause-keeps_err
-returns-in_err-take-clause-keeps_err c =
+pub returns-in_err-take_copy-clause-keeps_err : goal.returns-in_err-take_copy-clause-keeps_err
+returns-in_err-take_copy-clause-keeps_err c =
     let p = err_from_is_err_and c.from_residual.result c.from_residual.ensures.1 in
-    rw p.1 (λ judged_by history fits. c.in_err-take.ensures.keeps_err judged_by history (fits-after c judged_by history fits))
+    rw p.1 (λ judged_by history fits. c.in_err-take_copy.ensures.keeps_err judged_by history (fits-after c judged_by history fits))

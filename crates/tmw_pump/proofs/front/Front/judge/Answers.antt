@@ -1,4 +1,4 @@
-use Rattle.tmw_pump.proofs.Shared.{Event, Fits, List, WasCounted, [], ap, arith, both_ways, is_open, length, length_push, refl, subst, sym, verdict_of, ◌++◌, ◌-◌, ◌<◌, ◌^◌, ◌∙◌, ◌∷◌, ◌≡◌}
+use Rattle.tmw_pump.proofs.Shared.{WasCounted, [], ap, arith, both_ways, is_open, length, length_push, refl, verdict_of, ◌++◌, ◌-◌, ◌<◌, ◌^◌, ◌∙◌, ◌∷◌, ◌≡◌}
 use Rattle.tmw_counts.proofs.Taking.{kept-ill, taken-formed}
 use Rattle.tmw_pump.proofs.CountingOn.{counted_next, counted_still}
 use Rattle.tmw_pump.proofs.Feeding.{few-held, room-fed, fed_on}
@@ -6,18 +6,10 @@ use Rattle.tmw_pump.proofs.front.Front.judge.Goals.{then-open, else-open}
 use Rattle.tmw_pump.proofs.front.Front.judge.Goals as goal
 
 pub feed-requires : goal.feed-requires
-feed-requires c = let old = c.args.self.now in
-    record { room = room-fed old.judged.items old.monitor old.fed (few-held old.judged.items old.held c.args.event c.requires old.few) }
+feed-requires c = grind (arith, room-fed, few-held)
 
 pub invariant_of-self : goal.invariant_of-self
-invariant_of-self c = let old = c.args.self.now in
-    record {
-      opacity = c.feed.ensures.criterion ∙ old.opacity;
-      fed = fed_on old.judged.items old.judged.items old.monitor c.feed.new.self old.fed (λ by fits. c.in_err-feed.ensures.err by old.judged.items fits);
-      counted = counted_still old.judged.items old.monitor c.feed.new.self c.feed.ensures.criterion old.counter
-          (λ by fits. c.in_err-feed.ensures.err by old.judged.items fits) old.counted;
-      few = old.few;
-    }
+invariant_of-self c = grind (arith, fed_on, counted_still)
 
 -- the event was counted where nothing was wrong before it
 next-counted : (c : goal.After-then-self) → ∥ WasCounted (c.args.self.now.judged.items ++ c.args.event ∷ []) c.feed.new.self c.if-open.self.1.1.0 ∥₁
@@ -46,13 +38,4 @@ next-counted c =
 
 pub invariant_of-self-2 : goal.invariant_of-self-2
 invariant_of-self-2 c = let old = c.args.self.now in
-    let items = c.then-self.ensures in
-    let size = ap (λ (l : List Event). length l) items ∙ length_push old.judged.items c.args.event in
-    let room = few-held old.judged.items old.held c.args.event c.requires old.few in
-    record {
-      opacity = c.feed.ensures.criterion ∙ old.opacity;
-      fed = fed_on old.judged.items c.then-self.result.items old.monitor c.feed.new.self old.fed (λ by fits.
-          subst (λ (l : List Event). Fits by l c.feed.new.self) (sym items) (c.in_ok-feed.ensures.ok by old.judged.items fits));
-      counted = subst (λ (l : List Event). ∥ WasCounted l c.feed.new.self c.if-open.self.1.1.0 ∥₁) (sym items) (next-counted c);
-      few = omega (arith, size, room);
-    }
+    grind (arith, length, length_push, few-held, fed_on, next-counted)

@@ -1,4 +1,4 @@
-use Rattle.tmw_pump.proofs.Shared.{rules}
+use Rattle.tmw_pump.proofs.Shared.{rules, arith}
 use Rattle.tmw_pump.proofs.Keeping.{new_kept}
 use Rattle.tmw_pump.proofs.pump.Pump.keeping.Goals as goal
 
@@ -11,6 +11,4 @@ invariant_of-result g c =
     }
 
 pub returns-clause-keeps : goal.returns-clause-keeps
-returns-clause-keeps g c =
-    let new = c.new.ensures in
-    new_kept g.K.Keep.keeps c.args.monitor c.new.result c.args.kept new.judged new.monitor c.requires.kept
+returns-clause-keeps g c = grind (arith, new_kept)

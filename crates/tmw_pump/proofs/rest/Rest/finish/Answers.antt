@@ -1,12 +1,10 @@
-use Rattle.tmw_pump.proofs.Shared.{Event, GivesHeadline, List, Verdict, all_of, ap, rest_in, subst, sym, ◌∙◌}
+use Rattle.tmw_pump.proofs.Shared.{Event, GivesHeadline, List, Verdict, all_of, rest_in, subst, sym, arith}
 use Rattle.tmw_pump.proofs.HeadlineProof.{gives_rest}
 use Rattle.tmw_pump.proofs.Keeping.{all_kept}
 use Rattle.tmw_pump.proofs.rest.Rest.finish.Goals as goal
 
 pub returns-clause-judged : goal.returns-clause-judged
-returns-clause-judged c =
-    let rest = c.args.self in
-    ap (λ log. log.items) c.into_kept.ensures.kept ∙ all_kept rest.front rest.kept rest.keeps
+returns-clause-judged c = grind (arith, all_kept)
 
 pub returns-clause-headline : goal.returns-clause-headline
 returns-clause-headline c =

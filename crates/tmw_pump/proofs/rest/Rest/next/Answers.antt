@@ -1,17 +1,9 @@
-use Rattle.tmw_pump.proofs.Shared.{Some, rules}
+use Rattle.tmw_pump.proofs.Shared.{arith}
 use Rattle.tmw_pump.proofs.Keeping.{kept-came, was_kept}
 use Rattle.tmw_pump.proofs.rest.Rest.next.Goals as goal
 
 pub returns-clause-kept : goal.returns-clause-kept
-returns-clause-kept g c =
-    let old = c.args.self.now in
-    kept-came g.K.Keep.keeps (Some c.in-Some-take.event) old.front c.hold.new.self old.kept c.hold.ensures
+returns-clause-kept g c = grind (arith, kept-came)
 
 pub invariant_of-self-2 : goal.invariant_of-self-2
-invariant_of-self-2 g c =
-    let old = c.args.self.now in
-    let keeps = g.K.Keep.keeps in record {
-      few = search rules;
-      keeps = was_kept keeps old.front c.hold.new.self old.kept old.kept old.keeps
-          (kept-came keeps (Some c.in-Some-take.event) old.front c.hold.new.self old.kept c.hold.ensures);
-    }
+invariant_of-self-2 g c = grind (arith, was_kept, kept-came)

@@ -12,12 +12,7 @@ returns-in_default-clause-headline g c =
     (λ by fits. fits-came c.next.result at.self.front next.front c.next.ensures.front by (at.invariant.0.judged.fits by fits))
 
 pub invariant_of-self : goal.invariant_of-self
-invariant_of-self g c =
-    let next = c.next.new.self in
-    let new = c.judge_held.new in record {
-      few = few-came next.settled next.front new.front c.judge_held.ensures.came next.few;
-      keeps = was_kept g.K.Keep.keeps next.front new.front next.kept new.kept next.keeps c.judge_held.ensures.kept;
-    }
+invariant_of-self g c = grind (arith, few-came, was_kept)
 
 pub returns-in_err-judge_held-clause-err : goal.returns-in_err-judge_held-clause-err
 returns-in_err-judge_held-clause-err g c =

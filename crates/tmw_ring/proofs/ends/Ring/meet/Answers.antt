@@ -1,20 +1,18 @@
-use Rattle.tmw_ring.proofs.Shared.{Reads, Writes, reader_in, writer_in}
-use Rattle.tmw_ring.proofs.Meetings.{idle_still, waiting_still, writer_met, reader_met}
+use Rattle.tmw_ring.proofs.Shared.{Reads, Writes, reader_in, writer_in, arith}
+use Rattle.tmw_ring.proofs.Meetings.{writer_met, reader_met}
 use Rattle.tmw_ring.proofs.ends.Ring.meet.Goals as goal
 
 pub invariant_of-writer : goal.invariant_of-writer
 invariant_of-writer c =
     let met =
     c.meet_seats.ensures.met (Writes (writer_in c.writer.inside.seat.me.0)) (Reads (reader_in c.reader.inside.seat.me.0))
-    c.writer.invariant.seated c.reader.invariant.seated in
-    idle_still c.writer.inside.number _ met.run c.writer.inside.seat.me c.meet_seats.new.one.me c.writer.invariant met.one_after
+    c.writer.invariant.seated c.reader.invariant.seated in grind arith
 
 pub invariant_of-reader : goal.invariant_of-reader
 invariant_of-reader c =
     let met =
     c.meet_seats.ensures.met (Writes (writer_in c.writer.inside.seat.me.0)) (Reads (reader_in c.reader.inside.seat.me.0))
-    c.writer.invariant.seated c.reader.invariant.seated in
-    waiting_still c.reader.inside.front met.run c.reader.inside.seat.me c.meet_seats.new.other.me c.reader.invariant met.other_after
+    c.writer.invariant.seated c.reader.invariant.seated in grind arith
 
 pub returns : goal.returns
 returns c =

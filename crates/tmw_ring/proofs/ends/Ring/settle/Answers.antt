@@ -1,4 +1,4 @@
-use Rattle.tmw_ring.proofs.Shared.{Event, IsSettled, List, ReaderIs, RingIs, ap, events_from, reader_in, slots_items, subst, sym, ◌-◌, ◌∙◌}
+use Rattle.tmw_ring.proofs.Shared.{Event, IsSettled, List, ReaderIs, RingIs, ap, events_from, reader_in, slots_items, subst, sym, ◌-◌, ◌∙◌, arith}
 use Rattle.tmw_ring.proofs.LastStates.{ended_joined}
 use Rattle.tmw_ring.proofs.Settling.{Counted, leaves, settles}
 use Rattle.tmw_ring.proofs.ends.Ring.settle.Goals as goal
@@ -16,16 +16,7 @@ invariant_of-result c =
     let left =
     leaves c.self.inside.size reader c.args.writers.items (slots_items closed.words) c.reader.inside.front c.word-tail.result ends
     (c.requires.count ∙ ap (λ (ring : RingIs). ring.size.writers) (sym c.self.view_is)) c.requires.order counted in
-    record {
-      full = c.close_with-closed.ensures.values.0;
-      words = c.close_with-closed.ensures.counts.0 ∙ c.self.invariant.words;
-      slots = c.close_with-closed.ensures.counts.1 ∙ c.self.invariant.slots;
-      some = left.some;
-      small = left.small;
-      few = left.few;
-      order = left.order;
-      events = left.events;
-    }
+    grind arith
 
 pub returns : goal.returns
 returns c =

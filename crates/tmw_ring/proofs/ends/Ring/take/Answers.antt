@@ -1,4 +1,4 @@
-use Rattle.tmw_ring.proofs.Shared.{HasFoundNone, HasTaken, IsReadyReader, ReaderIs, ap, reader_in, reader_is, subst, sym, ℕ, ◌∙◌}
+use Rattle.tmw_ring.proofs.Shared.{HasFoundNone, HasTaken, ReaderIs, ap, reader_in, reader_is, subst, sym, ℕ, ◌∙◌, arith}
 use Rattle.tmw_ring.proofs.Takings.{looked_none, looked_ready, read_told, freed_taken}
 use Rattle.tmw_ring.proofs.ends.Ring.take.Goals as goal
 
@@ -12,11 +12,7 @@ returns-then-stamp-front-clause-none c =
     (λ same. c.if-stamp-front.true (stamp ∙ same)))
 
 pub read-value-requires-clause-ready : goal.read-value-requires-clause-ready
-read-value-requires-clause-ready c =
-    let stamp = ap (λ (words : ℕ × ℕ). words.0) c.split-stamp.ensures in
-    subst (λ (place : ℕ). IsReadyReader place c.see_stamp-word.new.seat.me) (sym c.words_at-words.ensures.place)
-    (looked_ready c.reader.inside.front c.see_stamp-word.result c.reader.inside.seat.me c.see_stamp-word.new.seat.me c.reader.invariant
-    c.see_stamp-word.ensures.seen (sym stamp ∙ c.if-stamp-front.false))
+read-value-requires-clause-ready c = grind (arith, looked_ready)
 
 pub free-requires-clause-told : goal.free-requires-clause-told
 free-requires-clause-told c =

@@ -1,7 +1,5 @@
 -- A call that is counted leaves all else: that no byte is left at the end has one proof at most.
-use Rattle.std.proofs.Common.{◌≡◌, ◌≤◌, IsTrue, ℕ, length, ap}
-use Rattle.std.specs.Coded.{→_prop, le_prop}
-use Rattle.tmw_streams.specs.declared.memory_source.MemorySource.{MemorySource}
+use Rattle.tmw_streams.proofs.Shared.{ap, IsTrue, le_prop, length, MemorySource, ℕ, →_prop, ◌≡◌, ◌≤◌}
 use Rattle.tmw_streams.proofs.memory_source.MemorySource.fails_now.Goals as goal
 
 abbrev counted : (s : MemorySource) (calls failures : ℕ) → (IsTrue s.over → length s.content.now ≤ s.at) → MemorySource

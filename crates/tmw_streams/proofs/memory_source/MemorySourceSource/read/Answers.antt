@@ -1,6 +1,5 @@
 -- The bytes that were copied are those that follow the ones told so far, and the first of those still to tell.
-use Rattle.std.proofs.Common.{◌≡◌, ◌+◌, ◌≤◌, length, take, drop, ◌++◌, ℕ, List, arith, take-add, take-take, take-append-drop, sym, ap, ◌∙◌}
-use Rattle.std.proofs.lemmas.List.{take-append-le, length-take-le, length-drop, drop-drop}
+use Rattle.tmw_streams.proofs.Shared.{ap, arith, drop, drop-drop, length, length-drop, length-take-le, List, sym, take, take-add, take-append-drop, take-append-le, take-take, ℕ, ◌++◌, ◌+◌, ◌∙◌, ◌≡◌, ◌≤◌}
 use Rattle.tmw_streams.proofs.memory_source.MemorySourceSource.read.Goals as goal
 
 front : (n : ℕ) (copied rest others : List ℕ) → copied ≡ take n rest → n ≤ length rest → take n (copied ++ others) ≡ take n rest

@@ -9,11 +9,7 @@ returns-then-holds_at c = λ starts xs ys x turns may was.
 
 pub returns-in-Some : goal.returns-in-Some
 returns-in-Some c =
-    let long : AreLong c.args.self.now = record {
-      ranks = search rules;
-      held = search rules;
-      states = search rules;
-    } in
+    let long : AreLong c.args.self.now = search rules in
     let found = c.in-Some.ensures in
     λ starts xs ys x turns may was.
     moved-kept starts xs ys x (view c.args.item.now) c.args.self.now c.args.place c.in-Some.rank c.in-Some.rank long c.if-place-ge8.false

@@ -4,9 +4,5 @@ use Rattle.tmw_witness.proofs.witness.Witness.begin.Goals as goal
 
 pub returns-then-place-lt8 : goal.returns-then-place-lt8
 returns-then-place-lt8 c = λ starts xs y size none may before was.
-    let long : AreLong c.args.self.now = record {
-      ranks = search rules;
-      held = search rules;
-      states = search rules;
-    } in
+    let long : AreLong c.args.self.now = search rules in
     begin-kept starts xs y c.args.self.now c.from-place.result long c.if-place-lt8.true (size ∙ sym c.from-place.ensures) none may before was

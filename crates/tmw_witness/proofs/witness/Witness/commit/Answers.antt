@@ -8,7 +8,7 @@ returns-then-self-place c = λ starts xs ys x turns committed same was.
 
 pub returns-then-hold : goal.returns-then-hold
 returns-then-hold c = λ starts xs ys x turns committed same was.
-    c.hold.ensures.held c.if-hold.true starts xs ys x turns (rw committed refl) was
+    c.hold.ensures.held c.if-hold.true starts xs ys x turns same (rw committed refl) was
 
 pub returns-else-not-leaves_state : goal.returns-else-not-leaves_state
 returns-else-not-leaves_state c = λ starts xs ys x turns committed same was.

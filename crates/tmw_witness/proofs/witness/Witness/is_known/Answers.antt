@@ -1,11 +1,7 @@
-use Rattle.tmw_witness.proofs.Shared.{Contains, committed_of, rank_of, shows-views_of, state_of, transactions, views_of}
+use Rattle.tmw_witness.proofs.Shared.{shows-views_of, state_of}
 use Rattle.tmw_witness.proofs.Path.{witness-ends}
 use Rattle.tmw_witness.proofs.witness.Witness.is_known.Goals as goal
 
 pub returns-clause-ends : goal.returns-clause-ends
 returns-clause-ends c = λ starts events was known.
-    let w = c.args.self.now in (
-      state_of w w.top,
-      witness-ends (Contains starts) (views_of events) (transactions events) (rank_of w) (committed_of w) (state_of w) w.top (was known)
-          (shows-views_of events),
-    )
+    let w = c.args.self.now in (state_of w w.top, witness-ends (was known) (shows-views_of events))

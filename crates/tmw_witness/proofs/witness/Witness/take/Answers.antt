@@ -1,6 +1,6 @@
 use Rattle.tmw_witness.proofs.Shared.{ap, arith, bit_at, bit_at_ones, eqb-true, length, length-map, map, mod-eq_of_lt, rules, view, ℕ, ◌%◌, ◌*◌, ◌+◌, ◌-◌, ◌^◌, ◌∙◌, ◌≡◌, ◌≤◌}
 use Rattle.std.proofs.Math.Pow.{pow_mono}
-use Rattle.tmw_witness.proofs.Placed.{placed-all}
+use Rattle.tmw_witness.proofs.Kept.{placed-all}
 use Rattle.tmw_witness.proofs.witness.Witness.take.Goals as goal
 
 pub loop-left-preserved : goal.loop-left-preserved
@@ -23,6 +23,6 @@ returns c = λ starts has known.
     ap (λ (n : ℕ). n % 2 ^ 64) single ∙ mod-eq_of_lt (omega (arith, most)) in
     let full : mask ≡ 2 ^ size - 1 = (let k = eqb-true (c.from.result + 1) (1 * 2 ^ size % 2 ^ 64) known ∙ whole in omega (arith, k, is)) in
     let same : length (map view items) ≡ size = length-map items view in
-    placed-all starts (map view items) mask c.loop-left.self (omega (arith, same, c.requires))
+    placed-all mask _ (omega (arith, same, c.requires))
     (λ i within. ap (λ (m : ℕ). bit_at m i) full ∙ bit_at_ones size i (omega (arith, within, same)))
     (c.loop-left.invariant.places starts has)
