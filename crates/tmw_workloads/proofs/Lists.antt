@@ -1,5 +1,5 @@
 -- A list of parts that is read from an array, value by value.
-use Rattle.tmw_workloads.proofs.Shared.{All, All-head, All-push, All-tail, Data, IsNoPart, List, [], ap, arith, array, get_or, items_of, length, length-map, list_data, map, map_push, subst, suc, sym, take, take_all, take_more, view, zero, ℕ, ◌++◌, ◌+◌, ◌<◌, ◌∙◌, ◌∷◌, ◌≡◌, ◌≤◌}
+use Rattle.tmw_workloads.proofs.Shared.{All, All-head, All-push, All-tail, Data, IsNoPart, List, [], ap, arith, array, get_or, items_of, length, length-map, list_data, map, map_push, suc, sym, take, take_all, take_more, view, zero, ℕ, ◌++◌, ◌+◌, ◌<◌, ◌∙◌, ◌∷◌, ◌≡◌, ◌≤◌}
 use Rattle.serde_json.specs.declared.value.Value.{Value}
 use Rattle.tmw_workloads.proofs.Values.{array_same}
 
@@ -30,19 +30,15 @@ pub read_no : {B : Type 0} (written : B → Data) (IsRight : B → Type 0) (valu
 read_no written IsRight [] i value parts within is none read = absurd (omega arith)
 read_no written IsRight (v ∷ vs) i value [] within is none read = let same = read.same in cc
 read_no written IsRight (v ∷ vs) zero value (p ∷ ps) within is none read =
-    let same = read.same in
-    let here : view v ≡ written p = cc in
-    none p (All-head IsRight p ps read.right) (ap view is ∙ here)
+    none p (All-head IsRight p ps read.right) (ap view is ∙ cc)
 read_no written IsRight (v ∷ vs) (suc i) value (p ∷ ps) within is none read =
     let same = read.same in
-    let more : map view vs ≡ map written ps = cc in
-    read_no written IsRight vs i value ps (omega arith) is none (record { right = All-tail IsRight p ps read.right; same = more })
+    read_no written IsRight vs i value ps (omega arith) is none (record { right = All-tail IsRight p ps read.right; same = cc })
 
 -- all values were read
 pub read_all : {B : Type 0} (written : B → Data) (IsRight : B → Type 0) (values : List Value) (n : ℕ) (parts : List B)
     → length values ≤ n → HasRead written IsRight (take n values) parts → HasRead written IsRight values parts
-read_all written IsRight values n parts past read =
-    subst (λ vs. HasRead written IsRight vs parts) (take_all n values past) read
+read_all written IsRight values n parts past read = grind (arith, take_all)
 
 -- an array's values, and the parts that it is written of
 pub list_from_read : {B : Type 0} (written : B → Data) (IsRight : B → Type 0) (content : Data) (values : List Value)
@@ -52,10 +48,7 @@ list_from_read written IsRight content values parts is read = is ∙ ap (λ ds. 
 pub read_from_list : {B : Type 0} (written : B → Data) (IsRight : B → Type 0) (content : Data) (values : List Value)
     (parts : List B) → content ≡ list_data view values → All IsRight parts → content ≡ list_data written parts
     → HasRead written IsRight values parts
-read_from_list written IsRight content values parts is right writes = record {
-  right = right;
-  same = array_same (map view values) (map written parts) (sym is ∙ writes);
-}
+read_from_list written IsRight content values parts is right writes = grind (arith, array_same)
 
 -- as one of its values is no right part, the array is none of such parts
 pub none_at : {B : Type 0} (written : B → Data) (IsRight : B → Type 0) (AreRight : List B → Type 0) (content : Data)
@@ -69,12 +62,10 @@ none_at written IsRight AreRight content values i value at within is none each p
 -- as many parts as values
 pub length-read : {B : Type 0} (written : B → Data) (IsRight : B → Type 0) (values : List Value) (parts : List B)
     → HasRead written IsRight values parts → length parts ≡ length values
-length-read written IsRight values parts read =
-    sym (length-map parts written) ∙ sym (ap length read.same) ∙ length-map values view
+length-read written IsRight values parts read = cc (length-map parts written, length-map values view)
 
 -- one array has one number of parts
 pub length-same : {B : Type 0} (written : B → Data) (content : Data) (parts others : List B) → content ≡ list_data written parts
     → content ≡ list_data written others → length parts ≡ length others
 length-same written content parts others is also =
-    sym (length-map parts written) ∙ ap length (array_same (map written parts) (map written others) (sym is ∙ also))
-    ∙ length-map others written
+    cc (length-map parts written, array_same (map written parts) (map written others) (sym is ∙ also), length-map others written)

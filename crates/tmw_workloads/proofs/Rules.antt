@@ -1,15 +1,13 @@
 -- The rules of a part, by those of its parts.
-use Rattle.tmw_workloads.proofs.Shared.{All, All-weaker, AreScripts, Bool, FitsKind, IsOrder, IsScript, IsTransaction, IsTrue, Kind, List, and_from, and_parts, is_transaction, le-leb, length, list_all, lt-ltb, ltb-true, nat_lt, true, ℕ, ◌<◌, ◌≡◌, ◌≤◌}
+use Rattle.std.proofs.Common.{arith}
+use Rattle.tmw_workloads.proofs.Shared.{All, AreScripts, Bool, FitsKind, IsOrder, IsScript, IsTransaction, IsTrue, Kind, List, and_from, and_parts, is_transaction, le-leb, length, list_all, lt-ltb, ltb-true, nat_lt, ℕ, ◌<◌, ◌≤◌}
 use Rattle.std.proofs.lemmas.List.Sums.{AllPass-from_list_all, list_all-from_AllPass}
 use Rattle.tmw_workloads.specs.Workload.{is_short_script, is_short_transaction, is_workload}
 
 -- what a test and a fact say of each element
 all_from_each : {A : Type 0} (test : A → Bool) (P : A → Type 0) (xs : List A) → All (λ x. IsTrue (test x) × P x) xs
     → IsTrue (list_all test xs) × All P xs
-all_from_each test P xs each = (
-  list_all-from_AllPass test xs (All-weaker (λ x. IsTrue (test x) × P x) (λ x. test x ≡ true) (λ x h. h.0) xs each),
-  All-weaker (λ x. IsTrue (test x) × P x) P (λ x h. h.1) xs each,
-)
+all_from_each test P xs each = grind (arith, list_all-from_AllPass)
 
 each_from_all : {A : Type 0} (test : A → Bool) (P : A → Type 0) (xs : List A) → IsTrue (list_all test xs) → All P xs
     → All (λ x. IsTrue (test x) × P x) xs
@@ -31,8 +29,7 @@ script_each registers script right =
 pub scripts_right : (registers : ℕ) (scripts : List (List (List Kind))) → 0 < length scripts → length scripts ≤ 8
     → All (IsScript registers) scripts → AreScripts registers scripts
 scripts_right registers scripts some short each =
-    let all = all_from_each (is_short_script registers) (All (All FitsKind)) scripts each in
-    (and_from _ _ (and_from _ _ (lt-ltb 0 (length scripts) some) (le-leb (length scripts) 8 short)) all.0, all.1)
+    grind (arith, all_from_each (is_short_script registers) (All (All FitsKind)) scripts each)
 
 pub scripts_each : (registers : ℕ) (scripts : List (List (List Kind))) → AreScripts registers scripts
     → All (IsScript registers) scripts
@@ -44,9 +41,7 @@ scripts_some registers scripts right = ltb-true 0 (length scripts) (and_parts _ 
 
 pub order_right : (threads : ℕ) (order : List ℕ) → length order ≤ 100000 → All (λ thread. thread < threads) order
     → IsOrder threads order
-order_right threads order short each =
-    and_from _ _ (le-leb (length order) 100000 short)
-    (list_all-from_AllPass (λ thread. nat_lt thread threads) order (λ k d within. lt-ltb _ threads (each k d within)))
+order_right threads order short each = grind (arith, and_from, le-leb, list_all-from_AllPass, nat_lt, lt-ltb)
 
 pub order_each : (threads : ℕ) (order : List ℕ) → IsOrder threads order → All (λ thread. thread < threads) order
 order_each threads order right k d within =
