@@ -1,4 +1,5 @@
 -- A run of steps so far, one step more, and that it goes on as one log.
+use Rattle.std.proofs.Common.{rules}
 use Rattle.tmw_ring_steps.proofs.Shared.{GoesOnAsOneLog, List, Machine, RanFirst, Reply, Simulated, Sound, Spares, Step, [], after, ap, arith, length, length-append, length-take-le, machine_step, new_core-sound, new_machine, refl, replies, subst, sym, take, ℕ, ◌++◌, ◌+◌, ◌∙◌, ◌∷◌, ◌≡◌, ◌≤◌}
 use Rattle.tmw_ring_defs.proofs.MachineProof.{machine_step-sound, after-append, replies-append}
 use Rattle.tmw_ring_defs.proofs.OneLogProof.{one_log_law}
@@ -8,9 +9,7 @@ use Rattle.tmw_ring_defs.specs.OneLog.{IsOneLog}
 -- a machine that a step made, so answered
 pub made_sound : (step : Step) (old new : Machine) (reply : Reply) → (reply, new) ≡ machine_step step old → Sound old.core
     → Sound new.core × Spares old.core new.core
-made_sound step old new reply is sound =
-    let P : Reply × Machine → Type 0 = λ r. Sound r.1.core × Spares old.core r.1.core in
-    subst P (sym is) (machine_step-sound step_law step old sound)
+made_sound step old new reply is sound = grind (arith, machine_step-sound step_law step old sound)
 
 -- These steps were made, so answered.
 pub record HasRun (old : Simulated) (steps : List Step) (said : List Reply) (new : Simulated) : Type 0 where
@@ -22,16 +21,7 @@ pub run-more : (old : Simulated) (steps : List Step) (said : List Reply) (new : 
     → HasRun old steps said new → reply ≡ (machine_step step new.machine).0 → next.machine ≡ (machine_step step new.machine).1
     → next.made ≡ new.made + 1 → HasRun old (steps ++ step ∷ []) (said ++ reply ∷ []) next
 run-more old steps said new step reply next run is_reply moved more =
-    let one : List Step = step ∷ [] in
-    let one_said : Machine → List Reply = λ m. (machine_step step m).0 ∷ [] in
-    let stepped : Machine → Machine = λ m. (machine_step step m).1 in
-    record {
-      counted = omega (arith, run.counted, more, length-append steps one);
-      reached = moved ∙ ap stepped run.reached ∙ sym (after-append steps one old.machine);
-      answered = ap (λ r. said ++ r ∷ []) (is_reply ∙ ap (λ m. (machine_step step m).0) run.reached)
-          ∙ ap (λ s. s ++ one_said (after steps old.machine)) run.answered
-          ∙ sym (replies-append steps one old.machine);
-    }
+    grind (arith, length-append, after-append, replies-append)
 
 -- A sound machine goes on as one log.
 pub goes_on : (old : Machine) (steps : List Step) (new : Machine) → Sound old.core → new ≡ after steps old → GoesOnAsOneLog old steps new
@@ -44,13 +34,7 @@ goes_on old steps new sound is size past from =
 -- the first of these steps, which were made before memory was refused
 pub ran_first : (old : Simulated) (steps : List Step) (count : ℕ) (said : List Reply) (new : Simulated) → Sound old.machine.core
     → count ≤ length steps → HasRun old (take count steps) said new → RanFirst old steps new
-ran_first old steps count said new sound within run = record {
-  count = count;
-  within = within;
-  made = omega (arith, run.counted, length-take-le count steps within);
-  machine = run.reached;
-  one_log = goes_on old.machine (take count steps) new.machine sound run.reached;
-}
+ran_first old steps count said new sound within run = search (rules, length-take-le, goes_on)
 
 -- before the first step
 pub run-none : (old : Simulated) → HasRun old [] [] old

@@ -21,8 +21,7 @@ pub claimed_small : (core : Core) (writer place : ℕ) (kind : Kind) (is_filled 
     → IsIn core writer (Claimed place kind is_filled) → place < 2 ^ 40
 claimed_small core writer place kind is_filled sound claimed =
     let held = sound.holds writer place kind is_filled claimed in
-    let logged = slice_get_within core.log place held.event held.logged in
-    omega (arith, logged, sound.tail, sound.limited, core.size.most_places)
+    grind (arith, slice_get_within)
 
 -- a writer that is so far is one of the ring's
 pub has_writer : (core : Core) (writer : ℕ) (phase : WriterPhase) → IsIn core writer phase → writer < length core.writers

@@ -1,5 +1,6 @@
 -- The three numbers of a size, one after the other, and when a text is the text of no size.
-use Rattle.tmw_steps.proofs.Shared.{FitsSize, List, SizeLine, [], ap, arith, decimal, drop, drop_all, length, length-drop, size_numbers, ℕ, ◌++◌, ◌∙◌, ◌∷◌, ◌≡◌, ◌≢◌}
+use Rattle.std.proofs.Common.{rules}
+use Rattle.tmw_steps.proofs.Shared.{FitsSize, List, SizeLine, [], ap, arith, drop, drop_all, length, length-drop, size_numbers, ℕ, ◌∷◌, ◌≡◌, ◌≢◌}
 use Rattle.tmw_trace.specs.Text.{values_text}
 use Rattle.tmw_trace.specs.Values.{IsFirstValue, IsNoFirstValue}
 use Rattle.tmw_trace.specs.ValueTexts.{next-values}
@@ -8,37 +9,25 @@ use Rattle.tmw_trace.proofs.ValueParts.{value-split, value-rest}
 pub numbers-some : (bytes : List ℕ) (a b c n m k : ℕ) → IsFirstValue a n bytes → IsFirstValue b m (drop n bytes)
     → IsFirstValue c k (drop m (drop n bytes)) → k ≡ length (drop m (drop n bytes))
     → bytes ≡ values_text (a ∷ b ∷ c ∷ [])
-numbers-some bytes a b c n m k first second third all =
-    let last = drop_all k (drop m (drop n bytes)) (omega (arith, all)) in
-    value-split a n bytes first
-    ∙ ap (λ xs. (32 ∷ decimal a) ++ xs) (value-split b m (drop n bytes) second
-    ∙ ap (λ xs. (32 ∷ decimal b) ++ xs) (value-split c k (drop m (drop n bytes)) third
-    ∙ ap (λ xs. (32 ∷ decimal c) ++ xs) last))
+numbers-some bytes a b c n m k first second third all = grind (arith, drop_all, value-split)
 
 after_cells : (bytes : List ℕ) (a n : ℕ) → IsFirstValue a n bytes → (size : SizeLine) → FitsSize size
     → bytes ≡ values_text (size_numbers size) → drop n bytes ≡ values_text (size.writers ∷ size.limit ∷ [])
-after_cells bytes a n first size fits is =
-    value-rest a n bytes size.cells (values_text (size.writers ∷ size.limit ∷ [])) first fits.cells
-    (next-values (size.writers ∷ size.limit ∷ [])) is
+after_cells bytes a n first size fits is = search (rules, value-rest)
 
 pub no_writers : (bytes : List ℕ) (a n : ℕ) → IsFirstValue a n bytes → IsNoFirstValue (drop n bytes)
     → (size : SizeLine) → FitsSize size → bytes ≡ values_text (size_numbers size) → ⊥
-no_writers bytes a n first none size fits is =
-    none size.writers (values_text (size.limit ∷ [])) fits.writers (next-values (size.limit ∷ []))
-    (after_cells bytes a n first size fits is)
+no_writers bytes a n first none size fits is = grind (arith, after_cells)
 
 after_writers : (bytes : List ℕ) (a b n m : ℕ) → IsFirstValue a n bytes → IsFirstValue b m (drop n bytes)
     → (size : SizeLine) → FitsSize size → bytes ≡ values_text (size_numbers size)
     → drop m (drop n bytes) ≡ values_text (size.limit ∷ [])
-after_writers bytes a b n m first second size fits is =
-    value-rest b m (drop n bytes) size.writers (values_text (size.limit ∷ [])) second fits.writers
-    (next-values (size.limit ∷ [])) (after_cells bytes a n first size fits is)
+after_writers bytes a b n m first second size fits is = search (rules, value-rest, after_cells)
 
 pub no_limit : (bytes : List ℕ) (a b n m : ℕ) → IsFirstValue a n bytes → IsFirstValue b m (drop n bytes)
     → IsNoFirstValue (drop m (drop n bytes)) → (size : SizeLine) → FitsSize size
     → bytes ≡ values_text (size_numbers size) → ⊥
-no_limit bytes a b n m first second none size fits is =
-    none size.limit (values_text []) fits.limit (next-values []) (after_writers bytes a b n m first second size fits is)
+no_limit bytes a b n m first second none size fits is = grind (arith, after_writers)
 
 pub no_more : (bytes : List ℕ) (a b c n m k : ℕ) → IsFirstValue a n bytes → IsFirstValue b m (drop n bytes)
     → IsFirstValue c k (drop m (drop n bytes)) → k ≢ length (drop m (drop n bytes)) → (size : SizeLine) → FitsSize size

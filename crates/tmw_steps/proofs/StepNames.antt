@@ -13,5 +13,4 @@ pub no_front : (bytes : List ℕ) (step : Step) → get_or bytes 0 0 ≡ 102 →
     → ((writer : Ix) (kind : Kind) → FitsKind kind → drop 6 bytes ≡ digit writer ∷ 32 ∷ kind_text kind → ⊥)
     → FitsStep step → bytes ≡ step_text step → ⊥
 no_front bytes (Front w k) first third none fits is = none w k fits (ap (λ xs. drop 6 xs) is)
-no_front bytes _ first third none fits is =
-    absurd (omega (arith, first, third, ap (λ xs. get_or xs 0 0) is, ap (λ xs. get_or xs 2 0) is))
+no_front bytes _ first third none fits is = grind arith
