@@ -1,5 +1,5 @@
 -- What the recorders are that the handles of a watch hold.
-use Rattle.tmw_c.proofs.Shared.{All, AreAll, AreHeld, AreInPlace, HasNumber, HeldRecorder, IsHeld, IsHeldOf, List, None, Option, Recorder, RecorderHandle, RingIs, Some, WriterIs, [], ap, arith, get_or, length, subst, suc, sym, take, writers_of, zero, ℕ, ◌++◌, ◌<◌, ◌∙◌, ◌∷◌, ◌≡◌}
+use Rattle.tmw_c.proofs.Shared.{All, AreAll, AreHeld, AreInPlace, HasNumber, HeldRecorder, IsHeld, IsHeldOf, List, None, Option, Recorder, RecorderHandle, RingIs, Some, WriterIs, [], ap, arith, get_or, length, suc, sym, take, writers_of, zero, ℕ, ◌++◌, ◌<◌, ◌∙◌, ◌∷◌, ◌≡◌}
 use Rattle.std.proofs.Math.Seq.{take-append_seam}
 use Rattle.tmw_watch.specs.Opening.{AreOf}
 
@@ -47,11 +47,9 @@ order_held by (recorder ∷ recorders) (handle ∷ handles) held has (suc place)
 -- They are all of the watch's, where each handle holds the one of its place.
 pub all_held : (count : ℕ) (recorders : List Recorder) (handles : List RecorderHandle) → AreHeld recorders handles → AreInPlace count handles
     → AreAll count recorders
-all_held count recorders handles held placed = record {
-  counted = sym {A = ℕ} held.counted ∙ placed.counted;
-  order = order_held (λ n. n) recorders handles held placed.each;
-}
+all_held count recorders handles held placed = grind (arith, order_held (λ n. n) recorders handles held placed.each)
 
--- A list in front of others, taken by its length.
-pub take_whole : {A : Type 0} (count : ℕ) (items others : List A) → length items ≡ count → take count (items ++ others) ≡ items
-take_whole count items others same = subst (λ (n : ℕ). take n (items ++ others) ≡ items) same (take-append_seam items others)
+-- The handles that were taken out of a list held what those did that were there.
+pub held_whole : (recorders : List Recorder) (count : ℕ) (taken others olds : List RecorderHandle) → length taken ≡ count → taken ≡ olds
+    → AreHeld recorders (take count (taken ++ others)) → AreHeld recorders olds
+held_whole recorders count taken others olds same is held = grind (arith, take-append_seam)

@@ -1,28 +1,19 @@
 -- What a transaction is after its next event, and what a handle holds where the event was refused.
-use Rattle.tmw_c.proofs.Shared.{A, BadKind, BadRegister, Call, EndsTransaction, Follows, Full, GoesOn, HasNotAnswered, HasNotCalled, HeldRecorder, Holds, IsAnswering, IsAt, IsCalling, IsTurn, IsWholeText, LeavesCalls, List, Misfit, NotCall, Option, Spent, Status, Turn, [], answers, ap, append_assoc, arith, drop, drop_all, false, get_or, inl, inr, is_abort, length, refl, subst, sym, true, ℕ, ◌++◌, ◌+◌, ◌<◌, ◌∙◌, ◌∷◌, ◌≡◌}
+use Rattle.tmw_c.proofs.Shared.{A, BadKind, BadRegister, Call, EndsTransaction, Follows, Full, GoesOn, HasNotAnswered, HasNotCalled, HeldRecorder, Holds, IsAnswering, IsAt, IsCalling, IsTurn, IsWholeText, LeavesCalls, List, Misfit, NotCall, Option, Spent, Status, Turn, [], answers, append_assoc, arith, drop, drop_all, false, get_or, inl, inr, is_abort, length, refl, subst, sym, true, ℕ, ◌++◌, ◌+◌, ◌<◌, ◌∙◌, ◌∷◌, ◌≡◌, rules}
 use Rattle.tmw_events.specs.declared.event.Kind.{Kind}
 use Rattle.tmw_runs.proofs.LeavingCalls.{leaves-aborted, leaves-answered, whole-text}
 
 -- the call that is due
 pub after-call : (count : ℕ) (call : Kind) (turn next : Turn) → turn.place < count → turn.phase ≡ 0 → next.place ≡ turn.place
     → next.phase ≡ 1 → GoesOn count call call turn next
-after-call count call turn next low due same asked calls kinds long is follows =
-    let leaves : LeavesCalls calls kinds (drop turn.place calls)
-    = subst (λ (phase : ℕ). Follows calls turn.place phase kinds) due follows
-    in
-    let below : turn.place < length calls = subst (λ (n : ℕ). turn.place < n) (sym long) low in
-    let waits : Follows calls turn.place 1 (kinds ++ call ∷ []) = (below, kinds, ap (λ (k : Kind). kinds ++ k ∷ []) (sym is), leaves) in
-    subst (λ (place : ℕ). Follows calls place next.phase (kinds ++ call ∷ [])) (sym same)
-    (subst (λ (phase : ℕ). Follows calls turn.place phase (kinds ++ call ∷ [])) (sym asked) waits)
+after-call count call turn next low due same asked calls kinds long is follows = grind arith
 
 -- what it is that was not called, by the status
 pub not-called : (calls : List Call) (old new : Option HeldRecorder) (turn : Turn) (place : ℕ) → IsTurn 0 calls turn
     → (before after : HeldRecorder) → Holds old new before after → (call : Call) → IsAt calls turn call
     → (status : Status) → HasNotCalled (length calls) turn call before after status → IsCalling calls old new turn turn place place status
-not-called calls old new turn place due before after holds call is Full refused =
-    (record { turned = due; before = before; after = after; holds = holds; call = call; is = is; refused = refused }, refl, refl)
-not-called calls old new turn place due before after holds call is Spent refused =
-    (record { turned = due; before = before; after = after; holds = holds; call = call; is = is; refused = refused }, refl, refl)
+not-called calls old new turn place due before after holds call is Full refused = search rules
+not-called calls old new turn place due before after holds call is Spent refused = search rules
 not-called calls old new turn place due before after holds call is BadKind refused =
     (record { turned = due; before = before; after = after; holds = holds; call = call; is = is; refused = refused }, refl, refl)
 not-called calls old new turn place due before after holds call is BadRegister refused =
@@ -34,8 +25,7 @@ not-called calls old new turn place due before after holds call is _ refused = a
 -- the calls with the one that waits and an answer behind it
 with-answer : (calls : List Kind) (place : ℕ) (before kinds : List Kind) (answer : Kind) → kinds ≡ before ++ get_or calls place A ∷ []
     → kinds ++ answer ∷ [] ≡ before ++ get_or calls place A ∷ answer ∷ []
-with-answer calls place before kinds answer was =
-    ap (λ (k : List Kind). k ++ answer ∷ []) was ∙ append_assoc before (get_or calls place A ∷ []) (answer ∷ [])
+with-answer calls place before kinds answer was = grind (arith, append_assoc)
 
 -- whichever call the answer fits
 abbrev pub AnyGoesOn : (count : ℕ) → (answer : Kind) → (old new : Turn) → Type 0
@@ -69,19 +59,13 @@ pub after-last : (count : ℕ) (answer : Kind) (turn next : Turn) → turn.phase
     → turn.place + 1 ≡ count → next.phase ≡ 2 → AnyGoesOn count answer turn next
 after-last count answer turn next asked low goes last over call fits calls kinds long is follows =
     let later = leaves-later count answer turn asked low goes call fits calls kinds long is follows in
-    let none : drop (turn.place + 1) calls ≡ [] = drop_all (turn.place + 1) calls (omega (arith, last, long)) in
-    let ended : IsWholeText calls (kinds ++ answer ∷ []) = whole-text calls (kinds ++ answer ∷ []) (drop (turn.place + 1) calls) none later in
-    subst (λ (phase : ℕ). Follows calls next.place phase (kinds ++ answer ∷ [])) (sym over) ended
+    grind (arith, leaves-later, drop_all, whole-text)
 
 -- a further call is due
 pub after-answer : (count : ℕ) (answer : Kind) (turn next : Turn) → turn.phase ≡ 1 → turn.place < count → is_abort answer ≡ false
     → next.place ≡ turn.place + 1 → next.phase ≡ 0 → AnyGoesOn count answer turn next
 after-answer count answer turn next asked low goes further due call fits calls kinds long is follows =
-    let later : Follows calls (turn.place + 1) 0 (kinds ++ answer ∷ [])
-    = leaves-later count answer turn asked low goes call fits calls kinds long is follows
-    in
-    subst (λ (place : ℕ). Follows calls place next.phase (kinds ++ answer ∷ [])) (sym further)
-    (subst (λ (phase : ℕ). Follows calls (turn.place + 1) phase (kinds ++ answer ∷ [])) (sym due) later)
+    grind (arith, leaves-later count answer turn asked low goes call fits calls kinds long is follows)
 
 pub not-ended : (count place : ℕ) (answer : Kind) → is_abort answer ≡ false → (place + 1 ≡ count → ⊥) → EndsTransaction count place answer → ⊥
 not-ended count place answer goes further (inl aborts) = absurd (cc (sym aborts ∙ goes))
@@ -91,10 +75,8 @@ not-ended count place answer goes further (inr last) = further last
 pub not-answered : (calls : List Call) (letter value place : ℕ) (old new : Option HeldRecorder) (turn : Turn) → IsTurn 1 calls turn
     → (before after : HeldRecorder) → Holds old new before after → (call : Call) → IsAt calls turn call → (status : Status)
     → HasNotAnswered call letter value before after status → IsAnswering calls letter value old new turn turn place place status
-not-answered calls letter value place old new turn waits before after holds call is Full refused =
-    (record { turned = waits; before = before; after = after; holds = holds; call = call; is = is; refused = refused }, refl, refl)
-not-answered calls letter value place old new turn waits before after holds call is Spent refused =
-    (record { turned = waits; before = before; after = after; holds = holds; call = call; is = is; refused = refused }, refl, refl)
+not-answered calls letter value place old new turn waits before after holds call is Full refused = search rules
+not-answered calls letter value place old new turn waits before after holds call is Spent refused = search rules
 not-answered calls letter value place old new turn waits before after holds call is BadKind refused =
     (record { turned = waits; before = before; after = after; holds = holds; call = call; is = is; refused = refused }, refl, refl)
 not-answered calls letter value place old new turn waits before after holds call is BadRegister refused =

@@ -1,5 +1,5 @@
 -- A watch that is closed, and whose recorders have recorded by turns alone, has a well-formed log.
-use Rattle.tmw_c.proofs.Shared.{All, HasEnded, IsByTurns, List, NeverMalformedLaw, Recorder, T, Watch, WriterIs, [], ap, arith, get_or, inl, inr, is_well_formed, kinds_recorded, length, refl, subst, sym, take, writer_of, writers_of, ℕ, ◌<◌, ◌∙◌, ◌∷◌, ◌≡◌}
+use Rattle.tmw_c.proofs.Shared.{All, HasEnded, IsByTurns, List, NeverMalformedLaw, Recorder, T, Watch, WriterIs, [], ap, arith, get_or, inl, inr, is_well_formed, kinds_recorded, length, refl, subst, sym, take, writer_of, writers_of, ℕ, ◌<◌, ◌∙◌, ◌∷◌, ◌≡◌, rules}
 use Rattle.tmw_runs.proofs.WellFormed.{no_kinds}
 use Rattle.std.proofs.lemmas.Bool.{both_ways, cases_lt}
 use Rattle.std.proofs.lemmas.List.Elements.{All-map}

@@ -1,4 +1,6 @@
 //! A function for each kind of event. It records as the function that takes a letter does, and tells no place.
+#![tactic(auto, using(crate::proofs::Telling::tells))]
+
 ghost use Rattle.tmw_c.specs.Recording.{IsRecordingUntold};
 ghost use Rattle.tmw_c.specs.Statuses.{Tells};
 ghost use Rattle.tmw_handles.specs.Held.{recorder_in};

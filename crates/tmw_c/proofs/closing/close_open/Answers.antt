@@ -1,5 +1,5 @@
-use Rattle.tmw_c.proofs.Shared.{AreEmpty, AreHeld, AreInPlace, Watch, ap, inl, inr, refl, rest_of, subst, sym, ℕ, ◌∙◌, ◌≡◌}
-use Rattle.tmw_c.proofs.Taken.{all_held, of_ring_held, take_whole}
+use Rattle.tmw_c.proofs.Shared.{AreEmpty, AreInPlace, Watch, ap, inl, inr, refl, rest_of, subst, sym, ℕ, ◌∙◌, ◌≡◌}
+use Rattle.tmw_c.proofs.Taken.{all_held, held_whole, of_ring_held}
 use Rattle.tmw_handles.specs.declared.held_watch.HeldWatch.TheVariants.{Shared}
 use Rattle.tmw_watch.proofs.Closings.{is_closed, is_left}
 use Rattle.tmw_c.proofs.closing.close_open.Goals as goal
@@ -25,34 +25,24 @@ returns-in_default-clause-err c =
 pub end-requires-clause-of_ring : goal.end-requires-clause-of_ring
 end-requires-clause-of_ring c =
     let recorders = c.recorders_of.result.items in
-    let other = c.swap_with_slice.new.other in
     let swapped = c.swap_with_slice.ensures in
-    let held : AreHeld recorders c.args.handles.now =
-    subst (AreHeld recorders) (take_whole c.in-Ok.taken.len other _ (swapped.other_len ∙ c.deref_mut.ensures.len) ∙ swapped.other_after)
-    c.recorders_of.ensures in
+    let held = held_whole _ _ _ _ _ (swapped.other_len ∙ c.deref_mut.ensures.len) swapped.other_after c.recorders_of.ensures in
     of_ring_held c.args.watch.ring.value recorders c.args.handles.now held c.requires
 
 pub end-requires-clause-all : goal.end-requires-clause-all
 end-requires-clause-all c =
     let recorders = c.recorders_of.result.items in
-    let other = c.swap_with_slice.new.other in
     let swapped = c.swap_with_slice.ensures in
-    let held : AreHeld recorders c.args.handles.now =
-    subst (AreHeld recorders) (take_whole c.in-Ok.taken.len other _ (swapped.other_len ∙ c.deref_mut.ensures.len) ∙ swapped.other_after)
-    c.recorders_of.ensures in
+    let held = held_whole _ _ _ _ _ (swapped.other_len ∙ c.deref_mut.ensures.len) swapped.other_after c.recorders_of.ensures in
     let placed = subst (λ (n : ℕ). AreInPlace n c.args.handles.now) c.recorders.ensures (c.if-not-are_in_place.ensures.yes refl) in
     all_held c.args.watch.recorders recorders c.args.handles.now held placed
 
 pub returns-in-Err-clause-err : goal.returns-in-Err-clause-err
 returns-in-Err-clause-err c =
     let recorders = c.recorders_of.result.items in
-    let other = c.swap_with_slice.new.other in
     let swapped = c.swap_with_slice.ensures in
-    let held : AreHeld recorders c.args.handles.now =
-    subst (AreHeld recorders) (take_whole c.in-Ok.taken.len other _ (swapped.other_len ∙ c.deref_mut.ensures.len) ∙ swapped.other_after)
-    c.recorders_of.ensures in
-    let gone : AreEmpty c.swap_with_slice.new.self =
-    subst AreEmpty (sym (swapped.after ∙ c.deref_mut.ensures.value)) c.in-Ok.ensures.empty.0 in
+    let held = held_whole _ _ _ _ _ (swapped.other_len ∙ c.deref_mut.ensures.len) swapped.other_after c.recorders_of.ensures in
+    let gone : AreEmpty c.swap_with_slice.new.self = rw (swapped.after, c.deref_mut.ensures.value) c.in-Ok.ensures.empty.0 in
     let same : c.in-Err.watch ≡ c.args.watch = c.in-Err.ensures.err.0 in
     inl (record {
       watch = c.args.watch;
@@ -68,13 +58,9 @@ returns-in-Err-clause-err c =
 pub returns-in-Ok-finish-clause-ok : goal.returns-in-Ok-finish-clause-ok
 returns-in-Ok-finish-clause-ok c =
     let recorders = c.recorders_of.result.items in
-    let other = c.swap_with_slice.new.other in
     let swapped = c.swap_with_slice.ensures in
-    let held : AreHeld recorders c.args.handles.now =
-    subst (AreHeld recorders) (take_whole c.in-Ok.taken.len other _ (swapped.other_len ∙ c.deref_mut.ensures.len) ∙ swapped.other_after)
-    c.recorders_of.ensures in
-    let gone : AreEmpty c.swap_with_slice.new.self =
-    subst AreEmpty (sym (swapped.after ∙ c.deref_mut.ensures.value)) c.in-Ok.ensures.empty.0 in
+    let held = held_whole _ _ _ _ _ (swapped.other_len ∙ c.deref_mut.ensures.len) swapped.other_after c.recorders_of.ensures in
+    let gone : AreEmpty c.swap_with_slice.new.self = rw (swapped.after, c.deref_mut.ensures.value) c.in-Ok.ensures.empty.0 in
     let ended = c.in-Ok-end.ensures in
     record {
       watch = c.args.watch;
@@ -88,13 +74,9 @@ returns-in-Ok-finish-clause-ok c =
 pub returns-in-Err-finish-clause-err : goal.returns-in-Err-finish-clause-err
 returns-in-Err-finish-clause-err c =
     let recorders = c.recorders_of.result.items in
-    let other = c.swap_with_slice.new.other in
     let swapped = c.swap_with_slice.ensures in
-    let held : AreHeld recorders c.args.handles.now =
-    subst (AreHeld recorders) (take_whole c.in-Ok.taken.len other _ (swapped.other_len ∙ c.deref_mut.ensures.len) ∙ swapped.other_after)
-    c.recorders_of.ensures in
-    let gone : AreEmpty c.swap_with_slice.new.self =
-    subst AreEmpty (sym (swapped.after ∙ c.deref_mut.ensures.value)) c.in-Ok.ensures.empty.0 in
+    let held = held_whole _ _ _ _ _ (swapped.other_len ∙ c.deref_mut.ensures.len) swapped.other_after c.recorders_of.ensures in
+    let gone : AreEmpty c.swap_with_slice.new.self = rw (swapped.after, c.deref_mut.ensures.value) c.in-Ok.ensures.empty.0 in
     let ended = c.in-Ok-end.ensures in
     inr (inl (record {
       watch = c.args.watch;
