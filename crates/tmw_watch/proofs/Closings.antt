@@ -1,10 +1,9 @@
 -- From what a settled ring has left to the verdict on all of its log.
-use Rattle.tmw_watch.proofs.Shared.{All, All-permutation, AreAll, AreOf, Fits, Front, HasEnded, Headline, IsClosed, IsJudged, IsLeft, IsLogOf, IsPermutation, IsPermutation-map, IsPermutation-refl, IsPermutation-sym, IsPermutation-trans, IsRested, IsSettled, IsUnjudged, List, Recorder, RestIs, RingIs, WriterIs, WriterOf, [], all_of, ap, get_or, gives_rest, length, length_permutation, rest_of, subst, sym, watch_pump, writers_of, ℕ, ◌++◌, ◌<◌, ◌^◌, ◌∙◌, ◌≡◌}
+use Rattle.tmw_watch.proofs.Shared.{All, All-permutation, AreAll, AreOf, Fits, Front, HasEnded, Headline, IsClosed, IsJudged, IsLeft, IsLogOf, IsPermutation, IsPermutation-map, IsPermutation-sym, IsPermutation-trans, IsRested, IsSettled, IsUnjudged, List, Recorder, RestIs, RingIs, WriterIs, WriterOf, [], all_of, ap, get_or, gives_rest, length, length_permutation, rest_of, subst, sym, watch_pump, writers_of, ℕ, ◌++◌, ◌<◌, ◌^◌, ◌∙◌, ◌≡◌, arith}
 use Rattle.std.proofs.lemmas.List.Elements.{All-map}
 use Rattle.std.specs.Prelude.{Result, Ok, Err, IfOk}
 use Rattle.tmw_events.specs.declared.event.Event.{Event}
 use Rattle.tmw_pump.proofs.Turns.{IsFew, all_judged}
-use Rattle.tmw_pump.specs.Fronts.{came}
 use Rattle.tmw_pump.specs.declared.pumped.Pumped.{Pumped}
 use Rattle.tmw_ring.specs.Parts.{made_from}
 use Rattle.tmw_watch.specs.declared.closing.Closing.{Closing}
@@ -32,9 +31,8 @@ of_ring_placed ring given placed same of = All-permutation (λ (recorder : Recor
 pub of_ring-writers : (ring : RingIs) (recorders : List Recorder) → AreOf ring recorders
     → All (WriterOf ring) (writers_of recorders)
 of_ring-writers ring recorders same =
-    All-map (WriterOf ring) (λ (recorder : Recorder). recorder.writer) recorders
-    (λ place fallback low. subst (λ (r : RingIs). WriterOf r (get_or recorders place fallback).writer) (same place fallback low)
-    (get_or recorders place fallback).of_ring)
+    All-map (WriterOf ring) (λ (recorder : Recorder). recorder.writer) recorders (λ place fallback low. subst (λ (r : RingIs). WriterOf r
+    (get_or recorders place fallback).writer) (same place fallback low) (get_or recorders place fallback).of_ring)
 
 -- A log of the writers of these recorders is one of those in another order.
 log-again : (log : List Event) (given placed : List Recorder) → IsPermutation given placed → IsLogOf log (writers_of placed) log
@@ -55,16 +53,7 @@ writers-given writers first placed none is = is ∙ ap (λ (l : List WriterIs). 
 has_ended : (watch : Watch) (recorders : List Recorder) (writers : List WriterIs) (rest : RestIs) → writers ≡ writers_of recorders
     → AreAll watch.recorders recorders → IsSettled (watch_pump watch).reader writers rest.settled → rest.front ≡ (watch_pump watch).front
     → IsLogOf (all_of rest) writers (all_of rest) → HasEnded watch recorders (all_of rest)
-has_ended watch recorders writers rest are all settled front one_log = record {
-  all = all.counted;
-  writers = writers_of recorders;
-  same = IsPermutation-refl (writers_of recorders);
-  order = all.order;
-  left = rest.settled;
-  settled = subst (λ (l : List WriterIs). IsSettled (watch_pump watch).reader l rest.settled) are settled;
-  whole = ap (λ (f : Front). came f ++ rest.settled) front ∙ ap (λ (l : List Event). l ++ rest.settled) watch.pump.all;
-  one_log = subst (λ (l : List WriterIs). IsLogOf (all_of rest) l (all_of rest)) are one_log;
-}
+has_ended watch recorders writers rest are all settled front one_log = grind arith
 
 -- Where a ring was settled, it has ended with these recorders.
 pub ended_settled : {E : Type 0} (settled : Result Closing E) (watch : Watch) (recorders : List Recorder) (writers : List WriterIs)
@@ -73,8 +62,7 @@ pub ended_settled : {E : Type 0} (settled : Result Closing E) (watch : Watch) (r
     → IfOk settled (λ (closing : Closing). (rest_of closing).front ≡ (watch_pump watch).front)
     → IfOk settled (λ (closing : Closing). IsLogOf (all_of (rest_of closing)) writers (all_of (rest_of closing)))
     → IfOk settled (λ (closing : Closing). HasEnded watch recorders (all_of (rest_of closing)))
-ended_settled (Ok closing) watch recorders writers are all settled front one_log =
-    has_ended watch recorders writers (rest_of closing) are all settled front one_log
+ended_settled (Ok closing) watch recorders writers are all settled front one_log = grind (arith, has_ended)
 ended_settled (Err back) watch recorders writers are all settled front one_log = tt
 
 -- A ring that has ended with recorders in one order has ended with them in another.
@@ -106,8 +94,4 @@ is_closed watch recorders rest report ended front judged = record {
 -- One of which not all was judged is what is left.
 pub is_left : (watch : Watch) (recorders : List Recorder) (rest left : RestIs) → HasEnded watch recorders (all_of rest)
     → rest.front ≡ (watch_pump watch).front → IsUnjudged rest left → IsLeft watch recorders left
-is_left watch recorders rest left ended front unjudged = record {
-  ended = subst (HasEnded watch recorders) (sym unjudged.all) ended;
-  fits = λ by fits. unjudged.fits by (subst (λ (front : Front). Fits by front.judged.items front.monitor) (sym front) fits);
-  held = unjudged.held;
-}
+is_left watch recorders rest left ended front unjudged = grind arith
