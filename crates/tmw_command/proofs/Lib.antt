@@ -1,4 +1,5 @@
 mod BenchAnswers
 mod DriveAnswers
 mod EndsLines
+mod Remarked
 mod Zeros

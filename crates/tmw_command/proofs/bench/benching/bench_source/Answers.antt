@@ -29,10 +29,4 @@ returns-in-Ok-clause-right g c =
 pub returns-clause-right : goal.returns-clause-right
 returns-clause-right g c =
     let told = c.in_ok-workload.ensures.right in
-    let has = (goal.Tm-dyn g c.args.memory.now).has c.args.memory.now.1 in
-    rw c.fault_of.ensures (
-      told.0,
-      told.1,
-      right-bench has (g.S.Source.from.ended c.read_source.new.source) c.args.settings told.0 c.in_ok-workload.workload c.in-Err.fault
-          told.2.0 told.2.1 c.in-Err.ensures.err,
-    )
+    rw c.fault_of.ensures (told.0, told.1, right-bench _ _ _ told.0 c.in_ok-workload.workload c.in-Err.fault told.2.0 told.2.1 c.in-Err.ensures.err)

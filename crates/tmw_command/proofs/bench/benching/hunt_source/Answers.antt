@@ -10,18 +10,11 @@ returns-in-Ok-clause-right g c =
       told.0,
       told.1,
       hunted-answers (memory_is (tm.has c.args.memory.now.1) (λ call answer. tm.gives c.args.memory.now.1 call answer)) c.in_ok-workload.workload
-          c.args.options.now (g.S.Source.from.ended c.read_source.new.source) told.0 c.in-Ok.hunted c.with_registers.result told.2.0 told.2.1
-          c.in-Ok.ensures.enough c.in-Ok.ensures.ok c.with_registers.ensures.registers c.with_registers.ensures.same
-          c.with_registers.ensures.needed c.with_registers.ensures.memory,
+          _ _ told.0 c.in-Ok.hunted _ told.2.0 told.2.1 c.in-Ok.ensures.enough c.in-Ok.ensures.ok c.with_registers.ensures.registers
+          c.with_registers.ensures.same c.with_registers.ensures.needed c.with_registers.ensures.memory,
     )
 
 pub returns-clause-right : goal.returns-clause-right
 returns-clause-right g c =
     let told = c.in_ok-workload.ensures.right in
-    let has = (goal.Tm-dyn g c.args.memory.now).has c.args.memory.now.1 in
-    rw c.fault_of.ensures (
-      told.0,
-      told.1,
-      right-bench has (g.S.Source.from.ended c.read_source.new.source) c.args.options.now.settings told.0 c.in_ok-workload.workload c.in-Err.fault
-          told.2.0 told.2.1 c.in-Err.ensures.err,
-    )
+    rw c.fault_of.ensures (told.0, told.1, right-bench _ _ _ told.0 c.in_ok-workload.workload c.in-Err.fault told.2.0 told.2.1 c.in-Err.ensures.err)

@@ -1,6 +1,7 @@
 -- Where the lines found no memory, that fault answers, which is right of all bytes.
 use Rattle.std.proofs.Common.{◌≡◌, Ok, Err, inl, inr, false, refl, rules, true}
 use Rattle.tmw_report.specs.declared.fault.Fault.TheVariants.{Memory}
+use Rattle.tmw_command.proofs.Remarked.{remarked_run}
 use Rattle.tmw_command.specs.BenchRun.{asks_for_log}
 use Rattle.tmw_command.proofs.bench.run.run_bench_cmd.Goals as goal
 
@@ -9,14 +10,8 @@ returns-in-Ok g c =
     let told = c.in-Ok.ensures.right in
     let is : asks_for_log c.args.options.now ≡ true = search rules in
     rw is (elim c.answer_run.ensures [
-      | inl done ↦ record {
-        run = record { bytes = told.0; answer = Ok c.in-Ok.found; told = told.1; right = told.2; failures = c.in-Ok.ensures.failures; put = done.0 };
-        remarked = done.1;
-      }
-      | inr done ↦ record {
-        run = record { bytes = told.0; answer = Err Memory; told = told.1; right = tt; failures = c.in-Ok.ensures.failures; put = done.0 };
-        remarked = done.1;
-      }
+      | inl done ↦ remarked_run told.0 (Ok c.in-Ok.found) told.1 told.2 c.in-Ok.ensures.failures done.0 done.1
+      | inr done ↦ remarked_run told.0 (Err Memory) told.1 tt c.in-Ok.ensures.failures done.0 done.1
     ])
 
 pub returns-in-Ok-hunt_source : goal.returns-in-Ok-hunt_source
@@ -24,51 +19,19 @@ returns-in-Ok-hunt_source g c =
     let told = c.in-Ok-hunt_source.ensures.right in
     let is : asks_for_log c.args.options.now ≡ false = search rules in
     rw is (elim c.answer_hunt.ensures [
-      | inl done ↦ record {
-        run = record {
-          bytes = told.0;
-          answer = Ok c.in-Ok-hunt_source.found;
-          told = told.1;
-          right = told.2;
-          failures = c.in-Ok-hunt_source.ensures.failures;
-          put = done.0;
-        };
-        remarked = done.1;
-      }
-      | inr done ↦ record {
-        run = record { bytes = told.0; answer = Err Memory; told = told.1; right = tt; failures = c.in-Ok-hunt_source.ensures.failures; put = done.0 };
-        remarked = done.1;
-      }
+      | inl done ↦ remarked_run told.0 (Ok c.in-Ok-hunt_source.found) told.1 told.2 c.in-Ok-hunt_source.ensures.failures done.0 done.1
+      | inr done ↦ remarked_run told.0 (Err Memory) told.1 tt c.in-Ok-hunt_source.ensures.failures done.0 done.1
     ])
 
 pub returns-in-Err : goal.returns-in-Err
 returns-in-Err g c =
     let told = c.in-Err.ensures.right in
     let is : asks_for_log c.args.options.now ≡ true = search rules in
-    rw is (record {
-      run = record {
-        bytes = told.0;
-        answer = Err c.in-Err.fault;
-        told = told.1;
-        right = told.2;
-        failures = c.in-Err.ensures.failures;
-        put = c.answer_fault.ensures;
-      };
-      remarked = refl;
-    })
+    rw is (remarked_run told.0 (Err c.in-Err.fault) told.1 told.2 c.in-Err.ensures.failures c.answer_fault.ensures refl)
 
 pub returns-in-Err-hunt_source : goal.returns-in-Err-hunt_source
 returns-in-Err-hunt_source g c =
     let told = c.in-Err-hunt_source.ensures.right in
     let is : asks_for_log c.args.options.now ≡ false = search rules in
-    rw is (record {
-      run = record {
-        bytes = told.0;
-        answer = Err c.in-Err-hunt_source.fault;
-        told = told.1;
-        right = told.2;
-        failures = c.in-Err-hunt_source.ensures.failures;
-        put = c.answer_fault-in-Err-hunt_source.ensures;
-      };
-      remarked = refl;
-    })
+    let put = c.answer_fault-in-Err-hunt_source.ensures in
+    rw is (remarked_run told.0 (Err c.in-Err-hunt_source.fault) told.1 told.2 c.in-Err-hunt_source.ensures.failures put refl)

@@ -13,26 +13,18 @@ use Rattle.tmw_command.proofs.drive.driving.drive_source.Goals as goal
 pub returns-in-Err-clause-right : goal.returns-in-Err-clause-right
 returns-in-Err-clause-right g c =
     let told = c.in_ok-workload.ensures.right in
-    let workload = c.in_ok-workload.workload in
-    let has = (goal.Tm-dyn g c.args.memory.now).has c.args.memory.now.1 in
-    rw c.fault_of.ensures (
-      told.0,
-      told.1,
-      right-drive has (g.S.Source.from.ended c.read_source.new.source) workload told.0 c.in-Err.fault told.2.0 told.2.1
-          c.in-Err.ensures.too_few.0,
-    )
+    rw c.fault_of.ensures (told.0, told.1, right-drive _ _ c.in_ok-workload.workload told.0 c.in-Err.fault told.2.0 told.2.1 c.in-Err.ensures.too_few.0)
 
 pub returns-clause-right : goal.returns-clause-right
 returns-clause-right g c =
     let told = c.in_ok-workload.ensures.right in
     let workload = c.in_ok-workload.workload in
-    let outcome = c.in-Ok.outcome in
     let by = rules_of workload.registers zeros c.args.bounds in
     let few = c.in-Ok.ensures.few in
     let size = ap (λ (log : List Event). length log) c.deref.ensures.value in
     let low : length c.deref.result.now < 2 ^ 64 - 1 = omega (arith, few, size) in
-    let judged : IsVerdict by c.deref.result.now outcome.verdict =
-    subst (λ (log : List Event). IsVerdict by log outcome.verdict) (sym c.deref.ensures.value) c.in-Ok.ensures.verdict in (
+    let judged : IsVerdict by c.deref.result.now c.in-Ok.outcome.verdict =
+    subst (λ (log : List Event). IsVerdict by log c.in-Ok.outcome.verdict) (sym c.deref.ensures.value) c.in-Ok.ensures.verdict in (
       told.0,
       told.1,
       (
