@@ -64,13 +64,12 @@ pub formed-driven : (gives : Call → Answer → Type 0) (rules : Rules) (script
     (ends : List Ending) (verdict : Verdict) → IsTrue (is_workload rules.registers scripts order) → IsDriven gives scripts order log ends
     → IsVerdict rules log verdict → (events : ℕ) → verdict ≡ Malformed events → ⊥
 formed-driven gives rules scripts order log ends verdict is driven told =
-    never_malformed rules log verdict
-    (formed_law rules.registers log (λ thread. (
+    never_malformed rules log verdict (formed_law rules.registers log (λ thread. (
       script_at scripts thread,
-      are_transactions-workload rules.registers scripts order is thread,
+      are_transactions-workload
+          rules.registers scripts order is thread,
       begins-driven gives scripts order log ends driven thread,
-    )))
-    told
+    ))) told
 
 -- the log is short enough to be judged
 pub length-driven : (gives : Call → Answer → Type 0) (registers : ℕ) (scripts : List (List (List Kind))) (order : List ℕ) (log : List Event)

@@ -4,26 +4,22 @@ use Rattle.tmw_drive.proofs.Shared.{All, All-append, All-cons, All-head, All-nil
 -- a call and its answer are pushed one after the other
 pub pushed-pair : (log reserved once twice : List Event) (call answer : Event) → reserved ≡ log → once ≡ reserved ++ call ∷ []
     → twice ≡ once ++ answer ∷ [] → twice ≡ log ++ call ∷ answer ∷ []
-pushed-pair log reserved once twice call answer same one two =
-    grind (arith, append_assoc)
+pushed-pair log reserved once twice call answer same one two = grind (arith, append_assoc)
 
 -- a call and its answer come to their own thread's events
 pub kinds_of-pair_own : (thread : ℕ) (log : List Event) (call answer : Event) → call.thread.number ≡ thread
     → answer.thread.number ≡ thread → kinds_of thread (log ++ call ∷ answer ∷ []) ≡ kinds_of thread log ++ call.kind ∷ answer.kind ∷ []
-kinds_of-pair_own thread log call answer one other =
-    grind (arith, kinds_of-append, kinds_of)
+kinds_of-pair_own thread log call answer one other = grind (arith, kinds_of-append)
 
 -- and to no other thread's
 pub kinds_of-pair_other : (thread : ℕ) (log : List Event) (call answer : Event) → (call.thread.number ≡ thread → ⊥)
     → (answer.thread.number ≡ thread → ⊥) → kinds_of thread (log ++ call ∷ answer ∷ []) ≡ kinds_of thread log
-kinds_of-pair_other thread log call answer one other =
-    grind (arith, kinds_of-append, kinds_of, append-nil)
+kinds_of-pair_other thread log call answer one other = grind (arith, kinds_of-append, append-nil)
 
 -- an entry of one thread leaves the events of another
 pub kinds_of-entry_other : (script : List (List Kind)) (thread other : ℕ) (before after : List Event)
     → DoesEntry script thread before after → (thread ≡ other → ⊥) → kinds_of other after ≡ kinds_of other before
-kinds_of-entry_other script thread other before after h1 apart =
-    grind (arith, kinds_of, kinds_of-pair_other)
+kinds_of-entry_other script thread other before after h1 apart = grind (arith, kinds_of-pair_other)
 
 -- an entry adds at most two events, all of its thread
 length-entry : (script : List (List Kind)) (thread : ℕ) (before after : List Event) → DoesEntry script thread before after
@@ -47,8 +43,7 @@ pub length-drives : (scripts : List (List (List Kind))) (before : List Event) (o
     → Drives scripts before order after → length after ≤ length before + 2 * length order
 length-drives scripts before [] after is = let same = ap (λ l. length l) is in omega arith
 length-drives scripts before (thread ∷ order) after (next, entry, rest) =
-    let one = length-entry (script_at scripts thread) thread before next entry in
-    grind (arith, (length-drives scripts next order after rest))
+    grind (arith, length-entry (script_at scripts thread) thread before next entry, length-drives scripts next order after rest)
 
 pub own-drives : (scripts : List (List (List Kind))) (threads : ℕ) (before : List Event) (order : List ℕ) (after : List Event)
     → All (λ thread. thread < threads) order → Drives scripts before order after

@@ -1,5 +1,6 @@
 -- What is left of a script after its next call and the answer to it.
-use Rattle.tmw_drive.proofs.Shared.{A, BeginsNext, C, GoesOn, IsTrue, K, Kind, Leaves, List, MakesNext, N, None, Player, R, Some, T, V, W, X, [], and_from, and_parts, answers, ap, are_transactions, arith, cases_Bool, drop, drop-drop, ends, from_call, if◌then◌else◌, is_operation, is_request, is_transaction, leaves_aborted, leaves_answered, leaves_next, left_of, ne_eqb, next_of, refl, sym, ℕ, ◌++◌, ◌+◌, ◌==◌, ◌∙◌, ◌∷◌, ◌≡◌}
+use Rattle.std.proofs.Common.{rules}
+use Rattle.tmw_drive.proofs.Shared.{A, BeginsNext, C, GoesOn, IsTrue, K, Kind, Leaves, List, MakesNext, N, None, Player, R, Some, T, V, W, X, [], and_from, and_parts, answers, ap, are_transactions, arith, cases_Bool, drop, drop-drop, ends, from_call, if◌then◌else◌, is_operation, is_request, leaves_aborted, leaves_answered, leaves_next, left_of, ne_eqb, next_of, refl, sym, ℕ, ◌++◌, ◌+◌, ◌==◌, ◌∙◌, ◌∷◌, ◌≡◌}
 
 -- what is left after this answer to the next call
 abbrev pub next_left : Kind → List (List Kind) → List (List Kind)
@@ -39,19 +40,16 @@ from_call-zero script = grind arith
 
 left_of-begins : (script : List (List Kind)) (old new : Player) (call : Kind) (calls : List Kind) (later : List (List Kind))
     → left_of script old ≡ (call ∷ calls) ∷ later → BeginsNext old new → left_of script new ≡ later
-left_of-begins script old new call calls later is begins =
-    grind (arith, from_call-within, drop, drop-one, from_call, from_call-zero)
+left_of-begins script old new call calls later is begins = grind (arith, from_call-within, drop-one, from_call-zero)
 
 left_of-makes : (script : List (List Kind)) (old new : Player) (call : Kind) (calls : List Kind) (later : List (List Kind))
     → left_of script old ≡ (call ∷ calls) ∷ later → MakesNext old new → left_of script new ≡ calls ∷ later
-left_of-makes script old new call calls later is makes =
-    grind (arith, from_call-within, drop, drop-one, from_call)
+left_of-makes script old new call calls later is makes = grind (arith, from_call-within, drop-one)
 
 -- what is left of the script once the player has gone on
 pub left_of-goes_on : (script : List (List Kind)) (old new : Player) (call answer : Kind) (next : Nexts (left_of script old) call)
     → GoesOn answer old new → left_of script new ≡ next_left answer ((call ∷ next.calls) ∷ next.later)
-left_of-goes_on script old new call answer next goes =
-    grind (arith, cases_Bool, ends, left_of-begins, left_of-makes)
+left_of-goes_on script old new call answer next goes = grind (arith, cases_Bool, left_of-begins, left_of-makes)
 
 -- after an answer that ends its transaction, and after no other, the next call is the first of one
 pub first-goes_on : (old new : Player) (answer : Kind) → GoesOn answer old new → (new.call == 0) ≡ ends answer
@@ -60,8 +58,7 @@ first-goes_on old new answer goes = grind (arith, cases_Bool, ends, ne_eqb)
 leaves-request : (script : List (List Kind)) (kinds : List Kind) (call answer : Kind) (later : List (List Kind))
     → IsTrue (is_request call) → IsTrue (answers call answer) → Leaves script kinds ((call ∷ []) ∷ later)
     → Leaves script (kinds ++ call ∷ answer ∷ []) (next_left answer ((call ∷ []) ∷ later))
-leaves-request script kinds T C later asks fits leaves =
-    leaves_next script (kinds ++ T ∷ C ∷ []) later (leaves_answered script kinds T C [] later leaves refl refl)
+leaves-request script kinds T C later asks fits leaves = search (rules, leaves_next, leaves_answered)
 leaves-request script kinds T A later asks fits leaves = leaves_aborted script kinds T A [] later leaves refl refl
 leaves-request script kinds X A later asks fits leaves = leaves_aborted script kinds X A [] later leaves refl refl
 leaves-request script kinds _ _ later asks fits leaves = absurd (cc)
@@ -69,14 +66,10 @@ leaves-request script kinds _ _ later asks fits leaves = absurd (cc)
 leaves-operation : (registers : ℕ) (script : List (List Kind)) (kinds : List Kind) (call answer : Kind) (calls : List Kind) (later : List (List Kind))
     → IsTrue (is_operation registers call) → IsTrue (answers call answer) → Leaves script kinds ((call ∷ calls) ∷ later)
     → Leaves script (kinds ++ call ∷ answer ∷ []) (next_left answer ((call ∷ calls) ∷ later))
-leaves-operation registers script kinds (R r) (V v) calls later asks fits leaves =
-    leaves_answered script kinds (R r) (V v) calls later leaves refl refl
-leaves-operation registers script kinds (R r) A calls later asks fits leaves =
-    leaves_aborted script kinds (R r) A calls later leaves refl refl
-leaves-operation registers script kinds (W r v) K calls later asks fits leaves =
-    leaves_answered script kinds (W r v) K calls later leaves refl refl
-leaves-operation registers script kinds (W r v) A calls later asks fits leaves =
-    leaves_aborted script kinds (W r v) A calls later leaves refl refl
+leaves-operation registers script kinds (R r) (V v) calls later asks fits leaves = search (rules, leaves_answered)
+leaves-operation registers script kinds (R r) A calls later asks fits leaves = search (rules, leaves_aborted)
+leaves-operation registers script kinds (W r v) K calls later asks fits leaves = search (rules, leaves_answered)
+leaves-operation registers script kinds (W r v) A calls later asks fits leaves = search (rules, leaves_aborted)
 leaves-operation registers script kinds (N r d) (V v) calls later asks fits leaves =
     leaves_answered script kinds (N r d) (V v) calls later leaves refl refl
 leaves-operation registers script kinds (N r d) A calls later asks fits leaves =
@@ -89,15 +82,7 @@ pub leaves-next_left : (registers : ℕ) (script : List (List Kind)) (kinds : Li
     → Leaves script kinds ((call ∷ calls) ∷ later)
     → Leaves script (kinds ++ call ∷ answer ∷ []) (next_left answer ((call ∷ calls) ∷ later))
 leaves-next_left registers script kinds call answer calls later asks fits leaves =
-    grind (
-      arith,
-      leaves-request,
-      and_parts,
-      is_request,
-      is_transaction,
-      leaves-operation,
-      is_operation,
-    )
+    grind (arith, leaves-request, and_parts, leaves-operation)
 
 ends-request : (call answer : Kind) → IsTrue (is_request call) → IsTrue (answers call answer) → IsTrue (ends answer)
 ends-request call answer asks fits = grind arith
@@ -107,14 +92,4 @@ pub are_transactions-next_left : (registers : ℕ) (call answer : Kind) (calls :
     → IsTrue (are_transactions registers ((call ∷ calls) ∷ later)) → IsTrue (answers call answer)
     → IsTrue (are_transactions registers (next_left answer ((call ∷ calls) ∷ later)))
 are_transactions-next_left registers call answer calls later asks fits =
-    grind (
-      arith,
-      and_parts,
-      is_request,
-      ends-request,
-      is_transaction,
-      is_operation,
-      cases_Bool,
-      ends,
-      and_from,
-    )
+    grind (arith, and_parts, ends-request, cases_Bool, and_from)

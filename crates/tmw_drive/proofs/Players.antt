@@ -1,4 +1,5 @@
 -- A player that makes its next call, or has none left.
+use Rattle.std.proofs.Common.{rules}
 use Rattle.tmw_drive.proofs.Shared.{A, Answer, BeginsNext, Call, Ending, EndsAs, GoesOn, IsBeginning, IsEnding, IsNew, IsTrue, IsWholeRun, Kind, Leaves, List, MatchBool-at_true, None, Option, Player, Plays, Some, Stands, StandsSoFar, [], answers, ap, are_transactions, beginning, cases_Bool, drop, ends, from_call, leaves_all, left_of, next_of, not_whole, refl, so_far_answered, so_far_none, subst, sym, true, whole_run, ℕ, ◌++◌, ◌==◌, ◌∙◌, ◌∷◌, ◌≡◌, arith}
 use Rattle.tmw_drive.proofs.Going.{next_left, next_of-some, next_of-none, left_of-goes_on, first-goes_on, leaves-next_left, are_transactions-next_left}
 use Rattle.tmw_drive.specs.Fresh.{IsFresh}
@@ -56,25 +57,21 @@ plays-goes_on gives script old new kinds call answer plays is fits stands goes =
 -- a player without a next call has recorded a whole run, one with a next call a beginning
 pub whole-plays : (gives : Call → Answer → Type 0) (script : List (List Kind)) (player : Player) (kinds : List Kind)
     → Plays gives script player kinds → next_of (left_of script player) ≡ None → IsWholeRun script kinds
-whole-plays gives script player kinds plays is =
-    whole_run script kinds (subst (Leaves script kinds) (next_of-none plays.calls.0 (left_of script player) plays.calls.1 is) plays.leaves)
+whole-plays gives script player kinds plays is = grind (arith, whole_run, next_of-none)
 
 pub beginning-plays : (gives : Call → Answer → Type 0) (script : List (List Kind)) (player : Player) (kinds : List Kind)
     → Plays gives script player kinds → IsBeginning script kinds
-beginning-plays gives script player kinds plays =
-    let (registers, asks) = plays.calls in
-    beginning registers script kinds (left_of script player) (are_calls-transactions registers (left_of script player) asks) plays.leaves
+beginning-plays gives script player kinds plays = search (rules, beginning, are_calls-transactions)
 
 not_whole-plays : (gives : Call → Answer → Type 0) (script : List (List Kind)) (player : Player) (kinds : List Kind) (call : Kind)
     → Plays gives script player kinds → next_of (left_of script player) ≡ Some call → IsWholeRun script kinds → ⊥
 not_whole-plays gives script player kinds call plays is =
-    let next = next_of-some (left_of script player) call is in
+    let next = next_of-some _ call is in
     let (registers, asks) = plays.calls in
-    let left : IsTrue (are_transactions registers ((call ∷ next.calls) ∷ next.later))
-    = subst (λ l. IsTrue (are_transactions registers l)) next.is asks
-    in
-    not_whole registers script kinds call next.calls next.later (are_calls-transactions registers ((call ∷ next.calls) ∷ next.later) left)
-    (subst (Leaves script kinds) next.is plays.leaves)
+    let left : IsTrue (are_transactions registers ((call ∷ next.calls) ∷ next.later)) = subst (λ l. IsTrue (are_transactions registers
+    l)) next.is asks in
+    not_whole registers script kinds call next.calls next.later (are_calls-transactions registers ((call ∷ next.calls) ∷ next.later)
+    left) (subst (Leaves script kinds) next.is plays.leaves)
 
 -- the ending of a player is that of its run
 pub ends_as-plays : (gives : Call → Answer → Type 0) (script : List (List Kind)) (player : Player) (kinds : List Kind) (ending : Ending)
@@ -90,5 +87,4 @@ ends_as-plays gives script player kinds ending plays is = by_next (next_of (left
 -- asking the memory moves no player
 pub goes_on-same : (old middle new : Player) (answer : Kind) → middle.transaction ≡ old.transaction → middle.call ≡ old.call
     → GoesOn answer middle new → GoesOn answer old new
-goes_on-same old middle new answer transaction call goes =
-    grind (arith, cases_Bool, ends)
+goes_on-same old middle new answer transaction call goes = grind (arith, cases_Bool)

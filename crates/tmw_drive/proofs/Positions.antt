@@ -1,5 +1,5 @@
 -- The script and the call that are read at a player's position.
-use Rattle.tmw_drive.proofs.Shared.{Kind, List, Some, [], ap, calls_of, drop, from_call, get_or, get_or-map, length, next_of, refl, script_at, script_of, scripts_of, slice_get, suc, sym, zero, ℕ, ◌<◌, ◌∙◌, ◌∷◌, ◌≡◌, arith}
+use Rattle.tmw_drive.proofs.Shared.{Kind, List, Some, [], calls_of, drop, from_call, get_or, get_or-map, length, next_of, refl, script_at, scripts_of, slice_get, suc, zero, ℕ, ◌<◌, ◌∷◌, ◌≡◌, arith}
 use Rattle.std.specs.Global.{Vec}
 
 next_of-drop : (calls : List Kind) (call : ℕ) (later : List (List Kind)) → next_of (drop call calls ∷ later) ≡ slice_get calls call
@@ -12,12 +12,10 @@ next_of-drop (first ∷ calls) (suc call) later = next_of-drop calls call later
 pub next_of-get : (script : List (Vec Kind)) (transaction call : ℕ) (calls : Vec Kind) → slice_get script transaction ≡ Some calls
     → next_of (from_call call (drop transaction (calls_of script))) ≡ slice_get calls.items call
 next_of-get [] transaction call calls is = absurd (cc)
-next_of-get (first ∷ script) zero call calls is =
-    grind (arith, next_of-drop, calls_of, slice_get)
+next_of-get (first ∷ script) zero call calls is = grind (arith, next_of-drop)
 next_of-get (first ∷ script) (suc transaction) call calls is = next_of-get script transaction call calls is
 
 -- the script of a thread is the vector at its place
 pub script_at-read : (scripts : List (Vec (Vec Kind))) (place : ℕ) (script : Vec (Vec Kind)) → place < length scripts
     → script ≡ get_or scripts place script → script_at (scripts_of scripts) place ≡ calls_of script.items
-script_at-read scripts place script low is =
-    get_or-map script_of scripts place script [] low ∙ ap (λ (v : Vec (Vec Kind)). calls_of v.items) (sym is)
+script_at-read scripts place script low is = grind (arith, get_or-map)

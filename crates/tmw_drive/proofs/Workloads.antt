@@ -1,5 +1,5 @@
 -- What a workload tells of its scripts and its order.
-use Rattle.tmw_drive.proofs.Shared.{All, All-cons, All-nil, IsTrue, Kind, List, [], and_from, and_parts, are_scripts, are_transactions, is_short_script, is_short_transaction, is_workload, length, ltb-true, nat_le, nat_lt, refl, script_at, suc, zero, ℕ, ◌<◌, ◌∷◌, ◌≤◌, arith}
+use Rattle.tmw_drive.proofs.Shared.{All, All-cons, All-nil, IsTrue, Kind, List, [], and_from, and_parts, are_transactions, is_short_script, is_short_transaction, is_workload, length, ltb-true, nat_le, nat_lt, refl, script_at, suc, zero, ℕ, ◌<◌, ◌∷◌, ◌≤◌, arith}
 use Rattle.std.specs.List.{list_all}
 
 pub length-order : (registers : ℕ) (scripts : List (List (List Kind))) (order : List ℕ) → IsTrue (is_workload registers scripts order)
@@ -15,8 +15,7 @@ all_below threads (first ∷ order) is =
 -- each entry names a thread that has a script
 pub within-order : (registers : ℕ) (scripts : List (List (List Kind))) (order : List ℕ) → IsTrue (is_workload registers scripts order)
     → All (λ thread. thread < length scripts) order
-within-order registers scripts order is =
-    grind (arith, and_parts, are_scripts, all_below, length, nat_le)
+within-order registers scripts order is = grind (arith, and_parts, all_below)
 
 are_transactions-short : (registers : ℕ) (script : List (List Kind)) → IsTrue (list_all (is_short_transaction registers) script)
     → IsTrue (are_transactions registers script)
@@ -28,13 +27,11 @@ are_transactions-short registers (calls ∷ script) is =
 at_thread : (registers : ℕ) (scripts : List (List (List Kind))) (thread : ℕ) → IsTrue (list_all (is_short_script registers) scripts)
     → IsTrue (are_transactions registers (script_at scripts thread))
 at_thread registers [] thread is = refl
-at_thread registers (script ∷ scripts) zero is =
-    grind (arith, and_parts, is_short_script, are_transactions-short, nat_le, length)
+at_thread registers (script ∷ scripts) zero is = grind (arith, and_parts, are_transactions-short)
 at_thread registers (script ∷ scripts) (suc thread) is =
     at_thread registers scripts thread (and_parts (is_short_script registers script) _ is).1
 
 -- each thread's script is of transactions; a thread without a script has none
 pub are_transactions-workload : (registers : ℕ) (scripts : List (List (List Kind))) (order : List ℕ) → IsTrue (is_workload registers scripts order)
     → (thread : ℕ) → IsTrue (are_transactions registers (script_at scripts thread))
-are_transactions-workload registers scripts order is thread =
-    grind (arith, and_parts, are_scripts, at_thread, nat_lt, length, nat_le)
+are_transactions-workload registers scripts order is thread = grind (arith, and_parts, at_thread)
