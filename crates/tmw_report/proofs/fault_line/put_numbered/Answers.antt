@@ -1,12 +1,6 @@
 -- The second text came after the first and its number.
-use Rattle.tmw_report.proofs.Shared.{Puts-front, Puts-more, decimal, ◌++◌}
+use Rattle.tmw_report.proofs.Shared.{Puts-more, decimal, ◌++◌}
 use Rattle.tmw_report.proofs.fault_line.put_numbered.Goals as goal
-
-pub returns-in_err-put_with_number : goal.returns-in_err-put_with_number
-returns-in_err-put_with_number g c =
-    Puts-front g.K.Sink.to c.args.sink.now c.put_with_number.new.sink (c.args.before.now ++ decimal c.args.number)
-    c.args.after.now c.from_residual.result
-    c.from_residual.ensures.0 c.in_err-put_with_number.ensures
 
 pub returns : goal.returns
 returns g c =
