@@ -1,5 +1,5 @@
 -- An event joins the first of its thread's transactions that has not ended, or begins one, as the code finds it.
-use Rattle.tmw_plain_check.proofs.Shared.{Event, List, None, Some, Transaction, [], add_event, ap, arith, cases_Bool, false, get_or, joins, length, ltb-false, nat_lt, position, position_or_len, refl, slice_set, suc, sym, true, txn_of, txns_of, zero, ℕ, ◌++◌, ◌<◌, ◌∙◌, ◌∷◌, ◌≡◌}
+use Rattle.tmw_plain_check.proofs.Shared.{Event, List, None, Some, Transaction, [], add_event, ap, arith, cases_Bool, false, get_or, joins, length, ltb-false, position, refl, slice_set, suc, sym, true, txn_of, txns_of, zero, ℕ, ◌++◌, ◌<◌, ◌∙◌, ◌∷◌, ◌≡◌}
 use Rattle.std.proofs.lemmas.List.Sums.{fails_before_first}
 use Rattle.std.proofs.lemmas.List.Quantifiers.{position-Some}
 
@@ -38,22 +38,10 @@ pub add_event-position : (place : ℕ) (e : Event) (ts : List Transaction) (i : 
     → old ≡ get_or ts i old
     → txn_of new ≡ record (txn_of old) { last = place; text = old.text.items ++ e.kind ∷ [] }
     → txns_of (slice_set ts i new) ≡ add_event place e (txns_of ts)
-add_event-position place e ts i old new found at is =
-    grind (arith, position-Some, joins, add_event-at)
+add_event-position place e ts i old new found at is = grind (arith, position-Some, add_event-at)
 
 pub add_event-nowhere : (place : ℕ) (e : Event) (ts : List Transaction) (new : Transaction)
     → None ≡ position (joins e.thread.number) ts
     → txn_of new ≡ record { thread = e.thread.number; first = place; last = place; text = e.kind ∷ [] }
     → txns_of (ts ++ new ∷ []) ≡ add_event place e (txns_of ts)
-add_event-nowhere place e ts new nowhere is =
-    grind (
-      arith,
-      nat_lt,
-      position_or_len,
-      joins,
-      length,
-      cases_Bool,
-      ltb-false,
-      add_event-none,
-      fails_before_first,
-    )
+add_event-nowhere place e ts new nowhere is = grind (arith, cases_Bool, ltb-false, add_event-none, fails_before_first)

@@ -20,8 +20,7 @@ goes_with-sound s members (t ∷ ts) goes =
     ]
 
 goes_with-complete : (s : State) (members ts held : List Txn) → AreHeld ts held → HasOrder s (members ++ held) → IsTrue (goes_with s members ts)
-goes_with-complete s members [] held are ordered =
-    grind (arith, append-nil, is_explained-complete)
+goes_with-complete s members [] held are ordered = grind (arith, append-nil, is_explained-complete)
 goes_with-complete s members (t ∷ ts) held are ordered =
     elim are [
       | inl out ↦

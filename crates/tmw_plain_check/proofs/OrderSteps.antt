@@ -1,5 +1,5 @@
 -- The steps of the search for a serial order, as the code makes them.
-use Rattle.tmw_plain_check.proofs.Shared.{Bool, Bor, IfOk, IfOk-weaker, IsTrue, List, Result, Some, State, Transaction, Txn, after_writes, ap, arith, drop, drop-map, false, found_below, has_order, is_explained, is_free, length, map-append, may_come, may_hold, ne_eqb, one_below, operations, reads_hold, refl, remove, shown, slice_get, slice_get-map, slice_get_within, status_of, suc, take, take-map, true, txn_of, ℕ, ◌&&◌, ◌+◌, ◌-◌, ◌<◌, ◌==◌, ◌||◌, ◌∙◌, ◌≡◌}
+use Rattle.tmw_plain_check.proofs.Shared.{Bool, Bor, IfOk, IsTrue, List, Result, Some, State, Transaction, Txn, after_writes, ap, arith, drop, drop-map, false, found_below, has_order, is_explained, is_free, length, map-append, may_come, may_hold, ne_eqb, one_below, operations, reads_hold, refl, remove, shown, slice_get, slice_get-map, slice_get_within, status_of, suc, take, take-map, true, txn_of, ℕ, ◌&&◌, ◌+◌, ◌-◌, ◌<◌, ◌==◌, ◌||◌, ◌∙◌, ◌≡◌}
 use Rattle.std.specs.Option.{option_map}
 use Rattle.std.proofs.lemmas.List.Edits.{length-remove}
 
@@ -24,8 +24,7 @@ explained_found s ts n i size below may =
 -- none of them can, so they have one only if there are none
 pub explained_none : (s : State) (ts : List Txn) (n : ℕ) → n ≡ length ts
     → one_below (has_order (n - 1)) s ts n ≡ false → (n == 0) ≡ is_explained s ts
-explained_none s ts n size none_below =
-    grind (arith, has_order, one_below, has_order-suc, ne_eqb, is_explained)
+explained_none s ts n size none_below = grind (arith, has_order-suc, ne_eqb)
 
 -- what it takes for the one at a place to come first
 pub may_come-at : (s : State) (ts rest : List Txn) (n i : ℕ) (t : Txn) → n ≡ length ts → slice_get ts i ≡ Some t
@@ -44,5 +43,4 @@ pub may_come-whole : {E : Type 0} (s after : State) (ts rest : List Txn) (n i : 
     → true ≡ is_free t rest → IsTrue (reads_hold s (operations t.text)) → after ≡ after_writes s (operations t.text)
     → IfOk r (λ goes. goes ≡ (may_hold (status_of t.text) true && is_explained after rest || may_hold (status_of t.text) false && is_explained s rest))
     → IfOk r (λ may. may ≡ may_come (has_order (n - 1)) s ts i)
-may_come-whole s after ts rest n i t r size at is free reads end goes =
-    IfOk-weaker r _ _ (λ b given. rw (may_come-at s ts rest n i t size at is, ← free, reads, ← end) given) goes
+may_come-whole s after ts rest n i t r size at is free reads end goes = grind (arith, may_come-at s ts rest n i t size at is)

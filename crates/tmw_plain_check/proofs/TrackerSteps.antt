@@ -13,13 +13,11 @@ pub tracks-next : {T E : Type 0} (registers : ℕ) (events : List Event) (place 
     → place < length events → event ≡ get_or events place event
     → IfOk answer (λ _. (n : ℕ) (history : List Event) → Tracks n history old → Tracks n (history ++ event ∷ []) new)
     → is_err answer ≡ false → Tracks registers (take place events) old → Tracks registers (take (place + 1) events) new
-tracks-next registers events place event old new answer within is takes took tracks =
-    grind (arith, take-next, take)
+tracks-next registers events place event old new answer within is takes took tracks = grind (arith, take-next)
 
 -- the tracker refused it
 pub ill_formed-next : {T : Type 0} (registers : ℕ) (events : List Event) (place : ℕ) (event : Event) (old : Tracker) (answer : Result T Malformed)
     → place < length events → event ≡ get_or events place event
     → IfErr answer (λ fault. (n : ℕ) (history : List Event) → Tracks n history old → Refuses n history event fault)
     → is_err answer ≡ true → Tracks registers (take place events) old → IsFalse (is_well_formed registers (take (place + 1) events))
-ill_formed-next registers events place event old answer within is refuses refused tracks =
-    grind (arith, is_well_formed, take-next, take)
+ill_formed-next registers events place event old answer within is refuses refused tracks = grind (arith, take-next)
