@@ -56,15 +56,6 @@ bounds_from window states = do
   s ← states
   Some (bounds_of w s)
 
-pub without_window : (window : Option (Count 1 8)) (states : Option (Count 1 64)) → None ≡ number_of window → None ≡ bounds_from window states
-without_window None states none = refl
-without_window (Some w) states none = absurd (cc)
-
-pub without_states : (window : Option (Count 1 8)) (states : Option (Count 1 64)) → None ≡ number_of states → None ≡ bounds_from window states
-without_states None states none = refl
-without_states (Some w) None none = refl
-without_states (Some w) (Some s) none = absurd (cc)
-
 pub with_both : (window : Option (Count 1 8)) (states : Option (Count 1 64)) (bounds : Bounds) (w s : ℕ) → bounds.window ≡ w → bounds.states ≡ s
     → Some w ≡ number_of window → Some s ≡ number_of states → Some bounds ≡ bounds_from window states
 with_both None states bounds w s is too one other = absurd (cc)
@@ -81,32 +72,6 @@ settings_from cells patience rounds bounds = do
   r ← rounds
   b ← bounds
   Some (settings_of c p r b)
-
-pub without_cells : (cells : Option (Count 1 4096)) (patience rounds : Option (Count 1 1000000000)) (bounds : Option Bounds)
-    → None ≡ number_of cells → None ≡ settings_from cells patience rounds bounds
-without_cells None patience rounds bounds none = refl
-without_cells (Some c) patience rounds bounds none = absurd (cc)
-
-pub without_patience : (cells : Option (Count 1 4096)) (patience rounds : Option (Count 1 1000000000)) (bounds : Option Bounds)
-    → None ≡ number_of patience → None ≡ settings_from cells patience rounds bounds
-without_patience None patience rounds bounds none = refl
-without_patience (Some c) None rounds bounds none = refl
-without_patience (Some c) (Some p) rounds bounds none = absurd (cc)
-
-pub without_rounds : (cells : Option (Count 1 4096)) (patience rounds : Option (Count 1 1000000000)) (bounds : Option Bounds)
-    → None ≡ number_of rounds → None ≡ settings_from cells patience rounds bounds
-without_rounds None patience rounds bounds none = refl
-without_rounds (Some c) None rounds bounds none = refl
-without_rounds (Some c) (Some p) None bounds none = refl
-without_rounds (Some c) (Some p) (Some r) bounds none = absurd (cc)
-
-pub without_bounds : (cells : Option (Count 1 4096)) (patience rounds : Option (Count 1 1000000000)) (bounds : Option Bounds)
-    → None ≡ bounds → None ≡ settings_from cells patience rounds bounds
-without_bounds None patience rounds bounds none = refl
-without_bounds (Some c) None rounds bounds none = refl
-without_bounds (Some c) (Some p) None bounds none = refl
-without_bounds (Some c) (Some p) (Some r) None none = refl
-without_bounds (Some c) (Some p) (Some r) (Some b) none = absurd (cc)
 
 pub with_all : (cells : Option (Count 1 4096)) (patience rounds : Option (Count 1 1000000000)) (bounds : Option Bounds) (settings : Settings)
     → settings.limit ≡ 2 ^ 40 → Some settings.cells ≡ number_of cells → Some settings.patience ≡ number_of patience

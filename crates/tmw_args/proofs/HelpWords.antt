@@ -1,12 +1,6 @@
 -- The words with `help` moved behind them, as the code moves it.
-use Rattle.tmw_args.proofs.Shared.{[], ap, arith, Bor, codes, false, help_as_flag, length, List, names_help, refl, remove, texts, true, ◌++◌, ◌<◌, ◌∙◌, ◌∷◌, ◌≡◌}
+use Rattle.tmw_args.proofs.Shared.{[], ap, Bor, codes, false, help_as_flag, List, names_help, refl, remove, texts, true, ◌++◌, ◌∙◌, ◌∷◌, ◌≡◌}
 use Rattle.clap.specs.Walk.{Text}
-
--- where `help` is named, there is a second word
-pub names_help-second : (words : List (Bor Text)) → names_help (texts words) ≡ true → 1 < length words
-names_help-second [] named = absurd (cc)
-names_help-second (name ∷ []) named = absurd (cc)
-names_help-second (name ∷ word ∷ others) named = omega arith
 
 texts-append : (xs ys : List (Bor Text)) → texts (xs ++ ys) ≡ texts xs ++ texts ys
 texts-append [] ys = refl

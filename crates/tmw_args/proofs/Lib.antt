@@ -6,4 +6,3 @@ mod HelpWords
 mod Refusals
 mod Sample
 mod Shared
-mod Simple
