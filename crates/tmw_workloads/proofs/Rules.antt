@@ -13,9 +13,6 @@ each_from_all : {A : Type 0} (test : A → Bool) (P : A → Type 0) (xs : List A
     → All (λ x. IsTrue (test x) × P x) xs
 each_from_all test P xs tests all k d within = (AllPass-from_list_all test xs tests k d within, all k d within)
 
-pub transaction_is : (registers : ℕ) (calls : List Kind) → IsTransaction registers calls → IsTrue (is_transaction registers calls)
-transaction_is registers calls right = (and_parts _ _ right.0).1
-
 pub script_right : (registers : ℕ) (script : List (List Kind)) → length script ≤ 1000 → All (IsTransaction registers) script
     → IsScript registers script
 script_right registers script short each =
