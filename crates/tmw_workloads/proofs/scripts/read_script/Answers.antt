@@ -8,9 +8,8 @@ pub returns-in_err-calls-clause-shape : goal.returns-in_err-calls-clause-shape
 returns-in_err-calls-clause-shape c =
     let registers = c.args.registers.number in
     let returned = err_from_is_err_and c.from_residual.result c.from_residual.ensures.1 in
-    rw returned.1 (λ shape. none_at transaction_data (IsTransaction registers) (IsScript registers) (view c.args.content.now)
-    c.in-Some.values.now c.loop-value.value-index c.value-item.result c.in-Some.ensures.some c.loop-value-test.true
-    c.value-item.is (c.in_err-calls.ensures.shape (sym returned.2 ∙ shape)) (script_each registers))
+    rw returned.1 (λ shape. none_at transaction_data (IsTransaction registers) (IsScript registers) _ c.in-Some.values.now _ _ c.in-Some.ensures.some
+    c.loop-value-test.true c.value-item.is (c.in_err-calls.ensures.shape (sym returned.2 ∙ shape)) (script_each registers))
 
 pub returns-clause-right : goal.returns-clause-right
 returns-clause-right c =

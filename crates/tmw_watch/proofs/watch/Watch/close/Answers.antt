@@ -1,4 +1,4 @@
-use Rattle.tmw_watch.proofs.Shared.{IsPermutation, IsPermutation-map, Recorder, all_of, refl, rest_of, rules, subst, sym, writers_of, ◌≡◌}
+use Rattle.tmw_watch.proofs.Shared.{IsPermutation, IsPermutation-map, Recorder, refl, rules, subst, sym, writers_of, ◌≡◌}
 use Rattle.tmw_watch.proofs.Closings.{ended_again, is_closed, is_left, of_ring_placed}
 use Rattle.tmw_watch.proofs.watch.Watch.close.Goals as goal
 
@@ -33,20 +33,10 @@ returns-in-Err-end-clause-err c =
 
 pub returns-in-Ok-finish-clause-ok : goal.returns-in-Ok-finish-clause-ok
 returns-in-Ok-finish-clause-ok c =
-    let watch = c.args.self in
-    let given = c.args.recorders.items in
-    let placed = c.in-Ok.recorders.items in
-    let rest = rest_of c.in-Ok-end.closing in
-    let ended = c.in-Ok-end.ensures in
-    is_closed watch given rest c.in-Ok-finish.report (ended_again watch given placed (all_of rest) c.in-Ok.ensures.ok ended.ok) ended.front
-    c.in-Ok-finish.ensures.ok
+    let ended = ended_again c.args.self c.args.recorders.items c.in-Ok.recorders.items _ c.in-Ok.ensures.ok c.in-Ok-end.ensures.ok in
+    is_closed c.args.self c.args.recorders.items _ c.in-Ok-finish.report ended c.in-Ok-end.ensures.front c.in-Ok-finish.ensures.ok
 
 pub returns-in-Err-finish-clause-err : goal.returns-in-Err-finish-clause-err
 returns-in-Err-finish-clause-err c =
-    let watch = c.args.self in
-    let given = c.args.recorders.items in
-    let placed = c.in-Ok.recorders.items in
-    let rest = rest_of c.in-Ok-end.closing in
-    let ended = c.in-Ok-end.ensures in
-    is_left watch given rest (rest_of c.in-Err-finish.closing) (ended_again watch given placed (all_of rest) c.in-Ok.ensures.ok ended.ok) ended.front
-    c.in-Err-finish.ensures.err
+    let ended = ended_again c.args.self c.args.recorders.items c.in-Ok.recorders.items _ c.in-Ok.ensures.ok c.in-Ok-end.ensures.ok in
+    is_left c.args.self c.args.recorders.items _ _ ended c.in-Ok-end.ensures.front c.in-Err-finish.ensures.err
