@@ -62,10 +62,3 @@ stops_at-answer ring call answer place refused before middle after middle_of aft
         was_refused-tried ring answer middle refused after middle_of after_of number tried,
       ),
     )
-
--- both were recorded
-pub claimed-pair : (call answer : Kind) (place answer_place : ℕ) (before middle after : WriterIs) → HasTried call before (Ok place) middle
-    → HasTried answer middle (Ok answer_place) after → HasClaimed (call ∷ answer ∷ []) before after
-claimed-pair call answer place answer_place before middle after called answered =
-    claimed-more (call ∷ []) (answer ∷ []) before middle after (claimed-tried call before place middle called)
-    (claimed-tried answer middle answer_place after answered)

@@ -15,6 +15,3 @@ loop-preserved g c = (
   search rules,
   search rules,
 )
-
-pub returns-in-Ok-clause-heard : goal.returns-in-Ok-clause-heard
-returns-in-Ok-clause-heard g c = search rules

@@ -1,5 +1,5 @@
 use Rattle.tmw_bench.proofs.Shared.{IsTrue, Line, arith, get_or, get_or_default, length, subst, ◌<◌, ◌≡◌}
-use Rattle.tmw_bench.proofs.Leads.{gone_on-none, gone_on-then, heard-next, some_stop-here, some_stop-later}
+use Rattle.tmw_bench.proofs.Leads.{gone_on-then, heard-next, some_stop-here, some_stop-later}
 use Rattle.tmw_bench.proofs.line.hear_all.Goals.{then-is_stopped, else-is_stopped}
 use Rattle.tmw_bench.proofs.line.hear_all.Goals as goal
 
@@ -22,6 +22,3 @@ loop-line-preserved g c =
             (at.invariant.3 (subst IsTrue w.stopped-is told))
       ],
     )
-
-pub loop-line-init : goal.loop-line-init
-loop-line-init g c = grind (arith, gone_on-none)

@@ -1,10 +1,7 @@
-use Rattle.tmw_bench.proofs.Shared.{calls_of, refl, arith, rules}
+use Rattle.tmw_bench.proofs.Shared.{calls_of, refl, rules}
 use Rattle.tmw_bench.proofs.Returns.{worked-more}
 use Rattle.tmw_bench.proofs.Between.{between-next, played_on-stopped, played_on-over}
 use Rattle.tmw_bench.proofs.worker.play_on.Goals as goal
-
-pub loop-init : goal.loop-init
-loop-init g c = grind arith
 
 pub loop-preserved : goal.loop-preserved
 loop-preserved g c =

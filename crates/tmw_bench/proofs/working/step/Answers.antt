@@ -1,5 +1,4 @@
-use Rattle.tmw_bench.proofs.Shared.{goes_on-same}
-use Rattle.tmw_bench.proofs.Claims.{claimed-pair, stops_at-answer, stops_at-call}
+use Rattle.tmw_bench.proofs.Claims.{stops_at-answer, stops_at-call}
 use Rattle.tmw_bench.proofs.working.step.Goals as goal
 
 pub returns-then-player-gt0-clause-stopped : goal.returns-then-player-gt0-clause-stopped
@@ -29,16 +28,3 @@ returns-else-not-ends-clause-stopped g c =
     stops_at-answer c.args.ring.now c.args.call c.ask-answer.result c.in_default.field-0 c.in-Err-record_soon.refused c.args.writer.now
     c.record_soon.new.writer c.record_soon-2.new.writer one.of_ring two.of_ring two.number c.in_default.ensures.tried
     c.ask-answer.ensures.fits c.in-Err-record_soon.ensures.tried
-
-pub returns-clause-called : goal.returns-clause-called
-returns-clause-called g c =
-    let asked = c.ask-answer.ensures in
-    let answer = c.ask-answer.result in
-    record {
-      answer = answer;
-      fits = asked.fits;
-      stands = asked.stands;
-      goes_on = goes_on-same c.args.player.now c.ask-answer.new.self c.go_on.new.self answer asked.transaction asked.call c.go_on.ensures.left;
-      claimed = claimed-pair c.args.call answer c.in_default.field-0 c.in_default-record_soon.field-0 c.args.writer.now c.record_soon.new.writer
-          c.record_soon-2.new.writer c.in_default.ensures.tried c.in_default-record_soon.ensures.tried;
-    }
