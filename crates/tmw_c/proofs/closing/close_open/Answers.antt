@@ -24,32 +24,28 @@ returns-in_default-clause-err c =
 
 pub end-requires-clause-of_ring : goal.end-requires-clause-of_ring
 end-requires-clause-of_ring c =
-    let recorders = c.recorders_of.result.items in
     let swapped = c.swap_with_slice.ensures in
     let held = held_whole _ _ _ _ _ (swapped.other_len ∙ c.deref_mut.ensures.len) swapped.other_after c.recorders_of.ensures in
-    of_ring_held c.args.watch.ring.value recorders c.args.handles.now held c.requires
+    of_ring_held c.args.watch.ring.value c.recorders_of.result.items c.args.handles.now held c.requires
 
 pub end-requires-clause-all : goal.end-requires-clause-all
 end-requires-clause-all c =
-    let recorders = c.recorders_of.result.items in
     let swapped = c.swap_with_slice.ensures in
     let held = held_whole _ _ _ _ _ (swapped.other_len ∙ c.deref_mut.ensures.len) swapped.other_after c.recorders_of.ensures in
     let placed = subst (λ (n : ℕ). AreInPlace n c.args.handles.now) c.recorders.ensures (c.if-not-are_in_place.ensures.yes refl) in
-    all_held c.args.watch.recorders recorders c.args.handles.now held placed
+    all_held c.args.watch.recorders c.recorders_of.result.items c.args.handles.now held placed
 
 pub returns-in-Err-clause-err : goal.returns-in-Err-clause-err
 returns-in-Err-clause-err c =
-    let recorders = c.recorders_of.result.items in
     let swapped = c.swap_with_slice.ensures in
     let held = held_whole _ _ _ _ _ (swapped.other_len ∙ c.deref_mut.ensures.len) swapped.other_after c.recorders_of.ensures in
-    let gone : AreEmpty c.swap_with_slice.new.self = rw (swapped.after, c.deref_mut.ensures.value) c.in-Ok.ensures.empty.0 in
     let same : c.in-Err.watch ≡ c.args.watch = c.in-Err.ensures.err.0 in
     inl (record {
       watch = c.args.watch;
       opened = refl;
-      recorders = recorders;
+      recorders = c.recorders_of.result.items;
       placed = subst (λ (n : ℕ). AreInPlace n c.args.handles.now) c.recorders.ensures (c.if-not-are_in_place.ensures.yes refl);
-      taken = record { held = held; as_many = swapped.len; gone = gone };
+      taken = record { held = held; as_many = swapped.len; gone = rw (swapped.after, c.deref_mut.ensures.value) c.in-Ok.ensures.empty.0 };
       writers = c.in-Err.writers;
       shared = ap (λ (w : Watch). Shared w c.in-Err.writers) same;
       theirs = c.in-Err.ensures.err.1;
@@ -57,35 +53,29 @@ returns-in-Err-clause-err c =
 
 pub returns-in-Ok-finish-clause-ok : goal.returns-in-Ok-finish-clause-ok
 returns-in-Ok-finish-clause-ok c =
-    let recorders = c.recorders_of.result.items in
     let swapped = c.swap_with_slice.ensures in
     let held = held_whole _ _ _ _ _ (swapped.other_len ∙ c.deref_mut.ensures.len) swapped.other_after c.recorders_of.ensures in
-    let gone : AreEmpty c.swap_with_slice.new.self = rw (swapped.after, c.deref_mut.ensures.value) c.in-Ok.ensures.empty.0 in
-    let ended = c.in-Ok-end.ensures in
     record {
       watch = c.args.watch;
       opened = refl;
-      recorders = recorders;
+      recorders = c.recorders_of.result.items;
       placed = subst (λ (n : ℕ). AreInPlace n c.args.handles.now) c.recorders.ensures (c.if-not-are_in_place.ensures.yes refl);
-      taken = record { held = held; as_many = swapped.len; gone = gone };
-      closed = is_closed c.args.watch recorders (rest_of c.in-Ok-end.closing) c.in-Ok-finish.whole ended.ok ended.front c.in-Ok-finish.ensures.ok;
+      taken = record { held = held; as_many = swapped.len; gone = rw (swapped.after, c.deref_mut.ensures.value) c.in-Ok.ensures.empty.0 };
+      closed = is_closed c.args.watch c.recorders_of.result.items _ c.in-Ok-finish.whole c.in-Ok-end.ensures.ok c.in-Ok-end.ensures.front
+          c.in-Ok-finish.ensures.ok;
     }
 
 pub returns-in-Err-finish-clause-err : goal.returns-in-Err-finish-clause-err
 returns-in-Err-finish-clause-err c =
-    let recorders = c.recorders_of.result.items in
     let swapped = c.swap_with_slice.ensures in
     let held = held_whole _ _ _ _ _ (swapped.other_len ∙ c.deref_mut.ensures.len) swapped.other_after c.recorders_of.ensures in
-    let gone : AreEmpty c.swap_with_slice.new.self = rw (swapped.after, c.deref_mut.ensures.value) c.in-Ok.ensures.empty.0 in
-    let ended = c.in-Ok-end.ensures in
     inr (inl (record {
       watch = c.args.watch;
       opened = refl;
-      recorders = recorders;
+      recorders = c.recorders_of.result.items;
       placed = subst (λ (n : ℕ). AreInPlace n c.args.handles.now) c.recorders.ensures (c.if-not-are_in_place.ensures.yes refl);
-      taken = record { held = held; as_many = swapped.len; gone = gone };
+      taken = record { held = held; as_many = swapped.len; gone = rw (swapped.after, c.deref_mut.ensures.value) c.in-Ok.ensures.empty.0 };
       closing = c.in-Err-finish.closing;
       left = refl;
-      is_left = is_left c.args.watch recorders (rest_of c.in-Ok-end.closing) (rest_of c.in-Err-finish.closing) ended.ok ended.front
-          c.in-Err-finish.ensures.err;
+      is_left = is_left c.args.watch c.recorders_of.result.items _ _ c.in-Ok-end.ensures.ok c.in-Ok-end.ensures.front c.in-Err-finish.ensures.err;
     }))
