@@ -4,21 +4,15 @@ use Rattle.tmw_ring.proofs.record.record_as.Goals as goal
 
 pub returns-then-is_spent-clause-err : goal.returns-then-is_spent-clause-err
 returns-then-is_spent-clause-err g c =
-    let old = writer_in c.args.seat.now.me.0 in
-    let front = c.see_front-front.result in
-    let tail = c.see_tail-tail.result in
     let looked =
-    looks g.C.Choice.kind front tail c.args.seat.now.me c.see_front-front.new.seat.me c.see_tail-tail.new.seat.me
-    c.see_front-front.ensures.seen c.see_tail-tail.ensures.seen in grind arith
+    looks g.C.Choice.kind c.see_front-front.result c.see_tail-tail.result c.args.seat.now.me c.see_front-front.new.seat.me
+    c.see_tail-tail.new.seat.me c.see_front-front.ensures.seen c.see_tail-tail.ensures.seen in grind arith
 
 pub returns-then-is_full-clause-err : goal.returns-then-is_full-clause-err
 returns-then-is_full-clause-err g c =
-    let old = writer_in c.args.seat.now.me.0 in
-    let front = c.see_front-front.result in
-    let tail = c.see_tail-tail.result in
     let looked =
-    looks g.C.Choice.kind front tail c.args.seat.now.me c.see_front-front.new.seat.me c.see_tail-tail.new.seat.me
-    c.see_front-front.ensures.seen c.see_tail-tail.ensures.seen in grind arith
+    looks g.C.Choice.kind c.see_front-front.result c.see_tail-tail.result c.args.seat.now.me c.see_front-front.new.seat.me
+    c.see_tail-tail.new.seat.me c.see_front-front.ensures.seen c.see_tail-tail.ensures.seen in grind arith
 
 pub returns-clause-ok : goal.returns-clause-ok
 returns-clause-ok g c =

@@ -1,24 +1,18 @@
-use Rattle.tmw_ring.proofs.Shared.{Reads, Writes, reader_in, writer_in, arith}
+use Rattle.tmw_ring.proofs.Shared.{arith}
 use Rattle.tmw_ring.proofs.Meetings.{writer_met, reader_met}
 use Rattle.tmw_ring.proofs.ends.Ring.meet.Goals as goal
 
 pub invariant_of-writer : goal.invariant_of-writer
 invariant_of-writer c =
-    let met =
-    c.meet_seats.ensures.met (Writes (writer_in c.writer.inside.seat.me.0)) (Reads (reader_in c.reader.inside.seat.me.0))
-    c.writer.invariant.seated c.reader.invariant.seated in grind arith
+    let met = c.meet_seats.ensures.met _ _ c.writer.invariant.seated c.reader.invariant.seated in grind arith
 
 pub invariant_of-reader : goal.invariant_of-reader
 invariant_of-reader c =
-    let met =
-    c.meet_seats.ensures.met (Writes (writer_in c.writer.inside.seat.me.0)) (Reads (reader_in c.reader.inside.seat.me.0))
-    c.writer.invariant.seated c.reader.invariant.seated in grind arith
+    let met = c.meet_seats.ensures.met _ _ c.writer.invariant.seated c.reader.invariant.seated in grind arith
 
 pub returns : goal.returns
 returns c =
-    let met =
-    c.meet_seats.ensures.met (Writes (writer_in c.writer.inside.seat.me.0)) (Reads (reader_in c.reader.inside.seat.me.0))
-    c.writer.invariant.seated c.reader.invariant.seated in
+    let met = c.meet_seats.ensures.met _ _ c.writer.invariant.seated c.reader.invariant.seated in
     record {
       run = met.run;
       log = met.log;

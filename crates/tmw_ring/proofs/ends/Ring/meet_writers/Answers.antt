@@ -1,24 +1,18 @@
-use Rattle.tmw_ring.proofs.Shared.{Writes, writer_in, arith}
+use Rattle.tmw_ring.proofs.Shared.{arith}
 use Rattle.tmw_ring.proofs.Meetings.{writer_met}
 use Rattle.tmw_ring.proofs.ends.Ring.meet_writers.Goals as goal
 
 pub invariant_of-one : goal.invariant_of-one
 invariant_of-one c =
-    let met =
-    c.meet_seats.ensures.met (Writes (writer_in c.one.inside.seat.me.0)) (Writes (writer_in c.other.inside.seat.me.0))
-    c.one.invariant.seated c.other.invariant.seated in grind arith
+    let met = c.meet_seats.ensures.met _ _ c.one.invariant.seated c.other.invariant.seated in grind arith
 
 pub invariant_of-other : goal.invariant_of-other
 invariant_of-other c =
-    let met =
-    c.meet_seats.ensures.met (Writes (writer_in c.one.inside.seat.me.0)) (Writes (writer_in c.other.inside.seat.me.0))
-    c.one.invariant.seated c.other.invariant.seated in grind arith
+    let met = c.meet_seats.ensures.met _ _ c.one.invariant.seated c.other.invariant.seated in grind arith
 
 pub returns : goal.returns
 returns c =
-    let met =
-    c.meet_seats.ensures.met (Writes (writer_in c.one.inside.seat.me.0)) (Writes (writer_in c.other.inside.seat.me.0))
-    c.one.invariant.seated c.other.invariant.seated in
+    let met = c.meet_seats.ensures.met _ _ c.one.invariant.seated c.other.invariant.seated in
     record {
       run = met.run;
       log = met.log;

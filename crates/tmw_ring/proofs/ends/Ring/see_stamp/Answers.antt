@@ -6,11 +6,5 @@ use Rattle.tmw_ring.proofs.ends.Ring.see_stamp.Goals as goal
 
 pub load-requires : goal.load-requires
 load-requires c =
-    let word =
-    in_table stamp_word stamp_word-within c.self.inside.size c.self.inside.table.shared.key c.self.inside.table.shared.table_id
-    c.args.self.now c.args.words.place c.args.words.stamp c.self.invariant c.self.view_is c.requires.word in (
-      c.requires.table ∙ sym (ap (λ (ring : RingIs). ring.table) c.self.view_is),
-      word.within,
-      may_look c.self.inside.table.shared.key c.self.inside.table.shared.table_id.slots c.args.seat.now.id c.args.words.place
-          c.args.words.stamp c.args.seat.now.me word.told_at c.requires.waiting,
-    )
+    let word = in_table stamp_word stamp_word-within c.self.inside.size _ _ c.args.self.now c.args.words.place c.args.words.stamp c.self.invariant c.self.view_is c.requires.word in
+    (c.requires.table ∙ sym (ap (λ (ring : RingIs). ring.table) c.self.view_is), word.within, may_look _ _ _ _ _ _ word.told_at c.requires.waiting)

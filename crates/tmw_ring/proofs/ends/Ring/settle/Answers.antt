@@ -5,16 +5,13 @@ use Rattle.tmw_ring.proofs.ends.Ring.settle.Goals as goal
 
 pub invariant_of-result : goal.invariant_of-result
 invariant_of-result c =
-    let closed = c.close_with-closed.result in
-    let reader = reader_in c.reader.inside.seat.me.0 in
     let ends =
-    ended_joined c.self.inside.table.shared.key c.self.inside.size c.args.writers.items c.join_all.new.seat.id c.reader.inside.seat.me
-    c.join_all.new.seat.me (slots_items closed.words) (slots_items closed.slots) c.self.invariant.told_it c.reader.invariant.seated
-    c.join_all.ensures.parts c.close_with-closed.ensures.values.2 in
-    let counted : Counted reader (slots_items closed.words) c.reader.inside.front c.word-tail.result =
+    ended_joined _ c.self.inside.size c.args.writers.items _ _ _ _ _ c.self.invariant.told_it c.reader.invariant.seated c.join_all.ensures.parts
+    c.close_with-closed.ensures.values.2 in
+    let counted : Counted (reader_in c.reader.inside.seat.me.0) (slots_items c.close_with-closed.result.words) c.reader.inside.front c.word-tail.result =
     record { front_is = c.reader.invariant.counted; tail_is = c.word-tail.ensures } in
     let left =
-    leaves c.self.inside.size reader c.args.writers.items (slots_items closed.words) c.reader.inside.front c.word-tail.result ends
+    leaves c.self.inside.size _ c.args.writers.items (slots_items c.close_with-closed.result.words) c.reader.inside.front c.word-tail.result ends
     (c.requires.count ∙ ap (λ (ring : RingIs). ring.size.writers) (sym c.self.view_is)) c.requires.order counted in
     grind arith
 
@@ -23,9 +20,8 @@ returns c =
     let closed = c.close_with-closed.result in
     let reader = reader_in c.reader.inside.seat.me.0 in
     let ends =
-    ended_joined c.self.inside.table.shared.key c.self.inside.size c.args.writers.items c.join_all.new.seat.id c.reader.inside.seat.me
-    c.join_all.new.seat.me (slots_items closed.words) (slots_items closed.slots) c.self.invariant.told_it c.reader.invariant.seated
-    c.join_all.ensures.parts c.close_with-closed.ensures.values.2 in
+    ended_joined _ c.self.inside.size c.args.writers.items _ _ _ _ _ c.self.invariant.told_it c.reader.invariant.seated c.join_all.ensures.parts
+    c.close_with-closed.ensures.values.2 in
     let counted : Counted reader (slots_items closed.words) c.reader.inside.front c.word-tail.result =
     record { front_is = c.reader.invariant.counted; tail_is = c.word-tail.ensures } in
     let left : List Event =
