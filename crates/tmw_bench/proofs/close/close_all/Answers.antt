@@ -5,20 +5,16 @@ use Rattle.tmw_bench.proofs.close.close_all.Goals as goal
 pub close_one-writer-requires-clause-up : goal.close_one-writer-requires-clause-up
 close_one-writer-requires-clause-up c =
     let at = c.loop-worker in
-    let rest = into_iter_items c.next.new.self in
-    let backs : at.yielded ++ (c.in-Some.worker, c.in-Some.stop) ∷ rest ≡ c.args.back.items =
-    ap (λ (l : List Back). at.yielded ++ l) (sym c.in-Some.ensures.steps.0) ∙ at.invariant.2 in
-    (behind c.args.back.items at.yielded rest (c.in-Some.worker, c.in-Some.stop) c.args.lines.items at.lines.items at.place c.index_mut.result.now
-    backs at.invariant.4 at.invariant.6 c.requires.pairs c.index_mut.ensures.value).up
+    let backs = ap (λ (l : List Back). at.yielded ++ l) (sym c.in-Some.ensures.steps.0) ∙ at.invariant.2 in
+    (behind c.args.back.items at.yielded _ (c.in-Some.worker, c.in-Some.stop) _ _ at.place c.index_mut.result.now backs at.invariant.4
+    at.invariant.6 c.requires.pairs c.index_mut.ensures.value).up
 
 pub close_one-writer-requires-clause-down : goal.close_one-writer-requires-clause-down
 close_one-writer-requires-clause-down c =
     let at = c.loop-worker in
-    let rest = into_iter_items c.next.new.self in
-    let backs : at.yielded ++ (c.in-Some.worker, c.in-Some.stop) ∷ rest ≡ c.args.back.items =
-    ap (λ (l : List Back). at.yielded ++ l) (sym c.in-Some.ensures.steps.0) ∙ at.invariant.2 in
-    (behind c.args.back.items at.yielded rest (c.in-Some.worker, c.in-Some.stop) c.args.lines.items at.lines.items at.place c.index_mut.result.now
-    backs at.invariant.4 at.invariant.6 c.requires.pairs c.index_mut.ensures.value).down
+    let backs = ap (λ (l : List Back). at.yielded ++ l) (sym c.in-Some.ensures.steps.0) ∙ at.invariant.2 in
+    (behind c.args.back.items at.yielded _ (c.in-Some.worker, c.in-Some.stop) _ _ at.place c.index_mut.result.now backs at.invariant.4
+    at.invariant.6 c.requires.pairs c.index_mut.ensures.value).down
 
 pub loop-worker-preserved : goal.loop-worker-preserved
 loop-worker-preserved c =
