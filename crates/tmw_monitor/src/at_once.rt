@@ -26,7 +26,7 @@ pub fn take_at_once(kept: &mut Open, bounds: &Bounds, event: Event) -> bool
     match kept.window.next(event) {
         Ok(Move::Begin) => begin_at_once(kept, bounds, event),
         Ok(Move::Ask(place)) => {
-            if !kept.witness.explains_ask(&kept.window, event, place) {
+            if !kept.witness.is_known() {
                 return false;
             }
             kept.window.ask(event, place);

@@ -132,10 +132,10 @@ impl Witness {
         if place >= 8 || rank >= 8 || self.committed[place] || !self.fits_end(item, place) {
             return false;
         }
-        let end = item.end_from(&self.states[rank]);
         self.ranks[place] = self.top;
         self.committed[place] = true;
-        self.states[rank + 1] = end;
+        self.states[rank + 1] = self.states[rank];
+        item.leave_in(&mut self.states[rank + 1]);
         self.top += 1;
         true
     }
