@@ -158,6 +158,16 @@ impl Window {
         &self.slots[..self.count as usize]
     }
 
+    /// Returns the place of the last transaction. The result counts only if there is one.
+    #[inline(always)]
+    pub fn last(&self) -> Ix
+        ensures { 0 < count_of self.now → result.number + 1 ≡ count_of self.now }
+    {
+        Ix {
+            number: self.count.saturating_sub(1),
+        }
+    }
+
     /// Returns the transaction at the place. The result counts only if there is one.
     #[inline(always)]
     pub fn slot(&self, place: Ix) -> &Txn
@@ -189,18 +199,20 @@ impl Window {
         self.turn_of(event.thread).next(event.kind)
     }
 
-    /// Takes the next event, which begins a transaction.
+    /// Takes the next event, which begins a transaction, and returns its place.
     #[inline(always)]
-    pub fn begin(&mut self, event: Event)
+    pub fn begin(&mut self, event: Event) -> Ix
         requires room { count_of self.old < 8 }
         ensures stands { (events : List Event) → StandsFor self.old events
             → IsNext self.old event Begin → StandsFor self.new (events ++ event ∷ []) }
+        ensures place { result.number ≡ count_of self.old }
         ensures registers { self.new.registers ≡ self.old.registers }
     {
         let place = Ix { number: self.count };
         self.slots[place.get() as usize].begin(event.kind, self.completed);
         self.count += 1;
         turn::ask(&mut self.turns, event.thread, place, event.kind);
+        place
     }
 
     /// Takes the next event, a call of the transaction at the place.
@@ -276,7 +288,9 @@ impl Window {
         ensures registers { self.new.registers ≡ self.old.registers }
     {
         match step {
-            Move::Begin => self.begin(event),
+            Move::Begin => {
+                let _place = self.begin(event);
+            }
             Move::Ask(place) => self.ask(event, place),
             Move::Answer(place, op) => self.answer(event, place, op),
             Move::End(place) => self.end(event, place),

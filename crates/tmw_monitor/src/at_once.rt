@@ -50,12 +50,11 @@ fn begin_at_once(kept: &mut Open, bounds: &Bounds, event: Event) -> bool
         → StaysFine criterion bounds.now event kept.old kept.new }
     ensures left { IsFalse result → kept.new ≡ kept.old }
 {
-    let count = kept.window.count();
-    if count >= bounds.window {
+    if kept.window.count() >= bounds.window {
         return false;
     }
-    kept.window.begin(event);
-    kept.witness.begin(count);
+    let place = kept.window.begin(event);
+    kept.witness.begin(place);
     true
 }
 

@@ -23,7 +23,7 @@ impl Witness {
 
     /// Whether the transaction is taken as committed.
     #[inline(always)]
-    fn is_held(&self, place: Ix) -> bool
+    pub(crate) fn is_held(&self, place: Ix) -> bool
         ensures { result ≡ committed_of self.now place.number }
     {
         self.committed[place.get() as usize]
