@@ -49,3 +49,15 @@ pub change-back : {A : Type 0} (f g : A → A) (xs : List A) (i : ℕ) → ((x :
 change-back f g [] i back = refl
 change-back f g (x ∷ xs) zero back = ap (λ y. y ∷ xs) (back x refl)
 change-back f g (x ∷ xs) (suc i) back = ap (λ ys. x ∷ ys) (change-back f g xs i back)
+
+-- two changes that do the same to the member there
+pub change-alike : {A : Type 0} (f g : A → A) (xs : List A) (i : ℕ) → ((x : A) → slice_get xs i ≡ Some x → f x ≡ g x)
+    → change i f xs ≡ change i g xs
+change-alike f g [] i alike = refl
+change-alike f g (x ∷ xs) zero alike = ap (λ y. y ∷ xs) (alike x refl)
+change-alike f g (x ∷ xs) (suc i) alike = ap (λ ys. x ∷ ys) (change-alike f g xs i alike)
+
+pub change-nothing : {A : Type 0} (xs : List A) (i : ℕ) → change i (λ x. x) xs ≡ xs
+change-nothing [] i = refl
+change-nothing (x ∷ xs) zero = refl
+change-nothing (x ∷ xs) (suc i) = ap (λ ys. x ∷ ys) (change-nothing xs i)

@@ -1,5 +1,5 @@
 -- Where the threads are in a whole history, and with an event more.
-use Rattle.tmw_cuts.proofs.Shared.{Answer, Ask, Begin, End, Err, Event, Follows, Found, IsLater, IsNext, IsTrue, Ix, Kind, List, Malformed, Move, None, Option, Pairs, Refuses, Registers, Rejects, Some, StandsFor, Turn, Txn, Window, [], after_call, ap, arith, call_in, call_of, calls_in, false, find_open, found_after, found_in, goes_on, is_cut, is_ended, is_text, is_well_formed, is_well_formed-push, kept_in, lacks_register, length, list_all, list_all-append, live_of, numbered, option_map, pending_call, refl, refuses-from, slice_set, subst, sym, transactions, true, turn_at, ℕ, ◌&&◌, ◌++◌, ◌∙◌, ◌∷◌, ◌≡◌}
+use Rattle.tmw_cuts.proofs.Shared.{Answer, Ask, Begin, End, Err, Event, Follows, Found, IsLater, IsNext, IsTrue, Ix, Kind, List, Malformed, Move, None, Option, Pairs, Refuses, Registers, Rejects, Some, StandsFor, Turns, Txn, Window, [], after_call, ap, arith, call_in, call_of, calls_in, false, find_open, found_after, found_in, goes_on, is_cut, is_ended, is_text, is_well_formed, is_well_formed-push, kept_in, lacks_register, length, list_all, list_all-append, live_of, numbered, option_map, pending_call, refl, refuses-from, subst, sym, transactions, true, turn_at, ℕ, ◌&&◌, ◌++◌, ◌∙◌, ◌∷◌, ◌≡◌}
 use Rattle.tmw_defs.proofs.CutsProof.{transactions-cut, behind, behind-later}
 use Rattle.tmw_cuts.proofs.Moves.{Means, asked_on, rejects}
 use Rattle.tmw_cuts.proofs.Standings.{moves, turns-push}
@@ -41,27 +41,28 @@ called_by (Ask p) kind = Some (Some kind)
 called_by (Answer p op) kind = Some None
 called_by (End p) kind = None
 
-pub calls-moved : (kept : Option (Ix × Option Kind)) (kind : Kind) (move : Move) (n : ℕ) → Means kept kind move
+calls-moved : (kept : Option (Ix × Option Kind)) (kind : Kind) (move : Move) (n : ℕ) → Means kept kind move
     → calls_in (found_after (option_map numbered kept) n kind) ≡ called_by move kind
 calls-moved kept kind move n means = grind (arith, asked_on)
 
 -- the event is taken
-pub follows-push : (registers : ℕ) (h : List Event) (e : Event) (old new : Window) (move : Move) (next : Turn) → Follows registers h old
-    → IsNext old e move → length old.turns ≡ 8 → new.registers ≡ old.registers
-    → new.turns ≡ slice_set old.turns e.thread.number next
-    → ((n : ℕ) → calls_in (found_in next) ≡ calls_in (found_after (found_in (turn_at old e.thread.number)) n e.kind))
+pub follows-push : (registers : ℕ) (h : List Event) (e : Event) (old new : Window) (move : Move) (kept : Option (Ix × Option Kind))
+    → Follows registers h old → IsNext old e move → length old.turns ≡ 8 → new.registers ≡ old.registers
+    → Turns old.turns new.turns e.thread kept → calls_in (option_map numbered kept) ≡ called_by move e.kind
     → Follows registers (h ++ e ∷ []) new
-follows-push registers h e old new move next follows is long same one_turn found =
+follows-push registers h e old new move kept follows is long same (next, one_turn, at) called =
     let t = e.thread.number in
     let number : old.registers.number ≡ registers = follows.number in
+    let told = moves e old move is in
     let goes : goes_on registers (call_in (found_in (turn_at old t))) e.kind ≡ true
-    = ap (λ n. goes_on n (call_in (found_in (turn_at old t))) e.kind) (sym number) ∙ (moves e old move is).goes in
+    = ap (λ n. goes_on n (call_in (found_in (turn_at old t))) e.kind) (sym number) ∙ told.goes in
     let size = length (transactions h) in
     record {
       number = ap (λ (r : Registers). r.number) same ∙ number;
       formed = is_well_formed-push registers h e follows.formed ∙ ap (λ p. goes_on registers p e.kind) (sym (pending registers h e old follows)) ∙ goes;
       calls = turns-push calls_in h e old new next follows.calls long one_turn
-          (found size ∙ calls-after (found_in (turn_at old t)) (find_open t (transactions h)) size size e.kind (follows.calls t e.thread.below));
+          (ap (λ k. calls_in (option_map numbered k)) at ∙ called ∙ sym (calls-moved (kept_in (turn_at old t)) e.kind move size told.is)
+          ∙ calls-after (found_in (turn_at old t)) (find_open t (transactions h)) size size e.kind (follows.calls t e.thread.below));
     }
 
 live-behind : (t : ℕ) (ts us : List Txn) → IsTrue (list_all (λ u. is_ended u.text) ts) → live_of t (ts ++ us) ≡ live_of t us

@@ -1,5 +1,7 @@
 -- Which events a thread's pending call lets go on, and what the others are refused for.
 use Rattle.tmw_cuts.proofs.Shared.{arith, Answer, Ask, Begin, Bool, End, Err, Idle, Ix, Kind, Malformed, Move, None, Ok, Option, Rejects, Some, [], after_call, answers, answers_asked, asks, call_in, false, goes_on, is_call_answer, is_call_asked, is_over, lacks_register, move_of, numbered, operation, option_map, refl, status_after, true, ℕ, ◌∷◌, ◌≡◌}
+use Rattle.tmw_defs.specs.declared.op.Op.{Op}
+use Rattle.tmw_defs.specs.declared.status.Status.TheVariants.{Live}
 use Rattle.tmw_events.specs.declared.event.Kind.TheVariants.{R, V, W, K, T, C, X, A, N}
 
 abbrev pub ends_at : Kind → Bool
@@ -8,6 +10,13 @@ ends_at k = is_over (status_after (Some k))
 -- a call does not end its transaction
 pub asked_on : (k : Kind) → asks k ≡ true → ends_at k ≡ false
 asked_on k h = grind arith
+
+-- and leaves it live but for a commit request, as an answer does that makes an operation
+pub asked_live : (k : Kind) → asks k ≡ true → (k ≡ T → ⊥) → status_after (Some k) ≡ Live
+asked_live k h other = grind arith
+
+pub answered_live : (c k : Kind) (op : Op) → operation c k ≡ op ∷ [] → status_after (Some k) ≡ Live
+answered_live c k op makes = grind arith
 
 -- What a move says of the event.
 abbrev pub Means : Option (Ix × Option Kind) → Kind → Move → Type 0

@@ -5,7 +5,7 @@ pub use Rattle.std.proofs.Math.Nat.{mod-eq_of_lt}
 pub use Rattle.std.proofs.Math.Pow.{pow_mono}
 pub use Rattle.std.proofs.lemmas.Bool.{and_parts, and_right, cases_Bool, cases_eq, cases_lt, cond_both, eq-eqb, eqb-false, eqb-true, le-ltb, lt-ltb, ne_eqb, not-true, or_parts}
 pub use Rattle.std.proofs.lemmas.Cmp.{nat_list_cmp_total, tied_itself}
-pub use Rattle.std.proofs.lemmas.List.{append-nil, drop_all, get_or-set_other, get_or-set_same, length-map, length-set, length-take-le, map-append, same_lists, set-get_or, take-append-drop, take-map, take_more_set}
+pub use Rattle.std.proofs.lemmas.List.{append-nil, drop_all, get_or-set_other, get_or-set_same, get_or_default, length-map, length-set, length-take-le, map-append, same_lists, set-get_or, take-append-drop, take-map, take_more_set}
 pub use Rattle.std.proofs.lemmas.List.Folds.{list_all-append, list_all-map}
 pub use Rattle.std.proofs.lemmas.Map.Lookups.{CmpEqualImpliesEq, exact_bytes}
 pub use Rattle.std.proofs.lemmas.Nat.Bits.{bit_at-suc, bit_at-trailing_zeros, bit_at-zero, bit_at_above, bit_at_lowest, bit_at_set_other, bit_at_set_same, same_from_bits}
@@ -36,12 +36,11 @@ pub use Rattle.tmw_cuts.specs.Effects.{IsEffectOf, SumsUp}
 pub use Rattle.tmw_cuts.specs.Registers.{IsMaskOf, have, put}
 unfoldable pub use Rattle.tmw_cuts.specs.Registers.{chosen}
 pub use Rattle.tmw_cuts.specs.Standing.{Follows, IsNext, StandsFor, before_of, begun_by, calls_in, count_of, is_end, turn_at, txns_of, view_of, views, views_of}
-pub use Rattle.tmw_cuts.specs.Turns.{Found, after_call, answered_ops, call_in, change, find_open, found_after, found_in, further, is_open_for, kept_in, move_of, numbered, ops_of, place_of, views_after}
-pub use Rattle.tmw_cuts.specs.Views.{View, bit, completed_mask, new_view, next_view, view, with_status}
+pub use Rattle.tmw_cuts.specs.Turns.{Found, Turns, after_call, answered_ops, between, call_in, change, find_open, found_after, found_in, further, is_open_for, kept_in, move_of, numbered, ops_of, place_of, views_after}
+pub use Rattle.tmw_cuts.specs.Views.{View, bit, completed_mask, new_view, next_view, view, with_op, with_status}
 pub use Rattle.tmw_cuts.specs.Written.{needs, writes}
 pub use Rattle.tmw_cuts.specs.declared.effect.Effect.{Effect}
 pub use Rattle.tmw_cuts.specs.declared.turn.Move.{Move}
 pub use Rattle.tmw_cuts.specs.declared.turn.Move.TheVariants.{Answer, Ask, Begin, End}
 pub use Rattle.tmw_cuts.specs.declared.turn.Turn.{Turn}
-pub use Rattle.tmw_cuts.specs.declared.turn.Turn.TheVariants.{Between, Within}
 pub use Rattle.tmw_cuts.specs.declared.window.Window.{Window}

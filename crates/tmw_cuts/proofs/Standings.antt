@@ -1,9 +1,11 @@
 -- A window stands for the events with one more, where it begins a transaction, asks, answers or ends.
-use Rattle.tmw_cuts.proofs.Shared.{Answer, Ask, Begin, Between, End, Event, Found, IsNext, Ix, Kind, List, Move, None, Option, Registers, Some, StandsFor, Turn, Txn, View, Window, [], add_event, answered_ops, ap, arith, asks, begun_by, bit_or, call_in, cases_Bool, completed_mask, eqb-false, eqb-true, false, find_open, found_after, found_in, get_or-set_other, get_or-set_same, goes_on, if◌then◌else◌, inl, inr, is_cut, is_end, is_over, is_well_formed, is_well_formed-push, kept_in, length, length-map, list_all, list_all-map, mod-eq_of_lt, numbered, ops_of, option_map, place_of, pow-suc, pow_mono, refl, slice_set, subst, sym, transactions, true, turn_at, txns_of, view, view_of, views, views_after, views_of, ℕ, ◌%◌, ◌*◌, ◌++◌, ◌+◌, ◌<◌, ◌==◌, ◌^◌, ◌∙◌, ◌∷◌, ◌≡◌, ◌≤◌}
+use Rattle.tmw_cuts.proofs.Shared.{Answer, Ask, Begin, End, Event, Found, IsNext, Ix, Kind, List, Move, None, Option, Registers, Some, StandsFor, Turn, Txn, View, Window, [], add_event, answered_ops, ap, arith, asks, begun_by, between, bit_or, call_in, cases_Bool, completed_mask, eqb-false, eqb-true, false, find_open, found_after, found_in, get_or-set_other, get_or-set_same, goes_on, if◌then◌else◌, inl, inr, is_cut, is_end, is_over, is_well_formed, is_well_formed-push, kept_in, length, length-map, list_all, list_all-map, mod-eq_of_lt, numbered, ops_of, option_map, place_of, pow-suc, pow_mono, refl, slice_get, slice_set, subst, sym, transactions, true, turn_at, txns_of, view, view_of, views, views_after, views_of, ℕ, ◌%◌, ◌*◌, ◌++◌, ◌+◌, ◌<◌, ◌==◌, ◌^◌, ◌∙◌, ◌∷◌, ◌≡◌, ◌≤◌}
+use Rattle.tmw_events.specs.declared.event.Kind.TheVariants.{T}
+use Rattle.tmw_defs.specs.declared.status.Status.TheVariants.{Live}
 use Rattle.tmw_defs.proofs.OneMore.{transactions-push}
 use Rattle.tmw_cuts.proofs.Moves.{Is, Means, accepts, asked_on, ends_at}
 use Rattle.tmw_cuts.proofs.Pushes.{views_of-push}
-use Rattle.tmw_cuts.proofs.TurnSteps.{call-found, closed, find_open-other, find_open-own, masks-push, place_in}
+use Rattle.tmw_cuts.proofs.TurnSteps.{call-found, closed, find_open-other, find_open-own, found_live, masks-push, place_in}
 
 pub length-views_of : (events : List Event) → length (views_of events) ≡ length (transactions events)
 length-views_of events = length-map (transactions events) (view_of (transactions events))
@@ -34,10 +36,10 @@ pub turns-push : {X : Type 0} (of : Found → X) (h : List Event) (e : Event) (o
 turns-push of h e old new next were long one_turn found t below =
     elim (cases_Bool (e.thread.number == t)) [
       | inl is ↦
-          rw (← eqb-true e.thread.number t is, one_turn, get_or-set_same old.turns e.thread.number next Between (omega (arith, e.thread.below, long)))
+          rw (← eqb-true e.thread.number t is, one_turn, get_or-set_same old.turns e.thread.number next between (omega (arith, e.thread.below, long)))
           (found ∙ ap of (sym (find_open-own h e)))
       | inr away ↦
-          rw (one_turn, get_or-set_other old.turns e.thread.number t next Between (λ is. eqb-false e.thread.number t away (sym is)))
+          rw (one_turn, get_or-set_other old.turns e.thread.number t next between (λ is. eqb-false e.thread.number t away (sym is)))
           (were t below ∙ ap of (sym (find_open-other t h e away)))
     ]
 
@@ -162,3 +164,20 @@ cut_with events e w p stands is len few =
     let mask = rw over at (masks-push events e p.number (rw found refl) p.below) in
     let size : w.count ≡ length (transactions (events ++ e ∷ [])) = omega (arith, len, kept_length events w stands, grows events e w (End p) stands is) in
     rw (shift_small w.count few, stands.masks, mask, size) (cut_views (events ++ e ∷ []))
+
+-- the event's transaction is live before it, unless the event ends it
+pub live-next : (events : List Event) (e : Event) (w : Window) (move : Move) (p : Ix) (v : View) → StandsFor w events → IsNext w e move
+    → place_of move ≡ Some p → is_end move ≡ false → slice_get (views_of events) p.number ≡ Some v → v.status ≡ Live
+live-next events e w move p v stands next at goes shown =
+    let (call, kept, other) = means move at goes (moves e w move next).is in
+    let ts = transactions events in
+    let found : find_open e.thread.number ts ≡ Some (p.number, call)
+    = sym (stands.turns e.thread.number e.thread.below) ∙ ap (option_map numbered) kept in
+    found_live w.registers.number e.thread.number ts ts (p.number, call) v stands.formed found other shown
+  where
+    means : (m : Move) → place_of m ≡ Some p → is_end m ≡ false → Means (kept_in (turn_at w e.thread.number)) e.kind m
+        → (call : Option Kind) × (kept_in (turn_at w e.thread.number) ≡ Some (p, call)) × (call ≡ Some T → ⊥)
+    means Begin is on m = cc
+    means (Ask q) is on m = (None, grind arith, λ none. cc)
+    means (Answer q op) is on m = let makes = m.1.1.0 in (Some m.0, grind arith, λ asks. grind arith)
+    means (End q) is on m = cc

@@ -1,5 +1,8 @@
 -- What one event more makes of what is found of a thread, and of the mask of those that have completed.
-use Rattle.tmw_cuts.proofs.Shared.{Bool, Event, Found, IsTrue, Kind, List, None, Option, Some, Txn, View, [], add_event, ap, arith, bit_at, bit_at-suc, bit_at-zero, bit_at_lowest, bit_or, call_in, call_of, call_of-push, calls_in, completed_mask, false, find_open, found_after, further, if◌then◌else◌, is_ended, is_over, length, list_all, live_of, map, option_and_then, option_map, pow-suc, refl, slice_get, suc, transactions, true, view_of, views_after, views_of, ℕ, ◌%◌, ◌*◌, ◌++◌, ◌+◌, ◌<◌, ◌==◌, ◌^◌, ◌∙◌, ◌∷◌, ◌≡◌}
+use Rattle.tmw_cuts.proofs.Shared.{Bool, Event, Found, IsTrue, Kind, List, None, Option, Some, Txn, View, [], add_event, and_parts, ap, arith, bit_at, bit_at-suc, bit_at-zero, bit_at_lowest, bit_or, call_in, call_of, call_of-push, calls_in, cases_Bool, completed_mask, false, find_open, found_after, further, if◌then◌else◌, inl, inr, is_ended, is_open_for, is_over, is_text, length, list_all, live_of, map, option_and_then, option_map, pow-suc, refl, slice_get, suc, transactions, true, view_of, views_after, views_of, ℕ, ◌%◌, ◌*◌, ◌++◌, ◌+◌, ◌<◌, ◌==◌, ◌^◌, ◌∙◌, ◌∷◌, ◌≡◌}
+use Rattle.tmw_events.specs.declared.event.Kind.TheVariants.{T}
+use Rattle.tmw_defs.specs.declared.status.Status.TheVariants.{Live}
+use Rattle.tmw_defs.specs.History.{status_of}
 use Rattle.tmw_defs.specs.Texts.{ended_but_last, of_thread}
 use Rattle.tmw_defs.proofs.OneMore.{ended_rest, only_one, transactions-push}
 use Rattle.tmw_defs.proofs.QuietTexts.{status_of-push}
@@ -58,6 +61,29 @@ pub found_lives : (t : ℕ) (all ts : List Txn) (f : ℕ × Option Kind) (v : Vi
     → slice_get (map (view_of all) ts) f.0 ≡ Some v → is_over v.status ≡ false
 found_lives t all [] f v is at = cc
 found_lives t all (u ∷ ts) f v is at = grind (arith, (found_lives t all ts))
+
+status_of-cons : (k j : Kind) (ks : List Kind) → status_of (k ∷ j ∷ ks) ≡ status_of (j ∷ ks)
+status_of-cons k j ks = grind arith
+
+-- a text that has not ended is live, if no commit request is pending
+text_live : (registers : ℕ) (text : List Kind) → is_text registers text ≡ true → is_ended text ≡ false → (call_of text ≡ Some T → ⊥)
+    → status_of text ≡ Live
+text_live registers [] formed still other = refl
+text_live registers (c ∷ []) formed still other = grind arith
+text_live registers (c ∷ a ∷ []) formed still other = grind arith
+text_live registers (c ∷ a ∷ b ∷ more) formed still other =
+    grind (arith, (text_live registers (b ∷ more)), (status_of-cons a b more), (status_of-cons c a (b ∷ more)))
+
+-- so is the one that is found
+pub found_live : (registers t : ℕ) (all ts : List Txn) (f : ℕ × Option Kind) (v : View) → list_all (λ u. is_text registers u.text) ts ≡ true
+    → find_open t ts ≡ Some f → (f.1 ≡ Some T → ⊥) → slice_get (map (view_of all) ts) f.0 ≡ Some v → v.status ≡ Live
+found_live registers t all [] f v formed is other at = cc
+found_live registers t all (u ∷ ts) f v formed is other at =
+    let (own, rest) = and_parts (is_text registers u.text) _ formed in
+    elim (cases_Bool (is_open_for t u)) [
+      | inl mine ↦ grind (arith, (text_live registers u.text own))
+      | inr away ↦ grind (arith, (found_live registers t all ts))
+    ]
 
 -- the calls that are found are those of the live transaction
 pub calls-live : (t : ℕ) (ts : List Txn) → calls_in (find_open t ts) ≡ option_map (λ u. call_of u.text) (live_of t ts)

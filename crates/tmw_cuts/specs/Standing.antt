@@ -1,5 +1,5 @@
 -- Which events a window stands for: it shows their transactions, in the order of their first events.
-use Rattle.std.specs.Prelude.{◌≡◌, ◌+◌, ◌*◌, ◌<◌, ℕ, List, [], ◌∷◌, length, map, take, slice_get, slice_index_or, slice_set, Some, Ok, false, true, IsTrue, Bool, Option, option_map}
+use Rattle.std.specs.Prelude.{◌≡◌, ◌+◌, ◌*◌, ◌<◌, ℕ, List, [], ◌∷◌, length, map, take, slice_get, slice_index_or, Some, None, Ok, false, true, IsTrue, Bool, Option, option_map}
 use Rattle.tmw_events.specs.declared.event.Event.{Event}
 use Rattle.tmw_events.specs.declared.event.Kind.{Kind}
 use Rattle.tmw_defs.specs.History.{Txn, operations, status_of, transactions, is_well_formed}
@@ -10,10 +10,9 @@ use Rattle.tmw_cuts.specs.declared.mark.Mark.{Mark}
 use Rattle.tmw_cuts.specs.declared.turn.Move.{Move}
 use Rattle.tmw_cuts.specs.declared.turn.Move.TheVariants.{Begin, End}
 use Rattle.tmw_cuts.specs.declared.turn.Turn.{Turn}
-use Rattle.tmw_cuts.specs.declared.turn.Turn.TheVariants.{Between}
 use Rattle.tmw_cuts.specs.declared.txn.Txn as cuts
 use Rattle.tmw_cuts.specs.declared.window.Window.{Window}
-use Rattle.tmw_cuts.specs.Turns.{change, Found, after_call, find_open, found_in, kept_in}
+use Rattle.tmw_cuts.specs.Turns.{Turns, between, change, Found, after_call, find_open, found_in, kept_in}
 use Rattle.tmw_cuts.specs.Views.{View, view, bit, completed_mask, next_view}
 
 -- The number whose bit j says that transaction j of these precedes this one in real time.
@@ -42,7 +41,7 @@ count_of window = length (views window)
 
 -- Where it has the thread.
 abbrev pub turn_at : Window → ℕ → Turn
-turn_at window thread = slice_index_or window.turns thread Between
+turn_at window thread = slice_index_or window.turns thread between
 
 -- What it notes of its transactions: those that have completed, as a mask.
 abbrev pub completed_of : Window → ℕ
@@ -84,7 +83,7 @@ pub record Follows (registers : ℕ) (history : List Event) (window : Window) : 
 -- The one window is the other but for an event that has ended the transaction at the place.
 pub record HasEnded (before after : Window) (event : Event) (place : Ix) : Type 0 where
   pub registers : after.registers ≡ before.registers
-  pub turns : after.turns ≡ slice_set before.turns event.thread.number Between
+  pub turns : Turns before.turns after.turns event.thread None
   pub shows : views after ≡ change place.number (next_view event.kind []) (views before)
 
 -- What of the window an event changes that ends the transaction at the place of the thread: this is as the mark has it.

@@ -1,8 +1,9 @@
 -- What a turn tells of a thread: the place of its open transaction and its pending call.
-use Rattle.std.specs.Prelude.{◌==◌, ◌&&◌, ℕ, Bool, not, zero, suc, List, [], ◌∷◌, ◌++◌, Option, Some, None, option_map, Result, Ok, Err, if◌then◌else◌}
+use Rattle.std.specs.Prelude.{◌≡◌, slice_index_or, slice_set, ◌==◌, ◌&&◌, ℕ, Bool, not, zero, suc, List, [], ◌∷◌, ◌++◌, Option, Some, None, option_map, Result, Ok, Err, if◌then◌else◌}
 use Rattle.tmw_events.specs.declared.event.Kind.{Kind}
 use Rattle.tmw_events.specs.declared.event.Kind.TheVariants.{A, R, W, T, X, N}
 use Rattle.tmw_events.specs.declared.ix.Ix.{Ix}
+use Rattle.tmw_events.specs.Unpacking.{ix_of}
 use Rattle.tmw_defs.specs.declared.op.Op.{Op}
 use Rattle.tmw_defs.specs.History.{Txn, answers, is_ended, is_over, status_after, operation}
 use Rattle.tmw_wellformed.specs.declared.malformed.Malformed.{Malformed}
@@ -11,7 +12,8 @@ use Rattle.tmw_wellformed.specs.Faults.{asks}
 use Rattle.tmw_wellformed.specs.Pending.{call_of, next_call}
 use Rattle.tmw_cuts.specs.Views.{View, new_view, next_view}
 use Rattle.tmw_cuts.specs.declared.turn.Turn.{Turn}
-use Rattle.tmw_cuts.specs.declared.turn.Turn.TheVariants.{Between, Within, Reading, Adding, Writing, Committing, Aborting}
+use Rattle.tmw_cuts.specs.declared.turn.Stage.{Stage}
+use Rattle.tmw_cuts.specs.declared.turn.Stage.TheVariants.{Between, Within, Reading, Adding, Writing, Committing, Aborting}
 use Rattle.tmw_cuts.specs.declared.turn.Move.{Move}
 use Rattle.tmw_cuts.specs.declared.turn.Move.TheVariants.{Begin, Ask, Answer, End}
 
@@ -19,15 +21,30 @@ use Rattle.tmw_cuts.specs.declared.turn.Move.TheVariants.{Begin, Ask, Answer, En
 abbrev pub Found : Type 0
 Found = Option (ℕ × Option Kind)
 
--- The same as the turn has it, whose place is below eight.
+-- The same as a turn has it, whose place is below eight.
+abbrev pub kept_at : Stage → Ix → Ix → ℕ → Option (Ix × Option Kind)
+kept_at Between p r v = None
+kept_at Within p r v = Some (p, None)
+kept_at Reading p r v = Some (p, Some (R r))
+kept_at Adding p r v = Some (p, Some (N r v))
+kept_at Writing p r v = Some (p, Some (W r v))
+kept_at Committing p r v = Some (p, Some T)
+kept_at Aborting p r v = Some (p, Some X)
+
 abbrev pub kept_in : Turn → Option (Ix × Option Kind)
-kept_in Between = None
-kept_in (Within p) = Some (p, None)
-kept_in (Reading p r) = Some (p, Some (R r))
-kept_in (Adding p r d) = Some (p, Some (N r d))
-kept_in (Writing p r v) = Some (p, Some (W r v))
-kept_in (Committing p) = Some (p, Some T)
-kept_in (Aborting p) = Some (p, Some X)
+kept_in turn = kept_at turn.stage turn.place turn.register turn.value
+
+-- A thread that has no open transaction.
+abbrev pub between : Turn
+between = record { stage = Between; place = ix_of 0; register = ix_of 0; value = 0 }
+
+-- The same of a thread, whose turn is among those.
+abbrev pub kept_of : List Turn → ℕ → Option (Ix × Option Kind)
+kept_of turns thread = kept_in (slice_index_or turns thread between)
+
+-- The turn of the thread alone is another, which has this.
+abbrev pub Turns : List Turn → List Turn → Ix → Option (Ix × Option Kind) → Type 0
+Turns old new thread kept = (next : Turn) × (new ≡ slice_set old thread.number next) × (kept_in next ≡ kept)
 
 abbrev pub numbered : Ix × Option Kind → ℕ × Option Kind
 numbered k = (k.0.number, k.1)

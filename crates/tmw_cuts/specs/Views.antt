@@ -40,3 +40,7 @@ next_view kind ops v = record v { ops = v.ops ++ ops; status = status_after (Som
 -- A transaction that has this status for its own.
 abbrev pub with_status : Status → View → View
 with_status status v = record v { status = status }
+
+-- A transaction with one operation more.
+abbrev pub with_op : Op → View → View
+with_op op v = record v { ops = v.ops ++ op ∷ [] }

@@ -132,21 +132,20 @@ impl Effect {
         met
     }
 
-    /// Returns what the registers hold after the operations, from this state. No answer is compared: an add leaves its answer and what it
+    /// Makes of the state what the registers hold after the operations. No answer is compared: an add leaves its answer and what it
     /// added.
     #[inline(always)]
-    pub fn end_from(&self, state: &State) -> State
-        ensures { (ops : List Op) → IsEffectOf self.now ops → result ≡ after_writes state.now ops }
+    pub fn leave_in(&self, state: &mut State)
+        ensures { (ops : List Op) → IsEffectOf self.now ops
+            → state.new ≡ after_writes state.old ops }
     {
-        let mut end = *state;
         // (few registers are written)
         let mut left = self.left;
         while left != 0 {
             let register = lowest(left);
             left -= 1 << register;
-            end[register] = self.leaves[register];
+            state[register] = self.leaves[register];
         }
-        end
     }
 
     /// Tells whether each of the operations was answered what the registers held then.
@@ -163,11 +162,12 @@ impl Effect {
     pub fn after(&self, state: &State) -> Option<State>
         ensures { (ops : List Op) → IsEffectOf self.now ops → Replays state.now ops result }
     {
-        if self.fits(state) {
-            Some(self.end_from(state))
-        } else {
-            None
+        if !self.fits(state) {
+            return None;
         }
+        let mut end = *state;
+        self.leave_in(&mut end);
+        Some(end)
     }
 
     /// Returns what the register holds after the operations.
@@ -177,12 +177,10 @@ impl Effect {
             → result ≡ slice_index (after_writes state.now ops) register.number }
     {
         let place = register.get() as usize;
-        let left = self.leaves[place];
-        let held = state[place];
         if has_register(self.left, place) {
-            left
+            self.leaves[place]
         } else {
-            held
+            state[place]
         }
     }
 

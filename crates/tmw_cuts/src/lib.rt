@@ -17,6 +17,6 @@ pub use mark::Mark;
 pub use mask::lowest;
 pub use operations::Operations;
 pub use states::{State, States};
-pub use turn::{Move, Turn};
+pub use turn::{Move, Stage, Turn};
 pub use txn::Txn;
 pub use window::Window;

@@ -1,5 +1,4 @@
 ghost use Rattle.std.specs.Prelude.{◌≡◌, ◌<◌, [], ◌∷◌, ◌++◌, IsTrue, length};
-ghost use Rattle.std.specs.Option.{option_to_list};
 ghost use Rattle.tmw_defs.specs.Opaque.{State, reads_hold, after_writes};
 ghost use Rattle.tmw_cuts.specs.Effects.{IsEffectOf, IsEffectOf-prop, leaves_none};
 ghost use Rattle.tmw_cuts.specs.Registers.{IsMaskOf};
@@ -27,7 +26,7 @@ pub struct Txn {
 }
 
 impl Txn {
-    ghost use Rattle.tmw_cuts.specs.Views.{effect_of, new_view, next_view, view, with_status};
+    ghost use Rattle.tmw_cuts.specs.Views.{effect_of, new_view, view, with_op, with_status};
 
     /// Makes one that begins with an event of this kind, where those in the mask have completed.
     pub(crate) fn new(kind: Kind, before: u8) -> Txn
@@ -52,16 +51,13 @@ impl Txn {
         self.effect.clear();
     }
 
-    /// Takes its next event, which makes this operation if it makes one.
+    /// Takes one more operation.
     #[inline(always)]
-    pub(crate) fn add(&mut self, kind: Kind, op: Option<Op>)
-        ensures { view self.new ≡ next_view kind (option_to_list op) (view self.old) }
+    pub(crate) fn add(&mut self, op: Op)
+        ensures { view self.new ≡ with_op op (view self.old) }
     {
-        if let Some(op) = op {
-            self.ops = self.ops.then(&Some(op));
-            self.effect.add(op);
-        }
-        self.status = status_after(kind);
+        self.ops = self.ops.then(&Some(op));
+        self.effect.add(op);
     }
 
     /// Gives it this status.
@@ -97,12 +93,12 @@ impl Txn {
         self.effect.after(state)
     }
 
-    /// Returns what the registers hold after its operations, from this state. No answer is compared.
+    /// Makes of the state what the registers hold after its operations. No answer is compared.
     #[inline(always)]
-    pub fn end_from(&self, state: &State) -> State
-        ensures { result ≡ after_writes state.now self.now.ops.items }
+    pub fn leave_in(&self, state: &mut State)
+        ensures { state.new ≡ after_writes state.old self.now.ops.items }
     {
-        self.effect.end_from(state)
+        self.effect.leave_in(state);
     }
 
     /// Tells whether each of its operations was answered what the registers held then, this one after them too. The result counts only

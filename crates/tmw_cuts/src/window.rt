@@ -1,11 +1,11 @@
 ghost use Rattle.std.specs.Prelude.{Some, slice_get, ◌≡◌, ◌*◌, ◌%◌, ◌^◌, ◌+◌, ◌<◌, ◌≤◌, [], ◌∷◌, ◌++◌, ℕ, List, IfOk, IfErr, OnOk, OnErr, IsTrue, take, length, map};
-ghost use Rattle.std.specs.Option.{option_to_list};
 ghost use Rattle.tmw_wellformed.specs.Faults.{lacks_register};
 ghost use Rattle.tmw_cuts.specs.Turns.{change};
-ghost use Rattle.tmw_cuts.specs.Views.{next_view, view, with_status};
+ghost use Rattle.tmw_cuts.specs.Views.{view, with_op, with_status};
 
+use crate::kinds::status_after;
 use crate::mark::Mark;
-use crate::turn::{Move, Turn, asking};
+use crate::turn::{self, Move, Turn};
 use crate::txn::Txn;
 use tmw_defs::{Op, Status};
 use tmw_events::{Event, Ix, Kind, Registers};
@@ -56,17 +56,18 @@ fn copy_txns(slots: &[Txn; 8]) -> [Txn; 8]
     copied
 }
 
-/// Gives the transaction at the place its next event, which makes the operation if it makes one.
+/// Gives the transaction at the place one more operation.
 #[inline(always)]
-fn put(slots: &mut [Txn; 8], place: Ix, kind: Kind, op: Option<Op>)
+fn put_op(slots: &mut [Txn; 8], place: Ix, op: Op)
     ensures shown { (count : ℕ) → count ≤ 8 → map view (take count slots.new)
-        ≡ change place.number (next_view kind (option_to_list op)) (map view (take count slots.old)) }
+        ≡ change place.number (with_op op) (map view (take count slots.old)) }
     ensures eight { length slots.new ≡ 8 }
 {
-    slots[place.get() as usize].add(kind, op);
+    slots[place.get() as usize].add(op);
 }
 
 /// Gives the transaction at the place this status.
+#[inline(always)]
 fn put_status(slots: &mut [Txn; 8], place: Ix, status: Status)
     ensures shown { (count : ℕ) → count ≤ 8 → map view (take count slots.new)
         ≡ change place.number (with_status status) (map view (take count slots.old)) }
@@ -112,7 +113,7 @@ impl Window {
     {
         Window {
             registers,
-            turns: [Turn::Between; 8],
+            turns: [Turn::between(); 8],
             slots: no_txns(),
             count: 0,
             completed: 0,
@@ -157,6 +158,16 @@ impl Window {
         &self.slots[..self.count as usize]
     }
 
+    /// Returns the place of the last transaction. The result counts only if there is one.
+    #[inline(always)]
+    pub fn last(&self) -> Ix
+        ensures { 0 < count_of self.now → result.number + 1 ≡ count_of self.now }
+    {
+        Ix {
+            number: self.count.saturating_sub(1),
+        }
+    }
+
     /// Returns the transaction at the place. The result counts only if there is one.
     #[inline(always)]
     pub fn slot(&self, place: Ix) -> &Txn
@@ -188,18 +199,20 @@ impl Window {
         self.turn_of(event.thread).next(event.kind)
     }
 
-    /// Takes the next event, which begins a transaction.
+    /// Takes the next event, which begins a transaction, and returns its place.
     #[inline(always)]
-    pub fn begin(&mut self, event: Event)
+    pub fn begin(&mut self, event: Event) -> Ix
         requires room { count_of self.old < 8 }
         ensures stands { (events : List Event) → StandsFor self.old events
             → IsNext self.old event Begin → StandsFor self.new (events ++ event ∷ []) }
+        ensures place { result.number ≡ count_of self.old }
         ensures registers { self.new.registers ≡ self.old.registers }
     {
         let place = Ix { number: self.count };
         self.slots[place.get() as usize].begin(event.kind, self.completed);
         self.count += 1;
-        self.turns[event.thread.get() as usize] = asking(place, event.kind);
+        turn::ask(&mut self.turns, event.thread, place, event.kind);
+        place
     }
 
     /// Takes the next event, a call of the transaction at the place.
@@ -209,8 +222,11 @@ impl Window {
             → IsNext self.old event (Ask place) → StandsFor self.new (events ++ event ∷ []) }
         ensures registers { self.new.registers ≡ self.old.registers }
     {
-        put(&mut self.slots, place, event.kind, None);
-        self.turns[event.thread.get() as usize] = asking(place, event.kind);
+        // One that goes on was live, and a call but a commit request leaves it so.
+        if let Kind::T = event.kind {
+            put_status(&mut self.slots, place, Status::Pending);
+        }
+        turn::ask(&mut self.turns, event.thread, place, event.kind);
     }
 
     /// Takes the next event, an answer of the transaction at the place, which makes this operation.
@@ -220,8 +236,8 @@ impl Window {
             → IsNext self.old event (Answer place op) → StandsFor self.new (events ++ event ∷ []) }
         ensures registers { self.new.registers ≡ self.old.registers }
     {
-        put(&mut self.slots, place, event.kind, Some(op));
-        self.turns[event.thread.get() as usize] = Turn::Within(place);
+        put_op(&mut self.slots, place, op);
+        turn::go_on(&mut self.turns, event.thread);
     }
 
     /// Takes the next event, which ends the transaction at the place.
@@ -232,8 +248,8 @@ impl Window {
         ensures ended { HasEnded self.old self.new event place }
         ensures registers { self.new.registers ≡ self.old.registers }
     {
-        put(&mut self.slots, place, event.kind, None);
-        self.turns[event.thread.get() as usize] = Turn::Between;
+        put_status(&mut self.slots, place, status_after(event.kind));
+        turn::end(&mut self.turns, event.thread);
         self.completed |= bit_of(place);
     }
 
@@ -272,7 +288,9 @@ impl Window {
         ensures registers { self.new.registers ≡ self.old.registers }
     {
         match step {
-            Move::Begin => self.begin(event),
+            Move::Begin => {
+                let _place = self.begin(event);
+            }
             Move::Ask(place) => self.ask(event, place),
             Move::Answer(place, op) => self.answer(event, place, op),
             Move::End(place) => self.end(event, place),
@@ -324,12 +342,12 @@ impl Window {
         ensures shown { views self.new ≡ views self.old }
     {
         let step = self.next(event)?;
-        self.turns[event.thread.get() as usize] = match step {
-            Move::Begin => asking(Ix { number: 0 }, event.kind),
-            Move::Ask(place) => asking(place, event.kind),
-            Move::Answer(place, _) => Turn::Within(place),
-            Move::End(_) => Turn::Between,
-        };
+        match step {
+            Move::Begin => turn::ask(&mut self.turns, event.thread, Ix { number: 0 }, event.kind),
+            Move::Ask(place) => turn::ask(&mut self.turns, event.thread, place, event.kind),
+            Move::Answer(_, _) => turn::go_on(&mut self.turns, event.thread),
+            Move::End(_) => turn::end(&mut self.turns, event.thread),
+        }
         Ok(())
     }
 

@@ -1,5 +1,5 @@
 -- Which history a monitor stands for: the relation by which its calls are described.
-use Rattle.std.specs.Prelude.{◌++◌, ◌∷◌, ◌≡◌, ℕ, List, [], length, drop, Option, Some, None}
+use Rattle.std.specs.Prelude.{◌++◌, ◌∷◌, ◌≡◌, ℕ, List, [], length, drop, Option, Some, None, false}
 use Rattle.std.specs.List.{Contains}
 use Rattle.tmw_events.specs.declared.event.Event.{Event}
 use Rattle.tmw_events.specs.declared.registers.Registers.{Registers}
@@ -47,10 +47,11 @@ abbrev pub TellsWrong : Rules → List Event → Open → Option Verdict → Typ
 TellsWrong rules history kept None = IsVerdict rules history (so_far rules.criterion) × Keeps rules history kept
 TellsWrong rules history kept (Some verdict) = IsVerdict rules history verdict × (verdict ≡ so_far rules.criterion → ⊥)
 
--- Nothing is kept: no state and no transaction.
+-- Nothing is kept: no state, no transaction and no serial order.
 pub record KeepsNothing (kept : Open) : Type 0 where
   pub states : members kept.states ≡ []
   pub transactions : views kept.window ≡ []
+  pub order : kept.witness.known ≡ false
 
 -- The history fits the monitor: its length and its verdict are the monitor's, and where nothing is wrong with it, the monitor has
 -- kept of it what it needs to judge what follows, and else only what tells the first event that fits no run.

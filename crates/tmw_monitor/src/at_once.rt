@@ -26,7 +26,7 @@ pub fn take_at_once(kept: &mut Open, bounds: &Bounds, event: Event) -> bool
     match kept.window.next(event) {
         Ok(Move::Begin) => begin_at_once(kept, bounds, event),
         Ok(Move::Ask(place)) => {
-            if !kept.witness.explains_ask(&kept.window, event, place) {
+            if !kept.witness.is_known() {
                 return false;
             }
             kept.window.ask(event, place);
@@ -50,12 +50,11 @@ fn begin_at_once(kept: &mut Open, bounds: &Bounds, event: Event) -> bool
         → StaysFine criterion bounds.now event kept.old kept.new }
     ensures left { IsFalse result → kept.new ≡ kept.old }
 {
-    let count = kept.window.count();
-    if count >= bounds.window {
+    if kept.window.count() >= bounds.window {
         return false;
     }
-    kept.window.begin(event);
-    kept.witness.begin(count);
+    let place = kept.window.begin(event);
+    kept.witness.begin(place);
     true
 }
 

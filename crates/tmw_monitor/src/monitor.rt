@@ -11,7 +11,7 @@ use crate::bounds::Bounds;
 use crate::broken::{Broken, follow};
 use crate::next::next_wrong;
 use crate::open::Open;
-use crate::so_far::{is_any_so_far, is_so_far};
+use crate::so_far::is_so_far;
 use std::alloc::{AllocError, Global};
 use tmw_cuts::{State, States, Window};
 use tmw_defs::{Criterion, Verdict};
@@ -111,8 +111,8 @@ impl Monitor {
         ensures keeps { OnOk result (HoldsWith event self.old self.new) }
         ensures keeps_err { OnErr result (HoldsStill self.old self.new) }
     {
-        // Only what is judged by a criterion has its verdict.
-        if is_any_so_far(self.verdict) && take_at_once(&mut self.kept, &self.bounds, event) {
+        // A serial order is known only while nothing is wrong.
+        if self.kept.witness.is_known() && take_at_once(&mut self.kept, &self.bounds, event) {
             self.count += 1;
             return Ok(self.verdict);
         }
@@ -140,6 +140,7 @@ impl Monitor {
     }
 
     /// Takes the next event, whatever it needs. The verdict is then in the monitor.
+    #[cold]
     #[inline(never)]
     fn take(&mut self, event: Event) -> Result<(), AllocError>
         requires room { fed_of self.old < 2 ^ 40 }

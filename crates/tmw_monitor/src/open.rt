@@ -20,7 +20,7 @@ impl Open {
     ghost use Rattle.tmw_cuts.specs.Standing.{Follows};
     ghost use Rattle.tmw_monitor.specs.Fitting.{KeepsNothing};
 
-    /// Forgets the history, and frees what was kept of it. Where the threads are stays, and the witness, which has a fixed size.
+    /// Forgets the history, and frees what was kept of it. Where the threads are stays.
     #[cold]
     #[inline(never)]
     pub fn forget(&mut self, alloc: Global)
@@ -30,5 +30,6 @@ impl Open {
     {
         self.states = States::empty(alloc);
         self.window.clear();
+        self.witness.forget();
     }
 }

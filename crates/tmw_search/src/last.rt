@@ -236,10 +236,10 @@ pub fn add_last(
         add_each(items, register, left, end, found)?;
         return Ok(found.are_few());
     }
+    let mut chosen = *end;
     while left != 0 {
         let writer = least(items, register, left);
         left -= 1 << writer.place;
-        let mut chosen = *end;
         chosen[register] = writer.value;
         let mut next = *reach;
         if put_last(&node.choices, &mut next, writer.place, writers, before) {

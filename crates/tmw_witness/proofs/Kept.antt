@@ -1,7 +1,8 @@
 -- What each change of a kept witness makes of it.
-use Rattle.tmw_witness.proofs.Shared.{Bool, In, IsTrue, IsWitness, List, MayStand, PlacesThose, Some, State, TurnsAt, View, Witness, Witnesses, [], after_writes, arith, bit, bit_at, bit_at_above, bit_at_set_other, bit_at_set_same, bit_or, cases_lt, committed_of, div-lt_iff_lt-mul, false, get_or-set_other, get_or-set_same, inl, inr, length, length-append, may_hold, rank_of, reads_hold, refl, slice_get, slice_get_some, slice_get_within, slice_set, state_of, suc, sym, true, w8, zero, ℕ, ◌%◌, ◌*◌, ◌++◌, ◌+◌, ◌/◌, ◌<◌, ◌^◌, ◌∙◌, ◌∷◌, ◌≡◌, ◌≤◌, ◌⊎◌}
+use Rattle.tmw_witness.proofs.Shared.{Bool, In, IsTrue, IsWitness, List, MayStand, PlacesThose, Some, State, TurnsAt, View, Witness, Witnesses, [], after_writes, arith, bit, bit_at, bit_at_above, bit_at_set_other, bit_at_set_same, bit_or, cases_lt, committed_of, div-lt_iff_lt-mul, false, get_or-set_other, get_or-set_same, inl, inr, length, length-append, may_hold, not-true, rank_of, reads_hold, refl, slice_get, slice_get_some, slice_get_within, slice_set, state_of, suc, sym, true, w8, zero, ℕ, ◌%◌, ◌*◌, ◌++◌, ◌+◌, ◌/◌, ◌<◌, ◌^◌, ◌∙◌, ◌∷◌, ◌≡◌, ◌≤◌, ◌⊎◌}
 use Rattle.std.proofs.lemmas.Nat.{pow_pos}
 use Rattle.tmw_defs.proofs.TextsProof.{slice_get_end}
+use Rattle.tmw_defs.specs.declared.status.Status.TheVariants.{Live}
 use Rattle.tmw_search.specs.Layers.{MayCome}
 use Rattle.tmw_witness.proofs.Turning.{Goes, placed, witness-turned}
 
@@ -90,6 +91,12 @@ pub left_out-kept : (starts : List State) (xs ys : List View) (x y : View) (w : 
 left_out-kept starts xs ys x y w p turns out may reads was =
     stays-kept turns (elim may [ inl left ↦ inl (rw out left) | inr (held, same) ↦ inr (out, held, same) ]) reads
     (λ held. absurd (let k : true ≡ false = sym held ∙ out in cc)) was
+
+-- a live transaction is left out
+pub live-left_out : (starts : List State) (xs : List View) (x : View) (w : Witness) (p : ℕ) → IsWitness starts xs w
+    → slice_get xs p ≡ Some x → x.status ≡ Live → committed_of w p ≡ false
+live-left_out starts xs x w p is at live =
+    elim (is.places.each p x at (slice_get_within xs p x at)).may [ inl may ↦ not-true _ (rw live at may) | inr out ↦ out.0 ]
 
 -- it is held, and has the operations that it had
 pub held-kept : (starts : List State) (xs ys : List View) (x y : View) (w : Witness) (p : ℕ) → TurnsAt xs ys p x y

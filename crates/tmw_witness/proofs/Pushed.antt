@@ -1,5 +1,7 @@
 -- What one event more makes of the views of a window's transactions: one of them turns, or one begins.
-use Rattle.tmw_witness.proofs.Shared.{Begin, C, IsNext, List, PrecedesNone, Some, StandsFor, TurnsAt, View, [], and_parts, ap, arith, bit, bit_at, completed_mask, count_of, ends_at, false, found-begun, found-moved, found_lives, found_within, inl, inr, is_ended, is_over, length, new_view, next_view, pow-suc, refl, same_place, shows-views_of, slice_get, slice_get_some, slice_get_within, subst, sym, transactions, true, views, views_of, views_of-push, ℕ, ◌++◌, ◌<◌, ◌^◌, ◌∙◌, ◌∷◌, ◌≡◌, ◌≤◌}
+use Rattle.tmw_witness.specs.Witnessing.{ExplainsWith}
+use Rattle.tmw_witness.proofs.Kept.{left_out-kept, live-left_out}
+use Rattle.tmw_witness.proofs.Shared.{Ask, Begin, C, IsNext, List, PrecedesNone, Some, StandsFor, TurnsAt, View, Witness, [], and_parts, append-nil, ap, arith, asked_on, bit, bit_at, completed_mask, count_of, ends_at, false, found-begun, found-moved, found_lives, found_within, inl, inr, is_ended, is_over, left_out, length, live-next, moves, new_view, next_view, pow-suc, refl, same_place, shows-views_of, slice_get, slice_get_some, slice_get_within, subst, sym, transactions, true, views, views_of, views_of-push, ℕ, ◌++◌, ◌<◌, ◌^◌, ◌∙◌, ◌∷◌, ◌≡◌, ◌≤◌}
 use Rattle.tmw_events.specs.declared.event.Kind.{Kind}
 use Rattle.tmw_events.specs.declared.event.Event.{Event}
 use Rattle.tmw_events.specs.declared.ix.Ix.{Ix}
@@ -117,3 +119,11 @@ completed-within vs j one = bit_within (completed_mask vs) (length vs) j (comple
 -- an event that does not end its transaction commits none
 pub no_commit : (kind : Kind) → ends_at kind ≡ false → kind ≡ C → ⊥
 no_commit kind on is = let bad : true ≡ false = rw is at on in absurd (cc)
+
+-- a call adds no operation, and who makes it was left out
+pub asks-kept : (w : Witness) (window : Window) (e : Event) (p : Ix) → ExplainsWith w window e (Ask p)
+asks-kept w window e p starts events stands next was known =
+    let (x, turns) = turned events e window (Ask p) p stands next refl in
+    left_out-kept starts (views_of events) _ x _ w p.number turns
+    (live-left_out starts (views_of events) x w p.number (was known) turns.was (live-next events e window (Ask p) p x stands next refl refl turns.was))
+    (inl (left_out e.kind (no_commit e.kind (asked_on e.kind (moves e window (Ask p) next).is.1)))) (λ reads. rw (append-nil x.ops) reads) was known

@@ -10,7 +10,7 @@ pub use Rattle.std.specs.List.{Contains}
 pub use Rattle.std.specs.Prelude.{slice_get, slice_set}
 pub use Rattle.tmw_cuts.proofs.Moves.{asked_on, ends_at}
 pub use Rattle.tmw_cuts.proofs.Pushes.{views_of-push}
-pub use Rattle.tmw_cuts.proofs.Standings.{found-begun, found-moved, moves}
+pub use Rattle.tmw_cuts.proofs.Standings.{found-begun, found-moved, live-next, moves}
 pub use Rattle.tmw_cuts.proofs.TurnSteps.{found_lives, found_within}
 pub use Rattle.tmw_cuts.specs.Standing.{IsNext, StandsFor, count_of, view_of, views, views_of}
 pub use Rattle.tmw_cuts.specs.Views.{View, bit, completed_mask, new_view, next_view, view}

@@ -18,12 +18,12 @@ fn leaves(item: &Txn, state: &State) -> bool
 }
 
 impl Witness {
-    ghost use Rattle.tmw_cuts.specs.declared.turn.Move.TheVariants.{Answer, Ask, End};
+    ghost use Rattle.tmw_cuts.specs.declared.turn.Move.TheVariants.{Answer, End};
     ghost use Rattle.tmw_witness.specs.Witnessing.{ExplainsWith, rank_of, committed_of, state_of};
 
     /// Whether the transaction is taken as committed.
     #[inline(always)]
-    fn is_held(&self, place: Ix) -> bool
+    pub(crate) fn is_held(&self, place: Ix) -> bool
         ensures { result ≡ committed_of self.now place.number }
     {
         self.committed[place.get() as usize]
@@ -65,21 +65,8 @@ impl Witness {
         }
     }
 
-    /// Tells whether an order is known and, as it stands, is one with the next event too, a call of the transaction at the place. After
-    /// `false` it may still be one, as below.
-    #[inline(always)]
-    pub fn explains_ask(&self, window: &Window, event: Event, place: Ix) -> bool
-        ensures known { IsTrue result → IsTrue self.now.known }
-        ensures stands { IsTrue result → ExplainsWith self.now window.now event (Ask place) }
-    {
-        if !self.known {
-            return false;
-        }
-        !self.is_held(place)
-    }
-
     /// Tells whether an order is known and, as it stands, is one with the next event too, an answer of the transaction at the place, which
-    /// makes this operation.
+    /// makes this operation. After `false` it may still be one, as below.
     #[inline(always)]
     pub fn explains_answer(&self, window: &Window, event: Event, place: Ix, op: Op) -> bool
         ensures known { IsTrue result → IsTrue self.now.known }
@@ -88,7 +75,7 @@ impl Witness {
         if !self.known {
             return false;
         }
-        !self.is_held(place) && self.has_answer(window.slot(place), place, op)
+        self.has_answer(window.slot(place), place, op)
     }
 
     /// Tells whether an order is known and, as it stands, is one with the next event too, which ends the transaction at the place.

@@ -17,21 +17,16 @@ impl Witness {
     ghost use Rattle.tmw_cuts.specs.declared.turn.Move.TheVariants.{End};
     ghost use Rattle.tmw_cuts.specs.declared.window.Window.{Window};
 
-    /// Takes in that a transaction begins, behind so many others, or marks the order unknown.
+    /// Takes in that a transaction begins at the place, behind the others.
     #[inline(always)]
-    pub fn begin(&mut self, count: u8)
-        ensures { (starts : List State) (xs : List View) (y : View) → length xs ≡ count
+    pub fn begin(&mut self, place: Ix)
+        ensures { (starts : List State) (xs : List View) (y : View) → length xs ≡ place.number
             → y.ops ≡ [] → IsTrue (may_hold y.status false)
             → ((j : ℕ) → bit_at y.before j ≡ 1 → j < length xs) → Witnesses starts xs self.old
             → Witnesses starts (xs ++ y ∷ []) self.new }
     {
-        let place = usize::from(count);
-        if place < 8 {
-            self.ranks[place] = self.top;
-            self.committed[place] = false;
-        } else {
-            self.known = false;
-        }
+        self.ranks[place.get() as usize] = self.top;
+        self.committed[place.get() as usize] = false;
     }
 
     /// The rank above the transaction: the next, where it is taken as committed.
@@ -88,54 +83,56 @@ impl Witness {
 
     /// Updates the order for an answer to a read or an add of the transaction: it stands where it stood, or at
     /// another rank.
-    fn answer(&mut self, item: &Txn, place: usize)
+    fn answer(&mut self, item: &Txn, place: Ix)
         ensures { (starts : List State) (xs ys : List View) (x : View)
-            → TurnsAt xs ys place x (view item.now) → IsTrue (may_hold item.now.status false)
+            → TurnsAt xs ys place.number x (view item.now) → IsTrue (may_hold item.now.status false)
             → Witnesses starts xs self.old → Witnesses starts ys self.new }
     {
-        if place >= 8 || self.committed[place] {
+        let at = place.get() as usize;
+        if self.is_held(place) {
             self.known = false;
             return;
         }
-        if self.holds_at(item, self.ranks[place]) {
+        if self.holds_at(item, self.ranks[at]) {
             return;
         }
         match self.other_rank(item) {
-            Some(rank) => self.ranks[place] = rank,
+            Some(rank) => self.ranks[at] = rank,
             None => self.known = false,
         }
     }
 
     /// Whether the transaction stands at the end, or else its reads hold there.
     #[inline(always)]
-    fn fits_end(&self, item: &Txn, place: usize) -> bool
-        requires place { place < 8 }
-        requires room { self.now.top < 9 }
-        ensures { IsTrue result → (rank_of self.now place ≡ self.now.top)
+    fn fits_end(&self, item: &Txn, place: Ix) -> bool
+        requires { self.now.top < 9 }
+        ensures { IsTrue result → (rank_of self.now place.number ≡ self.now.top)
             ⊎ IsTrue (reads_hold (state_of self.now self.now.top) item.now.ops.items) }
     {
-        self.ranks[place] == self.top || item.fits(&self.states[usize::from(self.top)])
+        self.ranks[place.get() as usize] == self.top
+            || item.fits(&self.states[usize::from(self.top)])
     }
 
     /// Puts the transaction, which was left out, at the end and takes it as committed, if it stands there or its reads hold there. Else it
     /// returns `false`. It is called, so that what has to be inlined into the reading of each line stays small enough to be.
     #[inline(never)]
-    fn hold(&mut self, item: &Txn, place: usize) -> bool
+    fn hold(&mut self, item: &Txn, place: Ix) -> bool
         ensures held { IsTrue result → (starts : List State) (xs ys : List View) (x : View)
-            → TurnsAt xs ys place x (view item.now) → item.now.ops.items ≡ x.ops
+            → TurnsAt xs ys place.number x (view item.now) → item.now.ops.items ≡ x.ops
             → IsTrue (may_hold item.now.status true)
             → Witnesses starts xs self.old → Witnesses starts ys self.new }
         ensures left { IsFalse result → self.new ≡ self.old }
         ensures known { self.new.known ≡ self.old.known }
     {
+        let at = place.get() as usize;
         let rank = usize::from(self.top);
-        if place >= 8 || rank >= 8 || self.committed[place] || !self.fits_end(item, place) {
+        if rank >= 8 || self.is_held(place) || !self.fits_end(item, place) {
             return false;
         }
-        let end = item.end_from(&self.states[rank]);
-        self.ranks[place] = self.top;
-        self.committed[place] = true;
-        self.states[rank + 1] = end;
+        self.ranks[at] = self.top;
+        self.committed[at] = true;
+        self.states[rank + 1] = self.states[rank];
+        item.leave_in(&mut self.states[rank + 1]);
         self.top += 1;
         true
     }
@@ -158,49 +155,45 @@ impl Witness {
             return;
         }
         if let Status::Pending = item.status {
-            let _held = self.hold(item, usize::from(place.get()));
+            let _held = self.hold(item, place);
         }
     }
 
-    /// Takes in an event after which the transaction stands as before, and is to be left out.
+    /// Takes in that the transaction has aborted: it stands as before, and is to be left out.
     #[inline(always)]
-    fn keep(&mut self, place: usize)
-        ensures { (starts : List State) (xs ys : List View) (x y : View) → TurnsAt xs ys place x y
-            → IsTrue (may_hold y.status false)
-            → ((s : State) → IsTrue (reads_hold s x.ops) → IsTrue (reads_hold s y.ops))
+    fn abort(&mut self, place: Ix)
+        ensures { (starts : List State) (xs ys : List View) (x y : View)
+            → TurnsAt xs ys place.number x y → y.ops ≡ x.ops → IsTrue (may_hold y.status false)
             → Witnesses starts xs self.old → Witnesses starts ys self.new }
     {
-        if place >= 8 || self.committed[place] {
+        if self.is_held(place) {
             self.known = false;
         }
     }
 
     /// Whether the transaction's operations leave the state of its rank as it is.
-    fn leaves_state(&self, item: &Txn, place: usize) -> bool
-        requires { place < 8 }
+    fn leaves_state(&self, item: &Txn, place: Ix) -> bool
         ensures { IsTrue result
-            → after_writes (state_of self.now (rank_of self.now place)) item.now.ops.items
-            ≡ state_of self.now (rank_of self.now place) }
+            → after_writes (state_of self.now (rank_of self.now place.number)) item.now.ops.items
+            ≡ state_of self.now (rank_of self.now place.number) }
     {
-        let rank = usize::from(self.ranks[place]);
-        if rank >= 9 {
-            return false;
+        match self
+            .states
+            .get(usize::from(self.ranks[place.get() as usize]))
+        {
+            Some(state) => item.after(state) == Some(*state),
+            None => false,
         }
-        item.after(&self.states[rank]) == Some(self.states[rank])
     }
 
     /// Takes in that the transaction has committed: it is taken so, or can be, or its operations leave the state as it is.
-    fn commit(&mut self, item: &Txn, place: usize)
+    fn commit(&mut self, item: &Txn, place: Ix)
         ensures { (starts : List State) (xs ys : List View) (x : View)
-            → TurnsAt xs ys place x (view item.now) → item.now.status ≡ Committed
+            → TurnsAt xs ys place.number x (view item.now) → item.now.status ≡ Committed
             → item.now.ops.items ≡ x.ops → Witnesses starts xs self.old
             → Witnesses starts ys self.new }
     {
-        if place >= 8 {
-            self.known = false;
-            return;
-        }
-        if self.committed[place] {
+        if self.is_held(place) {
             return;
         }
         if self.hold(item, place) {
@@ -224,14 +217,15 @@ impl Witness {
             return;
         }
         match step {
-            Move::Begin => self.begin(window.count().saturating_sub(1)),
-            Move::Ask(place) => self.keep(usize::from(place.get())),
-            Move::Answer(place, _) => self.answer(window.slot(place), usize::from(place.get())),
+            Move::Begin => self.begin(window.last()),
+            // As it stands, it is one with a call more too.
+            Move::Ask(_) => {}
+            Move::Answer(place, _) => self.answer(window.slot(place), place),
             Move::End(place) => {
                 if matches!(event.kind, Kind::C) {
-                    self.commit(window.slot(place), usize::from(place.get()));
+                    self.commit(window.slot(place), place);
                 } else {
-                    self.keep(usize::from(place.get()));
+                    self.abort(place);
                 }
             }
         }

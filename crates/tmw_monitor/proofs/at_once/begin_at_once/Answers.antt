@@ -13,11 +13,11 @@ returns-clause-taken c took criterion rules history by window states keeps =
     let rest = drop keeps.cut history in
     let next = c.requires.next in
     let asked = (found-begun rest e old.window keeps.stands next).1 in
-    let count = c.count-count.ensures.stands rest keeps.stands in
+    let count = c.count.ensures.stands rest keeps.stands in
     let free = c.if-count-bounds.false in
-    open-fine rules history e old _ keeps Begin next (c.begin.ensures.stands rest keeps.stands next) c.begin.ensures.registers
+    open-fine rules history e old _ keeps Begin next (c.begin-place.ensures.stands rest keeps.stands next) c.begin-place.ensures.registers
     (uncut-next rest e old.window Begin keeps.stands next refl) (λ _. omega (arith, count, free, window))
     (inl (asked_quiet rules.criterion (transactions rest) e.thread.number e.kind asked)) refl
     (rw (begun-pushed rest e old.window keeps.stands next)
-    (c.begin-2.ensures (members old.states) (views_of rest) _ (omega (arith, length-views_of rest, count)) refl
+    (c.begin.ensures (members old.states) (views_of rest) _ (omega (arith, length-views_of rest, count, c.begin-place.ensures.place, c.count.ensures.shown)) refl
     (left_out e.kind (no_commit e.kind (asked_on e.kind asked))) (λ j one. completed-within (views_of rest) j one) keeps.witness))

@@ -1,5 +1,5 @@
 -- What the event is to its thread is told, and the order explains it or it is quiet.
-use Rattle.tmw_monitor.proofs.Shared.{Answer, Ask, Event, IsNext, Ix, [], drop, refl, subst, sym, ℕ, ◌∷◌, ◌≡◌}
+use Rattle.tmw_monitor.proofs.Shared.{Answer, Ask, Event, IsNext, Ix, [], drop, refl, subst, sym, ℕ, ◌∙◌, ◌∷◌, ◌≡◌}
 use Rattle.tmw_events.specs.declared.event.Kind.{Kind}
 use Rattle.tmw_events.specs.declared.event.Kind.TheVariants.{K, N, R, V, W}
 use Rattle.tmw_defs.specs.declared.op.Op.TheVariants.{Add}
@@ -13,13 +13,13 @@ use Rattle.tmw_monitor.proofs.at_once.take_at_once.Goals as goal
 pub returns-in-Ok-Begin-clause-taken : goal.returns-in-Ok-Begin-clause-taken
 returns-in-Ok-Begin-clause-taken c took = c.begin_at_once.ensures.taken took
 
-pub returns-else-not-explains_ask-clause-taken : goal.returns-else-not-explains_ask-clause-taken
-returns-else-not-explains_ask-clause-taken c took criterion rules history by window states keeps =
+pub returns-else-not-is_known-clause-taken : goal.returns-else-not-is_known-clause-taken
+returns-else-not-is_known-clause-taken c took criterion rules history by window states keeps =
     let p = c.in-Ok-Ask.place in
     let next : IsNext c.args.kept.now.window c.args.event (Ask p) = rw c.in-Ok-Ask.field-0-is at c.in-Ok-Ask.ensures.ok in
     explained-fine rules history c.args.event c.args.kept.now _ keeps (Ask p) refl (λ begins. absurd (cc)) next
     (c.ask.ensures.stands (drop keeps.cut history) keeps.stands next) c.ask.ensures.registers
-    (c.explains_ask.ensures.known c.if-not-explains_ask.false) (c.explains_ask.ensures.stands c.if-not-explains_ask.false) refl refl
+    (sym c.is_known.ensures.shown ∙ c.if-not-is_known.false) (c.is_known.ensures.asks c.args.kept.now.window c.args.event p) refl refl
 
 pub returns-in-Ok-End-clause-taken : goal.returns-in-Ok-End-clause-taken
 returns-in-Ok-End-clause-taken c took criterion = c.end_at_once.ensures.taken took criterion c.args.bounds.now

@@ -1,4 +1,4 @@
-use Rattle.tmw_search.proofs.Shared.{arith, false, ordered, refl, slice_index, true, ◌∙◌}
+use Rattle.tmw_search.proofs.Shared.{arith, false, ordered, refl, set-set, slice_index, true, ◌∙◌}
 use Rattle.tmw_search.proofs.Adding.{adds-any, adds-to, adds-empty, adds-part, each-none, each-next, each-part, each-all}
 use Rattle.tmw_search.proofs.Bits.{some-place, less_of, less_has, less_lt}
 use Rattle.tmw_search.proofs.Branching.{never-true}
@@ -15,7 +15,7 @@ returns-then-is_plain-clause-adds t c =
     _ _ c.before_of-before.ensures.fits c.if-rest-eq0.true (c.is_plain.ensures c.if-is_plain.true) c.in_ok-add_each.ensures.adds)
 
 pub loop-left-init : goal.loop-left-init
-loop-left-init t c = record { adds = each-none; cap = refl }
+loop-left-init t c = record { adds = each-none; others = λ v. refl; cap = refl }
 
 pub put_last-requires-clause-writes : goal.put_last-requires-clause-writes
 put_last-requires-clause-writes t c =
@@ -51,7 +51,7 @@ returns-then-not-branch-clause-adds t c =
     (less_of c.args.registers r.result r.ensures.within r.ensures.among) (ordered c.args.node.now c.args.reach.now) next.result.place
     c.put_last.new.reach _ c.requires.node put.narrows next.ensures.within
     (free-writer _ _ _ next.ensures.within (c.loop-left.invariant.adds.among next.result.place next.ensures.among)) (put.last refl))
-    (rw (c.if-not-branch.true, next.ensures.value) at c.in_ok-add_last.ensures.adds)))
+    (rw (c.if-not-branch.true, c.loop-left.invariant.others next.result.value, next.ensures.value) at c.in_ok-add_last.ensures.adds)))
 
 pub loop-left-preserved-else-not-branch : goal.loop-left-preserved-else-not-branch
 loop-left-preserved-else-not-branch t c =
@@ -67,7 +67,8 @@ loop-left-preserved-else-not-branch t c =
           true c.requires.node put.narrows next.ensures.within (free-writer _ _ _ next.ensures.within is) (put.last refl))
           (λ all e w. (child-of c.args.end.now r.ensures.within c.told-end r.ensures.among less node next.result.place c.put_last.new.reach true
           c.requires.node put.narrows e w).1)
-          (rw (c.if-not-branch.false, next.ensures.value) at c.in_ok-add_last.ensures.adds));
+          (rw (c.if-not-branch.false, c.loop-left.invariant.others next.result.value, next.ensures.value) at c.in_ok-add_last.ensures.adds));
+      others = λ v. set-set c.loop-left.chosen r.result next.result.value v ∙ c.loop-left.invariant.others v;
       cap = c.in_ok-add_last.ensures.cap ∙ c.loop-left.invariant.cap;
     }
 
@@ -80,6 +81,7 @@ loop-left-preserved t c =
           (adds-empty (λ e w. never-true (child-of c.args.end.now r.ensures.within c.told-end r.ensures.among
           (less_of c.args.registers r.result r.ensures.within r.ensures.among) (ordered c.args.node.now c.args.reach.now) next.result.place
           c.put_last.new.reach false c.requires.node c.if-put_last.ensures.narrows e w).0));
+      others = λ v. set-set c.loop-left.chosen r.result next.result.value v ∙ c.loop-left.invariant.others v;
       cap = c.loop-left.invariant.cap;
     }
 

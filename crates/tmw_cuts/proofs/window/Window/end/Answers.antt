@@ -1,7 +1,16 @@
 -- The thread's transaction ends.
-use Rattle.tmw_cuts.proofs.Shared.{Between, End, Some, ap, bit_or, length, refl, rules, slice_set, ◌≡◌}
+use Rattle.tmw_cuts.proofs.Shared.{End, Event, Ix, List, Some, Window, [], ap, append-nil, bit_or, change, length, map, next_view, numbered, option_map, refl, rules, status_after, take, view, views, with_status, ◌∙◌, ◌≡◌}
+use Rattle.tmw_defs.specs.declared.status.Status.{Status}
+use Rattle.tmw_cuts.specs.declared.txn.Txn.{Txn}
+use Rattle.tmw_cuts.proofs.Changes.{change-alike}
 use Rattle.tmw_cuts.proofs.Standings.{moves, stands-with}
 use Rattle.tmw_cuts.proofs.window.Window.end.Goals as goal
+
+with-end : (old : Window) (e : Event) (p : Ix) (status : Status) (slots : List Txn) → status ≡ status_after (Some e.kind)
+    → map view (take old.count slots) ≡ change p.number (with_status status) (views old)
+    → map view (take old.count slots) ≡ change p.number (next_view e.kind []) (views old)
+with-end old e p status slots is shown =
+    shown ∙ change-alike (with_status status) (next_view e.kind []) (views old) p.number (λ v there. rw (append-nil v.ops, is) refl)
 
 pub returns-clause-stands : goal.returns-clause-stands
 returns-clause-stands c events stands next =
@@ -9,13 +18,15 @@ returns-clause-stands c events stands next =
     let long : length old.turns ≡ 8 = search rules in
     let p = c.args.place in
     let (call, (kept, (makes, over))) = (moves c.args.event old (End p) next).is in
-    stands-with events c.args.event old _ Between (End p) (Some (p, Some call)) stands next kept long p.below refl
-    (ap (λ n. slice_set old.turns n Between) c.get.ensures.value) (rw over refl)
-    (rw makes (c.put.ensures.shown old.count old.few)) (rw over (ap (bit_or old.completed) c.bit_of.ensures))
+    let (turn, one_turn, at) = c.end.ensures in
+    stands-with events c.args.event old _ turn (End p) (Some (p, Some call)) stands next kept long p.below refl
+    one_turn (rw over (ap (option_map numbered) at))
+    (rw makes (with-end old c.args.event p c.status_after.result c.put_status.new.slots c.status_after.ensures (c.put_status.ensures.shown old.count old.few))) (rw over (ap (bit_or old.completed) c.bit_of.ensures))
 
 pub returns-clause-ended : goal.returns-clause-ended
 returns-clause-ended c = record {
   registers = refl;
-  turns = ap (λ n. slice_set c.args.self.now.turns n Between) c.get.ensures.value;
-  shows = c.put.ensures.shown c.args.self.now.count c.args.self.now.few;
+  turns = c.end.ensures;
+  shows = with-end c.args.self.now c.args.event c.args.place c.status_after.result c.put_status.new.slots c.status_after.ensures
+      (c.put_status.ensures.shown c.args.self.now.count c.args.self.now.few);
 }

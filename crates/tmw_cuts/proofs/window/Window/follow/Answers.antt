@@ -1,28 +1,33 @@
 -- The thread's turn is the next, and those of the others stay.
-use Rattle.tmw_cuts.proofs.Shared.{Ask, Begin, IsNext, ap, calls_in, found_in, kept_in, length, refl, rules, slice_set, sym, turn_at, ◌∙◌, ◌≡◌}
-use Rattle.tmw_cuts.proofs.Following.{called_by, calls-moved, follows-push}
+use Rattle.tmw_cuts.proofs.Shared.{Answer, Ask, Begin, End, IsNext, None, Some, refl, rules}
+use Rattle.tmw_cuts.proofs.Following.{follows-push}
 use Rattle.tmw_cuts.proofs.Standings.{moves}
-use Rattle.tmw_cuts.proofs.window.Window.follow.Goals.{in-Begin, in-Ask, in-Answer, in-End}
 use Rattle.tmw_cuts.proofs.window.Window.follow.Goals as goal
 
-pub returns-clause-ok : goal.returns-clause-ok
-returns-clause-ok c registers history follows =
-    let e = c.args.event in
-    let old = c.args.self.now in
-    let move = c.in_ok-step.step in
-    let is : IsNext old e move = c.in_ok-step.ensures.ok in
-    let long : length old.turns ≡ 8 = search rules in
-    let called : calls_in (found_in c.match-step.self) ≡ called_by move e.kind
-    = elim c.match-step.branch [
-      | in-Begin w ↦
-          let begins : IsNext old e Begin = rw w.in-Begin.is at is in
-          rw (w.self-is, w.in-Begin.is) (ap calls_in (w.asking.ensures (moves e old Begin begins).is.1))
-      | in-Ask w ↦
-          let asks : IsNext old e (Ask w.in-Ask.place) = rw w.in-Ask.is at is in
-          rw (w.self-is, w.in-Ask.is) (ap calls_in (w.asking-in-Ask.ensures (moves e old (Ask w.in-Ask.place) asks).is.1))
-      | in-Answer w ↦ rw (w.self-is, w.in-Answer.is) refl
-      | in-End w ↦ rw (w.self-is, w.in-End.is) refl
-    ] in
-    follows-push registers history e old _ move c.match-step.self follows is long refl
-    (ap (λ n. slice_set old.turns n c.match-step.self) c.get.ensures.value)
-    (λ n. called ∙ sym (calls-moved (kept_in (turn_at old e.thread.number)) e.kind move n (moves e old move is).is))
+pub returns-in-Begin-clause-ok : goal.returns-in-Begin-clause-ok
+returns-in-Begin-clause-ok c registers history follows =
+    let is : IsNext c.args.self.now c.args.event Begin = rw c.in-Begin.is at c.in_ok-step.ensures.ok in
+    follows-push registers history c.args.event c.args.self.now _ Begin _ follows is (search rules) refl
+    (c.ask.ensures (moves c.args.event c.args.self.now Begin is).is.1) refl
+
+pub returns-in-Ask-clause-ok : goal.returns-in-Ask-clause-ok
+returns-in-Ask-clause-ok c registers history follows =
+    let move = Ask c.in-Ask.place in
+    let is : IsNext c.args.self.now c.args.event move = rw c.in-Ask.is at c.in_ok-step.ensures.ok in
+    follows-push registers history c.args.event c.args.self.now _ move _ follows is (search rules) refl
+    (c.ask-in-Ask.ensures (moves c.args.event c.args.self.now move is).is.1) refl
+
+pub returns-in-Answer-clause-ok : goal.returns-in-Answer-clause-ok
+returns-in-Answer-clause-ok c registers history follows =
+    let p = c.in-Answer.field-0 in
+    let move = Answer p c.in-Answer.field-1 in
+    let is : IsNext c.args.self.now c.args.event move = rw c.in-Answer.is at c.in_ok-step.ensures.ok in
+    let (call, (kept, _)) = (moves c.args.event c.args.self.now move is).is in
+    follows-push registers history c.args.event c.args.self.now _ move (Some (p, None)) follows is (search rules) refl
+    (c.go_on.ensures p (Some call) kept) refl
+
+pub returns-in-End-clause-ok : goal.returns-in-End-clause-ok
+returns-in-End-clause-ok c registers history follows =
+    let move = End c.in-End.field-0 in
+    let is : IsNext c.args.self.now c.args.event move = rw c.in-End.is at c.in_ok-step.ensures.ok in
+    follows-push registers history c.args.event c.args.self.now _ move _ follows is (search rules) refl c.end.ensures refl

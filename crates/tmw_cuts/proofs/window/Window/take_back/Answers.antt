@@ -1,5 +1,5 @@
 -- The thread is where it was, and the transaction has its status again.
-use Rattle.tmw_cuts.proofs.Shared.{Between, Ix, Registers, [], ap, append-nil, arith, cases_Bool, eqb-false, eqb-true, found_in, get_or-set_other, get_or-set_same, inl, inr, is_well_formed, length, next_view, refl, rules, subst, sym, true, views, with_status, ◌==◌, ◌∙◌, ◌≡◌}
+use Rattle.tmw_cuts.proofs.Shared.{Ix, Registers, [], ap, append-nil, arith, between, cases_Bool, eqb-false, eqb-true, found_in, get_or-set_other, get_or-set_same, inl, inr, is_well_formed, length, next_view, refl, rules, subst, sym, true, views, with_status, ◌==◌, ◌∙◌, ◌≡◌}
 use Rattle.tmw_cuts.proofs.Changes.{change-back}
 use Rattle.tmw_cuts.proofs.window.Window.take_back.Goals as goal
 
@@ -16,11 +16,11 @@ returns-clause-stands c before event events place marks ended stands =
       turns = λ other below. elim (cases_Bool (t == other)) [
         | inl same ↦
             let is : t ≡ other = eqb-true t other same in
-            rw (thread, is) (ap found_in (get_or-set_same old.turns other mark.turn Between (omega (arith, below, long)) ∙ marks.turn)
+            rw (thread, is) (ap found_in (get_or-set_same old.turns other mark.turn between (omega (arith, below, long)) ∙ marks.turn)
             ∙ rw is (stands.turns other below))
         | inr away ↦
             let apart : other ≡ t → ⊥ = λ is. eqb-false t other away (sym is) in
-            rw thread (ap found_in (get_or-set_other old.turns t other mark.turn Between apart ∙ rw ended.turns (get_or-set_other before.turns t other Between Between apart))
+            rw thread (ap found_in (get_or-set_other old.turns t other mark.turn between apart ∙ rw ended.turns.1 (get_or-set_other before.turns t other ended.turns.0 between apart))
             ∙ stands.turns other below)
       ];
       shows = c.put_status.ensures.shown old.count old.few ∙ rw (at, ended.shows) (change-back (next_view event.kind []) (with_status mark.status) (views before) place.number

@@ -1,25 +1,28 @@
 -- What was taken at once left the history fine. What was not is of the history as before.
-use Rattle.tmw_monitor.proofs.Shared.{Criterion, Event, Fits, List, Monitor, Open, Rules, StaysKept, [], ap, err_from_is_err_and, so_far, sym, ◌++◌, ◌∙◌, ◌∷◌, ◌≡◌}
+use Rattle.tmw_monitor.proofs.Shared.{Event, Fits, IsTrue, List, Monitor, Open, Rules, StaysKept, [], err_from_is_err_and, false, inl, inr, so_far, sym, true, ◌++◌, ◌∙◌, ◌∷◌, ◌≡◌}
 use Rattle.tmw_monitor.proofs.Feeding.{fits-next, fits-kept}
 use Rattle.tmw_monitor.proofs.OnlyOpen.{keeps_only_open}
-use Rattle.tmw_monitor.proofs.SoFar.{so_far-tells}
-use Rattle.tmw_monitor.proofs.monitor.Monitor.feed.Goals.{else-is_any_so_far-via-then-is_any_so_far+else-take_at_once, else-is_any_so_far-via-else-is_any_so_far}
+use Rattle.tmw_monitor.proofs.SoFar.{so_far-or}
+use Rattle.tmw_monitor.proofs.monitor.Monitor.feed.Goals.{else-is_known-via-then-is_known+else-take_at_once, else-is_known-via-else-is_known}
 use Rattle.tmw_monitor.proofs.monitor.Monitor.feed.Goals as goal
 
-fine-of : (rules : Rules) (history : List Event) (monitor : Monitor) → ((criterion : Criterion) × (monitor.verdict ≡ so_far criterion))
+-- an order is known only while nothing is wrong
+fine-of : (rules : Rules) (history : List Event) (monitor : Monitor) → IsTrue monitor.kept.witness.known
     → Fits rules history monitor → monitor.verdict ≡ so_far monitor.criterion
-fine-of rules history monitor (criterion, is) fits =
-    is ∙ ap so_far (so_far-tells rules history criterion monitor.verdict is fits.judged ∙ sym fits.criterion)
+fine-of rules history monitor known fits = elim (so_far-or monitor.criterion monitor.verdict) [
+  | inl fine ↦ fine
+  | inr final ↦ absurd (let k : true ≡ false = sym known ∙ (fits.forgets final).order in cc)
+]
 
 fits-still : (rules : Rules) (history : List Event) (monitor : Monitor) (kept : Open)
-    → ((criterion : Criterion) × (monitor.verdict ≡ so_far criterion)) → StaysKept monitor.kept kept → Fits rules history monitor
+    → IsTrue monitor.kept.witness.known → StaysKept monitor.kept kept → Fits rules history monitor
     → Fits rules history (record monitor { kept = kept })
-fits-still rules history monitor kept is stays fits =
-    fits-kept rules history monitor kept fits (fine-of rules history monitor is fits) (stays rules history)
+fits-still rules history monitor kept known stays fits =
+    fits-kept rules history monitor kept fits (fine-of rules history monitor known fits) (stays rules history)
 
 pub returns-then-take_at_once-clause-ok : goal.returns-then-take_at_once-clause-ok
 returns-then-take_at_once-clause-ok c judged_by history fits =
-    let fine = fine-of judged_by history c.args.self.now (c.is_any_so_far.ensures c.if-is_any_so_far.true) fits in
+    let fine = fine-of judged_by history c.args.self.now (sym c.is_known.ensures.shown ∙ c.if-is_known.true) fits in
     fits-next judged_by history c.args.event c.args.self.now c.take_at_once.new.kept fits fine
     (c.take_at_once.ensures.taken c.if-take_at_once.true c.args.self.now.criterion judged_by history fits.criterion fits.window fits.states (fits.keeps fine))
 
@@ -29,12 +32,12 @@ returns-then-take_at_once-clause-keeps c judged_by history fits =
 
 -- the monitor that is asked for what can't be taken at once stands for the same histories
 fits-then : (c : goal.After-result-2-1) (rules : Rules) (history : List Event) → Fits rules history c.args.self.now
-    → Fits rules history c.else-is_any_so_far.self
-fits-then c rules history fits = elim c.else-is_any_so_far.branch [
-  | else-is_any_so_far-via-then-is_any_so_far+else-take_at_once w ↦
-      rw w.self-is (fits-still rules history c.args.self.now w.take_at_once.new.kept (c.is_any_so_far.ensures w.if-is_any_so_far.true)
+    → Fits rules history c.else-is_known.self
+fits-then c rules history fits = elim c.else-is_known.branch [
+  | else-is_known-via-then-is_known+else-take_at_once w ↦
+      rw w.self-is (fits-still rules history c.args.self.now w.take_at_once.new.kept (sym c.is_known.ensures.shown ∙ w.if-is_known.true)
       (w.take_at_once.ensures.left w.if-take_at_once.false) fits)
-  | else-is_any_so_far-via-else-is_any_so_far w ↦ rw w.self-is fits
+  | else-is_known-via-else-is_known w ↦ rw w.self-is fits
 ]
 
 pub returns-clause-ok : goal.returns-clause-ok
@@ -44,12 +47,12 @@ pub returns-clause-keeps : goal.returns-clause-keeps
 returns-clause-keeps c judged_by history fits = c.in_ok-take_copy.ensures.keeps judged_by history (fits-then c judged_by history fits)
 
 fits-after : (c : goal.After-from_residual) (rules : Rules) (history : List Event) → Fits rules history c.args.self.now
-    → Fits rules history c.else-is_any_so_far.self
-fits-after c rules history fits = elim c.else-is_any_so_far.branch [
-  | else-is_any_so_far-via-then-is_any_so_far+else-take_at_once w ↦
-      rw w.self-is (fits-still rules history c.args.self.now w.take_at_once.new.kept (c.is_any_so_far.ensures w.if-is_any_so_far.true)
+    → Fits rules history c.else-is_known.self
+fits-after c rules history fits = elim c.else-is_known.branch [
+  | else-is_known-via-then-is_known+else-take_at_once w ↦
+      rw w.self-is (fits-still rules history c.args.self.now w.take_at_once.new.kept (sym c.is_known.ensures.shown ∙ w.if-is_known.true)
       (w.take_at_once.ensures.left w.if-take_at_once.false) fits)
-  | else-is_any_so_far-via-else-is_any_so_far w ↦ rw w.self-is fits
+  | else-is_known-via-else-is_known w ↦ rw w.self-is fits
 ]
 
 pub returns-in_err-take_copy-clause-keeps_err : goal.returns-in_err-take_copy-clause-keeps_err

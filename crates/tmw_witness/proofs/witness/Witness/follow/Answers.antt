@@ -1,6 +1,6 @@
 -- The event's transaction turns, and the order goes on with it, or is not known any more.
 use Rattle.tmw_witness.proofs.Shared.{Answer, Ask, Begin, C, End, IsNext, Some, View, [], ap, append-nil, arith, asked_on, completed_mask, false, found-begun, left_out, length, length-append, moves, new_view, next_view, refl, status_after, sym, true, view, views_of, ◌++◌, ◌∙◌, ◌∷◌, ◌≡◌}
-use Rattle.tmw_witness.proofs.Pushed.{begun-pushed, completed-within, no_commit, turned, turned-shown}
+use Rattle.tmw_witness.proofs.Pushed.{asks-kept, begun-pushed, completed-within, no_commit, turned, turned-shown}
 use Rattle.tmw_witness.proofs.witness.Witness.follow.Goals.{in-C, in_default}
 use Rattle.tmw_witness.proofs.witness.Witness.follow.Goals as goal
 
@@ -13,18 +13,12 @@ returns-in-Begin c = λ starts before events stands next after was.
     let begun = begun-pushed events e before stands begins in
     let on = no_commit e.kind (asked_on e.kind (found-begun events e before stands begins).1) in
     let size = ap length (after.shows ∙ begun) ∙ length-append xs (y ∷ []) in
-    rw begun (c.begin.ensures starts xs y (omega (arith, size, c.count.ensures.shown, c.saturating_sub.ensures)) refl
+    rw begun (c.begin.ensures starts xs y (omega (arith, size, ap length after.shows, c.last.ensures (omega (arith, size)))) refl
     (left_out e.kind on) (λ j one. completed-within xs j one) was)
 
 pub returns-in-Ask : goal.returns-in-Ask
 returns-in-Ask c = λ starts before events stands next after was.
-    let e = c.args.event in
-    let p = c.in-Ask.place in
-    let asks : IsNext before e (Ask p) = rw c.in-Ask.is at next in
-    let (x, turns) = turned events e before (Ask p) p stands asks refl in
-    let on = no_commit e.kind (asked_on e.kind (moves e before (Ask p) asks).is.1) in
-    c.keep.ensures starts (views_of events) (views_of (events ++ e ∷ [])) x (next_view e.kind [] x) (rw (c.from.ensures, c.get.ensures.value) turns)
-    (left_out e.kind on) (λ s reads. rw (append-nil x.ops) reads) was
+    asks-kept c.args.self.now before c.args.event c.in-Ask.field-0 starts events stands (rw c.in-Ask.is at next) was
 
 pub returns-in-Answer : goal.returns-in-Answer
 returns-in-Answer c = λ starts before events stands next after was.
@@ -35,7 +29,7 @@ returns-in-Answer c = λ starts before events stands next after was.
     let (x, turns, is) = turned-shown events e before c.args.window.now (Answer p op) p (view c.slot.result.now) stands answers refl after c.slot.ensures in
     let (call, (kept, (makes, on))) = (moves e before (Answer p op) answers).is in
     let status = ap (λ (v : View). v.status) is in
-    c.answer.ensures starts (views_of events) (views_of (events ++ e ∷ [])) x (rw (c.from-in-Answer.ensures, c.get-in-Answer.ensures.value) turns)
+    c.answer.ensures starts (views_of events) (views_of (events ++ e ∷ [])) x turns
     (rw status (left_out e.kind (no_commit e.kind on))) was
 
 pub returns-then-matches : goal.returns-then-matches
@@ -50,7 +44,7 @@ returns-then-matches c = λ starts before events stands next after was.
       | in_default w ↦ let bad : true ≡ false = sym c.if-matches.true ∙ w.matches-is in absurd (cc)
     ] in
     c.commit.ensures starts (views_of events) (views_of (events ++ e ∷ [])) x
-    (rw (c.from-then-matches.ensures, c.get-then-matches.ensures.value) turns)
+    turns
     (ap (λ (v : View). v.status) is ∙ ap (λ k. status_after (Some k)) commits) (ap (λ (v : View). v.ops) is ∙ append-nil x.ops) was
 
 pub returns-else-matches : goal.returns-else-matches
@@ -63,6 +57,5 @@ returns-else-matches c = λ starts before events stands next after was.
       | in-C w ↦ let bad : true ≡ false = sym w.matches-is ∙ c.if-matches.false in absurd (cc)
       | in_default w ↦ w.in_default.not-C
     ] in
-    c.keep-else-matches.ensures starts (views_of events) (views_of (events ++ e ∷ [])) x (next_view e.kind [] x)
-    (rw (c.from-else-matches.ensures, c.get-else-matches.ensures.value) turns)
-    (left_out e.kind aborts) (λ s reads. rw (append-nil x.ops) reads) was
+    c.abort.ensures starts (views_of events) (views_of (events ++ e ∷ [])) x (next_view e.kind [] x) turns
+    (append-nil x.ops) (left_out e.kind aborts) was

@@ -12,5 +12,5 @@ returns-in-Pending-clause-stands c = λ starts events stands next was.
           let at = slot-shown events c.args.event c.args.window.now (End p) p (view item) stands next refl c.slot-item.ensures in
           let lives : is_over item.status ≡ false = rw c.in-Pending.is refl in
           c.hold-held.ensures.held held starts (views_of events) (views_of events) (view item)
-          (rw (c.from.ensures, c.get.ensures.value) (turns-still events p.number (view item) at lives)) refl (rw c.in-Pending.is refl) was
+          (turns-still events p.number (view item) at lives) refl (rw c.in-Pending.is refl) was
     ]

@@ -1,5 +1,5 @@
 -- The order leads to the state of the highest rank.
-use Rattle.tmw_witness.proofs.Shared.{Contains, Ends, IfSome, None, Option, Some, State, rules, shows-views_of, state_of, subst, sym, transactions}
+use Rattle.tmw_witness.proofs.Shared.{Contains, Ends, IfSome, None, Option, Some, State, rules, shows-views_of, subst, sym, transactions}
 use Rattle.tmw_witness.proofs.Path.{witness-ends}
 use Rattle.tmw_witness.proofs.witness.Witness.known_end.Goals as goal
 
