@@ -438,24 +438,31 @@ has_told 'a lock without a mark: rescues' '"rescues":[1-9]'
 ends 'rescues are told of' 0 grep -q "rescues: the memory waits for what the bench doesn't see" <("$folder/mutex_unseen" --schedule steps \
     --rounds 20 2>&1)
 
-# A first interrupt ends a memory that never returns within a second, and a second one the program.
-interrupts() {
+# A first interrupt ends a memory that never returns within a second, and a second one the program, if the machine has time once in three runs.
+interrupts_once() {
     local began status=0
     env --default-signal=INT "$folder/stuck_$1" --schedule "$2" --patience 0 --trace "$folder/one" >"$folder/printed" 2>&1 &
     sleep 1
     began=$EPOCHREALTIME
     kill -INT $!
-    [ "$1" = SPIN ] || { sleep 0.3 && kill -INT $!; }
+    [ "$1" = SPIN ] || { sleep 0.3 && kill -INT $!; } || echo "it had ended before the second interrupt"
     wait $! || status=$?
-    since "$began" | awk '{ exit !($1 < 1) }'
+    echo "status $status, $(since "$began") seconds after the interrupt"
     cat "$folder/printed"
-    return $status
+    since "$began" | awk '{ exit !($1 < 1) }' && [ $status -eq "$3" ]
+}
+interrupts() {
+    local _
+    for _ in 1 2 3; do
+        ! interrupts_once "$@" || return "$3"
+    done
+    return 1
 }
 paused stuck_SLOW tests/c/bench_stuck.c SLOW "$waits"
 for schedule in rounds permits steps; do
-    ends "an interrupt of a memory that never returns, $schedule" 4 interrupts SPIN $schedule
+    ends "an interrupt of a memory that never returns, $schedule" 4 interrupts SPIN $schedule 4
     has_told "an interrupt of a memory that never returns, $schedule: where" 'has not returned$'
-    ends "two interrupts, $schedule" 130 interrupts SLOW $schedule
+    ends "two interrupts, $schedule" 130 interrupts SLOW $schedule 130
 done
 for fault in 1 2; do
     paused "jumping_$fault" tests/c/bench_jumping.c NONE "-DWRONG=$fault"

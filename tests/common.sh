@@ -56,7 +56,7 @@ ends() {
     else
         echo "$name: FAILED, status $status"
         # (which rows of a script, if its end doesn't show them)
-        head -n -40 "$folder/output" | grep ': FAILED, status' || true
+        head -n -40 "$folder/output" | grep -A 4 ': FAILED, status' || true
         tail -n 40 "$folder/output"
     fi
 }
