@@ -5,7 +5,7 @@ pub mod Keeping
 pub mod Leading
 pub mod Lines
 pub mod Meeting
-pub mod PlayedRounds
+pub mod AllRounds
 pub mod Playing
 pub mod Recording
 pub mod Rounds

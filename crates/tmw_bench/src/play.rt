@@ -2,7 +2,7 @@
 ghost use Rattle.std.specs.Prelude.{IfOk, IfErr};
 ghost use Rattle.tmw_pump.specs.Pumping.{pump_front, pump_in, pump_kept};
 ghost use Rattle.tmw_pump.specs.Keeping.{StaysKept};
-ghost use Rattle.tmw_bench.specs.PlayedRounds.{CanPlay, HasPlayed};
+ghost use Rattle.tmw_bench.specs.AllRounds.{CanPlay, HasPlayed};
 ghost use Rattle.tmw_bench.specs.Playing.{IsOfThreads};
 ghost use Rattle.tmw_runs.specs.Scripts.{scripts_of};
 

@@ -13,7 +13,7 @@ use Rattle.tmw_handles.specs.declared.held_watch.HeldWatch.TheVariants.{Open, Le
 use Rattle.tmw_handles.specs.declared.recorder_handle.RecorderHandle.{RecorderHandle}
 use Rattle.tmw_ring.specs.Ends.{RingIs, WriterIs}
 use Rattle.tmw_watch.specs.Closing.{IsClosed, IsJudged, IsLeft, IsUnjudged, writers_of}
-use Rattle.tmw_watch.specs.Shown.{recorder_count, recorder_ring, rest_of, watch_ring}
+use Rattle.tmw_watch.specs.WatchParts.{recorder_count, recorder_ring, rest_of, watch_ring}
 use Rattle.tmw_watch.specs.declared.closing.Closing.{Closing as WhatIsLeft}
 use Rattle.tmw_watch.specs.declared.recorder.Recorder.{Recorder}
 use Rattle.tmw_watch.specs.declared.report.Report.{Report}

@@ -12,7 +12,7 @@ use Rattle.tmw_pump.specs.Fronts.{TellsVerdict, WasRefusedMemory, judged_of, ver
 use Rattle.tmw_pump.specs.Headline.{GivesHeadline}
 use Rattle.tmw_pump.specs.Pumping.{HasPumped, IsPumped, reader_of}
 use Rattle.tmw_pump.specs.declared.pumped.Pumped.{Pumped}
-use Rattle.tmw_watch.specs.Shown.{watch_front, watch_pump, watch_ring}
+use Rattle.tmw_watch.specs.WatchParts.{watch_front, watch_pump, watch_ring}
 use Rattle.tmw_watch.specs.declared.watch.Watch.{Watch}
 
 -- the number of a verdict; a watch judges by opacity alone, so that 4 is not told

@@ -10,7 +10,7 @@ use Rattle.tmw_pump.specs.Headline.{Headline}
 use Rattle.tmw_pump.specs.Kinds.{kinds_made}
 use Rattle.tmw_runs.specs.Turning.{IsByTurns}
 use Rattle.tmw_watch.specs.Closing.{HasEnded, writers_of}
-use Rattle.tmw_watch.specs.Shown.{writer_of}
+use Rattle.tmw_watch.specs.WatchParts.{writer_of}
 use Rattle.tmw_watch.specs.declared.recorder.Recorder.{Recorder}
 use Rattle.tmw_watch.specs.declared.watch.Watch.{Watch}
 

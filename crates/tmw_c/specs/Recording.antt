@@ -7,7 +7,7 @@ use Rattle.tmw_events.specs.declared.event.Kind.{Kind}
 use Rattle.tmw_handles.specs.declared.held_recorder.HeldRecorder.{HeldRecorder}
 use Rattle.tmw_ring.specs.Recording.{HasRecorded, IsRefusal}
 use Rattle.tmw_ring.specs.declared.refused.Refused.TheVariants.{Full as IsFull, Spent as IsSpent}
-use Rattle.tmw_watch.specs.Shown.{recorder_ring, writer_of}
+use Rattle.tmw_watch.specs.WatchParts.{recorder_ring, writer_of}
 
 -- The status says why no kind is asked for.
 abbrev pub IsUnasked : (registers letter register : ℕ) → Status → Type 0

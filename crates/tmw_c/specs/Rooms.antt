@@ -6,7 +6,7 @@ use Rattle.tmw_c.specs.declared.status.Status.TheVariants.{Done, NoHandle, Full,
 use Rattle.tmw_handles.specs.declared.held_recorder.HeldRecorder.{HeldRecorder}
 use Rattle.tmw_ring.specs.Rooms.{HasFoundRoom, LacksRoom}
 use Rattle.tmw_ring.specs.declared.refused.Refused.TheVariants.{Full as IsFull, Spent as IsSpent}
-use Rattle.tmw_watch.specs.Shown.{writer_of}
+use Rattle.tmw_watch.specs.WatchParts.{writer_of}
 
 -- So many records find room.
 pub record FindsRoom (records : ℕ) (old new : HeldRecorder) : Type 0 where

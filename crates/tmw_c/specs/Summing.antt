@@ -9,7 +9,7 @@ use Rattle.tmw_counts.specs.declared.summary.Summary.{Summary}
 use Rattle.tmw_handles.specs.declared.held_watch.HeldWatch.{HeldWatch}
 use Rattle.tmw_handles.specs.declared.held_watch.HeldWatch.TheVariants.{Open}
 use Rattle.tmw_pump.specs.Fronts.{front_part}
-use Rattle.tmw_watch.specs.Shown.{watch_front}
+use Rattle.tmw_watch.specs.WatchParts.{watch_front}
 use Rattle.tmw_watch.specs.declared.watch.Watch.{Watch}
 
 -- 1 for yes and 0 for no

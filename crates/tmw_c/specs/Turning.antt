@@ -14,7 +14,7 @@ use Rattle.tmw_handles.specs.declared.held_recorder.HeldRecorder.{HeldRecorder}
 use Rattle.tmw_ring.specs.Recording.{HasRecorded}
 use Rattle.tmw_runs.specs.Runs.{is_abort}
 use Rattle.tmw_runs.specs.Turning.{Follows, IsPlaced}
-use Rattle.tmw_watch.specs.Shown.{writer_of}
+use Rattle.tmw_watch.specs.WatchParts.{writer_of}
 
 -- The event brings the transaction of this call from turn to turn: behind whatever brings it to the old turn, it brings it to the new.
 abbrev pub GoesOn : (count : ℕ) → (call recorded : Kind) → (old new : Turn) → Type 0

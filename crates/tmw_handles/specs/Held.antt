@@ -4,7 +4,7 @@ use Rattle.tmw_handles.specs.declared.held_recorder.HeldRecorder.{HeldRecorder}
 use Rattle.tmw_handles.specs.declared.held_watch.HeldWatch.{HeldWatch}
 use Rattle.tmw_handles.specs.declared.recorder_handle.RecorderHandle.{RecorderHandle}
 use Rattle.tmw_handles.specs.declared.watch_handle.WatchHandle.{WatchHandle}
-use Rattle.tmw_watch.specs.Shown.{writer_of}
+use Rattle.tmw_watch.specs.WatchParts.{writer_of}
 
 -- what the handle of a recorder holds, if anything
 abbrev pub recorder_in : RecorderHandle → Option HeldRecorder

@@ -1,6 +1,6 @@
 ghost use Rattle.std.specs.Prelude.{◌≡◌, ◌↔◌, Option, None, Some, IsSome, IsTrue, IfSome, IfNone};
 ghost use Rattle.std.specs.Option.{ForSome};
-ghost use Rattle.tmw_watch.specs.Shown.{writer_of};
+ghost use Rattle.tmw_watch.specs.WatchParts.{writer_of};
 
 use crate::held_recorder::HeldRecorder;
 use crate::parts::Parts;

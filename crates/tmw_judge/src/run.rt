@@ -7,7 +7,7 @@ ghost use Rattle.tmw_judge.specs.Answering.{judged_lines, judged_status, remark_
 ghost use Rattle.tmw_judge.specs.Judging.{JudgesBytes};
 
 use crate::answer::Answer;
-use crate::judging::judge;
+use crate::judge::judge;
 use crate::lines::{judged_lines, remark_of, status_of_reports};
 use crate::options::Options;
 use std::alloc::Global;

@@ -8,7 +8,7 @@ use Rattle.tmw_defs.specs.History.{transactions, is_well_formed}
 use Rattle.tmw_defs.specs.Opaque.{State}
 use Rattle.tmw_defs.specs.Part.{HasOrderBy, IsPart}
 use Rattle.tmw_part.specs.declared.piece.Piece.{Piece}
-use Rattle.tmw_part.specs.declared.search.Search.{Search}
+use Rattle.tmw_part.specs.declared.whole_window.WholeWindow.{WholeWindow}
 use Rattle.tmw_part.specs.Kept.{all_kept, kept_of, without}
 use Rattle.tmw_part.specs.Pieces.{pieces, with_readers}
 use Rattle.tmw_part.specs.Test.{keeps_part}
@@ -71,20 +71,20 @@ FindsPart criterion registers states window marks =
     ⊎ ((IsSearched criterion registers states window → ⊥) × (marks ≡ all_kept window))
 
 -- So it is of what a search is given.
-abbrev pub TellsIn : Search → List Event → Bool → Type 0
+abbrev pub TellsIn : WholeWindow → List Event → Bool → Type 0
 TellsIn s = TellsViolated s.criterion s.registers.number (members s.states.now)
 
-abbrev pub IsPartIn : Search → List Bool → Type 0
+abbrev pub IsPartIn : WholeWindow → List Bool → Type 0
 IsPartIn s = IsViolatedPart s.criterion s.registers.number (members s.states.now) s.events.now
 
-abbrev pub FailsIn : Search → List Bool → Type 0
+abbrev pub FailsIn : WholeWindow → List Bool → Type 0
 FailsIn s = Fails s.criterion s.registers.number (members s.states.now) s.events.now
 
-abbrev pub AreNeededIn : Search → List Bool → List Piece → Type 0
+abbrev pub AreNeededIn : WholeWindow → List Bool → List Piece → Type 0
 AreNeededIn s = AreNeeded s.criterion s.registers.number (members s.states.now) s.events.now
 
-abbrev pub IsNeededIn : Search → List Bool → Piece → Type 0
+abbrev pub IsNeededIn : WholeWindow → List Bool → Piece → Type 0
 IsNeededIn s = IsNeeded s.criterion s.registers.number (members s.states.now) s.events.now
 
-abbrev pub IsMinimalIn : Search → List Bool → Type 0
+abbrev pub IsMinimalIn : WholeWindow → List Bool → Type 0
 IsMinimalIn s = IsMinimalPart s.criterion s.registers.number (members s.states.now) s.events.now

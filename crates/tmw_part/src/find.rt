@@ -9,8 +9,8 @@ use crate::kept_part::is_violated_part;
 use crate::marks::without;
 use crate::piece::{Piece, pieces};
 use crate::readers::with_readers;
-use crate::search::Search;
 use crate::violated::is_violated;
+use crate::whole_window::WholeWindow;
 use std::alloc::{AllocError, Global};
 use tmw_cuts::States;
 use tmw_defs::Criterion;
@@ -21,7 +21,7 @@ pub const MOST_EVENTS: usize = 1_000;
 
 /// What is kept without these pieces, if that is less, and a violated part still.
 fn try_without(
-    search: &Search,
+    search: &WholeWindow,
     pieces: &[Piece],
     marks: &[bool],
 ) -> Result<Option<Vec<bool>>, AllocError>
@@ -46,7 +46,7 @@ fn try_without(
 /// What is kept without the piece, alone or together with the reads of its values, if that is less, and a violated part
 /// still.
 fn try_piece(
-    search: &Search,
+    search: &WholeWindow,
     piece: &Piece,
     marks: &[bool],
 ) -> Result<Option<Vec<bool>>, AllocError>
@@ -68,7 +68,11 @@ fn try_piece(
 
 /// Takes each of the pieces in turn out of what is kept, alone or with the reads of its values, if what is left is a
 /// violated part still. Tells whether it took one.
-fn take_out(search: &Search, pieces: &[Piece], marks: &mut Vec<bool>) -> Result<bool, AllocError>
+fn take_out(
+    search: &WholeWindow,
+    pieces: &[Piece],
+    marks: &mut Vec<bool>,
+) -> Result<bool, AllocError>
     requires few { length (transactions search.now.events.now) ≤ 8 }
     requires part { IsPartIn search.now marks.old.items }
     ensures part { IfOk result (λ _. IsPartIn search.now marks.new.items) }
@@ -90,7 +94,7 @@ fn take_out(search: &Search, pieces: &[Piece], marks: &mut Vec<bool>) -> Result<
 }
 
 /// Takes pieces out of what is kept, until no more can be taken out.
-fn take_all_out(search: &Search, marks: &mut Vec<bool>) -> Result<(), AllocError>
+fn take_all_out(search: &WholeWindow, marks: &mut Vec<bool>) -> Result<(), AllocError>
     requires few { length (transactions search.now.events.now) ≤ 8 }
     requires part { IsPartIn search.now marks.old.items }
     ensures { IfOk result (λ _. IsMinimalIn search.now marks.new.items) }
@@ -123,7 +127,7 @@ pub fn find_part(
     if states.is_empty() || events.len() > MOST_EVENTS {
         return Ok(marks);
     }
-    let search = Search {
+    let search = WholeWindow {
         criterion,
         alloc,
         registers,

@@ -7,9 +7,9 @@ ghost use Rattle.tmw_part.specs.Test.{keeps_part};
 use crate::marks::{are_whole, keeps_last, kept_of, may_miss_all, places_of};
 use crate::part::is_part;
 use crate::piece::push_calls;
-use crate::search::Search;
 use crate::transaction::transactions;
 use crate::violated::is_violated;
+use crate::whole_window::WholeWindow;
 use std::alloc::{AllocError, Global};
 use tmw_events::Event;
 
@@ -40,7 +40,7 @@ fn keeps_part(
 }
 
 /// Tells whether what is kept passes the test of a part of the window, and is violated.
-pub(crate) fn is_violated_part(search: &Search, marks: &[bool]) -> Result<bool, AllocError>
+pub(crate) fn is_violated_part(search: &WholeWindow, marks: &[bool]) -> Result<bool, AllocError>
     requires few { length (transactions search.now.events.now) ≤ 8 }
     requires each { length marks.now ≡ length search.now.events.now }
     ensures is { IfOk result (λ is. IsTrue is → IsPartIn search.now marks.now) }

@@ -9,9 +9,9 @@ mod marks;
 mod part;
 mod piece;
 mod readers;
-mod search;
 mod transaction;
 mod violated;
+mod whole_window;
 
 // The reason: the steps that are tried, which follow, what they come to, and which are needed.
 mod candidates;

@@ -3,8 +3,8 @@ ghost use Rattle.tmw_events.specs.declared.event.Event.{Event};
 ghost use Rattle.tmw_part.specs.Finding.{TellsIn};
 ghost use Rattle.tmw_part.specs.Taking.{AreTaken, AreUnfit};
 
-use crate::search::Search;
 use crate::transaction::MOST_TRANSACTIONS;
+use crate::whole_window::WholeWindow;
 use std::alloc::AllocError;
 use tmw_cuts::Window;
 use tmw_events::{Event, Registers};
@@ -45,7 +45,7 @@ fn window_of(registers: Registers, events: &[Event]) -> Option<Window>
 
 /// Tells whether these events are violated: they are well-formed, have at most eight transactions, and these have no
 /// serial order from any of the states.
-pub(crate) fn is_violated(search: &Search, events: &[Event]) -> Result<bool, AllocError>
+pub(crate) fn is_violated(search: &WholeWindow, events: &[Event]) -> Result<bool, AllocError>
     ensures { IfOk result (TellsIn search.now events.now) }
 {
     let Some(window) = window_of(search.registers, events) else {

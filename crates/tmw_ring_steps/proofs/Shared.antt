@@ -8,4 +8,4 @@ pub use Rattle.tmw_ring_defs.specs.declared.ring_step.Reply.{Reply}
 pub use Rattle.tmw_ring_defs.specs.declared.ring_step.Step.{Step}
 pub use Rattle.tmw_ring_steps.specs.RingState.{core_of, machine_of}
 pub use Rattle.tmw_ring_steps.specs.Runs.{GoesOnAsOneLog, RanFirst}
-pub use Rattle.tmw_ring_steps.specs.Simulated.{Simulated}
+pub use Rattle.tmw_ring_steps.specs.SimulatedRing.{SimulatedRing}

@@ -1,4 +1,4 @@
 pub mod NewSim
 pub mod RingState
 pub mod Runs
-pub mod Simulated
+pub mod SimulatedRing

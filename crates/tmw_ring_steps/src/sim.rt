@@ -18,9 +18,9 @@ pub struct Sim {
 }
 
 impl Model for Sim {
-    ghost use Rattle.tmw_ring_steps.specs.Simulated.{Simulated};
+    ghost use Rattle.tmw_ring_steps.specs.SimulatedRing.{SimulatedRing};
 
-    ghost Value = { Simulated };
+    ghost Value = { SimulatedRing };
 
     ghost use Rattle.tmw_ring_defs.specs.RingSound.{Sound};
     ghost use Rattle.tmw_ring_steps.specs.RingState.{core_of, machine_of};

@@ -1,7 +1,7 @@
 -- A text names its size and its steps: two lists of steps with one text are one list.
 use Rattle.tmw_steps.proofs.Shared.{steps_grammar, sym, ◌∙◌}
 use Rattle.tmw_lines.proofs.TextNames.{lines_text-injective}
-use Rattle.tmw_steps.specs.Naming.{StepsLaw}
+use Rattle.tmw_steps.specs.Law.{StepsLaw}
 use Rattle.tmw_steps.specs.StepsNaming.{steps_naming}
 
 pub steps_law : StepsLaw

@@ -1,5 +1,5 @@
 pub mod Lengths
-pub mod Naming
+pub mod Law
 pub mod ReplyText
 pub mod Running
 pub mod StepText

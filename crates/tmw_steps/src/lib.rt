@@ -1,7 +1,7 @@
 //! The command `steps`: reads a list of a ring's steps, makes them on a new ring's machine, and writes the replies.
 #![tactic(auto)]
 
-mod naming;
+mod law;
 mod reader;
 mod reply_line;
 mod run;
@@ -11,7 +11,7 @@ mod step_lines;
 mod step_list;
 mod steps_format;
 
-pub use naming::law_steps;
+pub use law::law_steps;
 pub use reader::read_steps;
 pub use reply_line::put_replies;
 pub use run::{Run, run_steps};

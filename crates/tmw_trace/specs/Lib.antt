@@ -1,6 +1,6 @@
 pub mod KindTexts
 pub mod Lengths
-pub mod Naming
+pub mod Law
 pub mod Start
 pub mod Text
 pub mod TextNames

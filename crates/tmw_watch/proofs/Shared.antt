@@ -14,5 +14,5 @@ pub use Rattle.tmw_ring.specs.Ends.{ReaderIs, RingIs, WriterIs, WriterOf}
 pub use Rattle.tmw_ring.specs.Settling.{AreInOrder, IsSettled}
 pub use Rattle.tmw_watch.specs.Closing.{AreAll, AreNotAll, HasEnded, IsClosed, IsJudged, IsLeft, IsMissing, IsUnjudged, writers_of}
 pub use Rattle.tmw_watch.specs.Opening.{AreOf, IsNewRecorder}
-pub use Rattle.tmw_watch.specs.Shown.{rest_of, watch_pump}
+pub use Rattle.tmw_watch.specs.WatchParts.{rest_of, watch_pump}
 pub use Rattle.tmw_watch.specs.declared.recorder.Recorder.{Recorder}

@@ -11,7 +11,7 @@ use Rattle.tmw_pump.specs.Resting.{RestIs, all_of, rest_front}
 use Rattle.tmw_ring.specs.Ends.{WriterIs}
 use Rattle.tmw_ring.specs.Settling.{AreInOrder, IsSettled}
 use Rattle.tmw_watch.specs.Opening.{AreOf}
-use Rattle.tmw_watch.specs.Shown.{recorder_count, rest_of, watch_front, watch_pump, watch_ring, writer_of}
+use Rattle.tmw_watch.specs.WatchParts.{recorder_count, rest_of, watch_front, watch_pump, watch_ring, writer_of}
 use Rattle.tmw_watch.specs.declared.close_error.CloseError.{CloseError}
 use Rattle.tmw_watch.specs.declared.close_error.CloseError.TheVariants.{Missing, Memory, Shared, Unjudged}
 use Rattle.tmw_watch.specs.declared.recorder.Recorder.{Recorder}

@@ -1,3 +1,3 @@
 pub mod Closing
 pub mod Opening
-pub mod Shown
+pub mod WatchParts

@@ -6,7 +6,7 @@ use Rattle.tmw_ring.specs.NewRing.{IsNewWriter}
 use Rattle.tmw_ring_defs.specs.Sizes.{HasNumbers}
 use Rattle.tmw_pump.specs.Fronts.{held_of, judged_of, monitor_of}
 use Rattle.tmw_pump.specs.Pumping.{reader_of}
-use Rattle.tmw_watch.specs.Shown.{recorder_ring, watch_front, watch_pump, watch_ring, writer_of}
+use Rattle.tmw_watch.specs.WatchParts.{recorder_ring, watch_front, watch_pump, watch_ring, writer_of}
 use Rattle.tmw_watch.specs.declared.recorder.Recorder.{Recorder}
 use Rattle.tmw_watch.specs.declared.settings.Settings.{Settings}
 use Rattle.tmw_watch.specs.declared.watch.Watch.{Watch}

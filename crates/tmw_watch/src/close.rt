@@ -7,7 +7,7 @@ ghost use Rattle.tmw_ring.specs.Ends.{WriterOf};
 ghost use Rattle.tmw_ring.specs.Settling.{AreInOrder, IsSettled};
 ghost use Rattle.tmw_watch.specs.Closing.{AreAll, HasEnded, IsClosed, IsUnclosed, writers_of};
 ghost use Rattle.tmw_watch.specs.Opening.{AreOf};
-ghost use Rattle.tmw_watch.specs.Shown.{recorder_count, rest_of, watch_front, watch_pump, watch_ring};
+ghost use Rattle.tmw_watch.specs.WatchParts.{recorder_count, rest_of, watch_front, watch_pump, watch_ring};
 
 use crate::close_error::CloseError;
 use crate::closing::Closing;

@@ -2,7 +2,7 @@
 ghost use Rattle.std.specs.Prelude.{◌≡◌, IfOk, IfErr};
 ghost use Rattle.tmw_pump.specs.Resting.{rest_in};
 ghost use Rattle.tmw_watch.specs.Closing.{IsJudged, IsUnjudged};
-ghost use Rattle.tmw_watch.specs.Shown.{rest_of};
+ghost use Rattle.tmw_watch.specs.WatchParts.{rest_of};
 
 use crate::report::Report;
 use tmw_pump::Rest;

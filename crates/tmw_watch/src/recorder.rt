@@ -19,7 +19,7 @@ pub struct Recorder {
 }
 
 impl Recorder {
-    ghost use Rattle.tmw_watch.specs.Shown.{recorder_ring, writer_of};
+    ghost use Rattle.tmw_watch.specs.WatchParts.{recorder_ring, writer_of};
 
     /// Makes a recorder that records by this writer of the ring.
     pub(crate) fn new(ring: Arc<Ring, Global>, writer: Writer) -> Recorder

@@ -27,7 +27,7 @@ pub struct Watch {
 }
 
 impl Watch {
-    ghost use Rattle.tmw_watch.specs.Shown.{watch_front, watch_pump, watch_ring};
+    ghost use Rattle.tmw_watch.specs.WatchParts.{watch_front, watch_pump, watch_ring};
 
     /// Takes and judges up to `most` events, in the order of their places: fewer only if the next place has no event
     /// yet. It never waits for one. After a failed allocation the event to be judged is held, and the next call

@@ -1,4 +1,4 @@
-use Rattle.tmw_ring_steps.proofs.Shared.{Machine, Simulated, Sound, ap, new_core-sound, subst, sym}
+use Rattle.tmw_ring_steps.proofs.Shared.{Machine, SimulatedRing, Sound, ap, new_core-sound, subst, sym}
 use Rattle.tmw_ring_steps.proofs.sim.Sim.new.Goals as goal
 
 pub invariant_of-result : goal.invariant_of-result
@@ -8,5 +8,5 @@ invariant_of-result c =
 
 pub returns : goal.returns
 returns c =
-    let made : Machine → Simulated = λ machine. record { machine = machine; made = 0 } in
+    let made : Machine → SimulatedRing = λ machine. record { machine = machine; made = 0 } in
     (c.in_ok-size.size, c.in_ok-size.ensures.ok, ap made c.in_ok-state.ensures)

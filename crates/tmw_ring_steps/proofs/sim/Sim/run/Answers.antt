@@ -1,4 +1,4 @@
-use Rattle.tmw_ring_steps.proofs.Shared.{List, RanFirst, Reply, Simulated, Sound, Step, [], after, ap, arith, subst, sym, take, take_all, take_more, ◌++◌, ◌+◌, ◌∙◌, ◌∷◌, ◌≡◌}
+use Rattle.tmw_ring_steps.proofs.Shared.{List, RanFirst, Reply, SimulatedRing, Sound, Step, [], after, ap, arith, subst, sym, take, take_all, take_more, ◌++◌, ◌+◌, ◌∙◌, ◌∷◌, ◌≡◌}
 use Rattle.std.proofs.lemmas.Result.{err_from_is_err_and}
 use Rattle.tmw_ring_steps.proofs.Runs.{HasRun, run-more, run-none, goes_on, ran_first}
 use Rattle.tmw_ring_steps.proofs.sim.Sim.run.Goals as goal
@@ -6,15 +6,15 @@ use Rattle.tmw_ring_steps.proofs.sim.Sim.run.Goals as goal
 pub returns-in_err-said-clause-err : goal.returns-in_err-said-clause-err
 returns-in_err-said-clause-err c =
     let p = err_from_is_err_and c.from_residual.result c.from_residual.ensures.1 in
-    let IsSound : Simulated → Type 0 = λ sim. Sound sim.machine.core in
+    let IsSound : SimulatedRing → Type 0 = λ sim. Sound sim.machine.core in
     let sim = c.args.self.now in
     rw p.1 (ran_first sim c.args.steps.now 0 [] sim (subst IsSound c.self.view_is c.self.invariant) (omega arith) (run-none sim))
 
 pub returns-in_err-step-clause-err : goal.returns-in_err-step-clause-err
 returns-in_err-step-clause-err c =
     let p = err_from_is_err_and c.from_residual-in_err-step.result c.from_residual-in_err-step.ensures.1 in
-    let IsSound : Simulated → Type 0 = λ sim. Sound sim.machine.core in
-    let Stopped : Simulated → Type 0 = λ sim. RanFirst c.args.self.now c.args.steps.now sim in
+    let IsSound : SimulatedRing → Type 0 = λ sim. Sound sim.machine.core in
+    let Stopped : SimulatedRing → Type 0 = λ sim. RanFirst c.args.self.now c.args.steps.now sim in
     rw p.1
     (subst Stopped (sym c.in_err-step.ensures.err)
     (ran_first c.args.self.now c.args.steps.now c.loop-step.step-index c.loop-step.said.items c.loop-step.self
@@ -41,7 +41,7 @@ loop-step-preserved c =
 
 pub returns-clause-one_log : goal.returns-clause-one_log
 returns-clause-one_log c =
-    let IsSound : Simulated → Type 0 = λ sim. Sound sim.machine.core in
+    let IsSound : SimulatedRing → Type 0 = λ sim. Sound sim.machine.core in
     let whole = take_all c.loop-step.step-index c.args.steps.now c.loop-step-test.false in
     goes_on c.args.self.now.machine c.args.steps.now c.loop-step.self.machine (subst IsSound c.self.view_is c.self.invariant)
     (c.loop-step.invariant.0.reached ∙ ap (λ steps. after steps c.args.self.now.machine) whole)

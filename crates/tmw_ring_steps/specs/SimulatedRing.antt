@@ -2,6 +2,6 @@
 use Rattle.std.specs.Prelude.{ℕ}
 use Rattle.tmw_ring_defs.specs.RingMachine.{Machine}
 
-pub record Simulated : Type 0 where
+pub record SimulatedRing : Type 0 where
   pub machine : Machine
   pub made : ℕ

@@ -1,4 +1,4 @@
-use Rattle.tmw_judge.proofs.judging.feed_for.Goals as goal
+use Rattle.tmw_judge.proofs.judge.feed_for.Goals as goal
 
 pub returns-then-first-clause-feeds : goal.returns-then-first-clause-feeds
 returns-then-first-clause-feeds g c = rw c.if-first.true c.feed_first.ensures.feeds

@@ -1,6 +1,6 @@
 -- Each monitor reports on the history that it was fed, and the counter on the part that is counted.
 use Rattle.tmw_judge.proofs.Answered.{answer-fed}
-use Rattle.tmw_judge.proofs.judging.judge_by.Goals as goal
+use Rattle.tmw_judge.proofs.judge.judge_by.Goals as goal
 
 pub returns-clause-right : goal.returns-clause-right
 returns-clause-right g c =

@@ -1,7 +1,7 @@
 -- A trace is begun, and its events are fed.
 use Rattle.tmw_judge.proofs.Shared.{arith}
 use Rattle.tmw_judge.proofs.FedFor.{fed-unbegun, fed-done, fed-fault}
-use Rattle.tmw_judge.proofs.judging.feed_judges.Goals as goal
+use Rattle.tmw_judge.proofs.judge.feed_judges.Goals as goal
 
 pub returns-in-Err-clause-right : goal.returns-in-Err-clause-right
 returns-in-Err-clause-right g c =

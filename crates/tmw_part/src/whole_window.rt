@@ -5,7 +5,7 @@ use tmw_events::{Event, Registers};
 
 /// Where a part that is violated is searched: the events of a window, from the states before it and by the criterion.
 #[derive(Drop)]
-pub(crate) struct Search<'a> {
+pub(crate) struct WholeWindow<'a> {
     pub criterion: Criterion,
     pub alloc: Global,
     pub registers: Registers,

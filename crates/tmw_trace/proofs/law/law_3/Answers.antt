@@ -2,7 +2,7 @@ use Rattle.tmw_trace.proofs.Shared.{trace_grammar}
 use Rattle.tmw_events.proofs.PackedWords.{pack-injective}
 use Rattle.tmw_lines.proofs.TextNames.{lines_text-injective}
 use Rattle.tmw_trace.specs.TextNames.{trace_naming}
-use Rattle.tmw_trace.proofs.naming.law_3.Goals as goal
+use Rattle.tmw_trace.proofs.law.law_3.Goals as goal
 
 pub returns-clause-texts : goal.returns-clause-texts
 returns-clause-texts c =

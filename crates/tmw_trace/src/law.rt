@@ -1,4 +1,4 @@
-ghost use Rattle.tmw_trace.specs.Naming.{TextsNameTraces, PairsNameEvents};
+ghost use Rattle.tmw_trace.specs.Law.{TextsNameTraces, PairsNameEvents};
 
 /// Proves unique readability of texts and of packed words.
 ///

@@ -1,6 +1,6 @@
 -- A trace is begun where its first line is read, and nothing is counted yet.
 use Rattle.tmw_judge.proofs.CountedParts.{judged-nothing}
-use Rattle.tmw_judge.proofs.judging.begin.Goals as goal
+use Rattle.tmw_judge.proofs.judge.begin.Goals as goal
 
 pub returns-clause-begins : goal.returns-clause-begins
 returns-clause-begins g c =
