@@ -1,5 +1,5 @@
 -- What is read where the events of a trace are fed to its judges as their lines are read, and what the judges have taken of it.
-use Rattle.std.specs.Prelude.{◌≡◌, ◌⊎◌, ℕ, Result, Ok, Err, List, [], ◌∷◌, ◌++◌, length}
+use Rattle.std.specs.Prelude.{◌≡◌, ◌⊎◌, ℕ, Result, Ok, Err, OnOk, OnErr, List, [], ◌∷◌, ◌++◌, length}
 use Rattle.tmw_lines.specs.ItemsRead.{EndsBehind, FailsHolding, StopsBehind}
 use Rattle.tmw_lines.specs.Lines.{HasRead, unread_bytes}
 use Rattle.tmw_lines.specs.Text.{HoldsFront}
@@ -37,6 +37,13 @@ IsFirstFed header bounds asked history event (Both opacity strict) =
 abbrev pub LackEvent : Header → Bounds → Asked → List Event → Event → ByCriterion Monitor → Type 0
 LackEvent header bounds asked history event monitors =
     AreFed header bounds asked history monitors ⊎ IsFirstFed header bounds asked history event monitors
+
+-- From the one to the other each monitor has been fed the event, or after a failed allocation none has, or of two the first alone.
+pub record FeedsEach {Done Refusal : Type 0} (old new : ByCriterion Monitor) (event : Event) (result : Result Done Refusal) : Type 0 where
+  pub fed : OnOk result ((header : Header) (bounds : Bounds) (asked : Asked) (history : List Event)
+      → AreFed header bounds asked history old → AreFed header bounds asked (history ++ event ∷ []) new)
+  pub refused : OnErr result ((header : Header) (bounds : Bounds) (asked : Asked) (history : List Event)
+      → AreFed header bounds asked history old → LackEvent header bounds asked history event new)
 
 -- From the one to the other the judges have been fed these events.
 abbrev pub TakeEvents : {C : Type 0} → CountsFor C → Judges C → List Event → Judges C → Type 0

@@ -9,14 +9,10 @@ use tmw_monitor::Monitor;
 /// Counts the events of a history, one after another, and feeds them to monitors. Its type tells what these mostly judge by, so that
 /// their steps are inlined into the reading of each kind's line, and an event is no value in memory.
 pub trait Counting: Drop {
-    ghost use Rattle.std.specs.Prelude.{◌<◌, ◌-◌, ◌^◌, ℕ, Bool, List, [], ◌∷◌, ◌++◌, OnOk, OnErr, length, IsTrue, IsFalse};
-    ghost use Rattle.tmw_defs.specs.declared.criterion.Asked.{Asked};
+    ghost use Rattle.std.specs.Prelude.{◌<◌, ◌-◌, ◌^◌, ℕ, Bool, List, [], ◌∷◌, ◌++◌, length, IsTrue, IsFalse};
     ghost use Rattle.tmw_monitor.specs.Monitor.{fed_of};
-    ghost use Rattle.tmw_monitor.specs.declared.bounds.Bounds.{Bounds};
-    ghost use Rattle.tmw_trace.specs.declared.header.Header.{Header};
     ghost use Rattle.tmw_judge.specs.ByCriterion.{Each};
-    ghost use Rattle.tmw_judge.specs.Feeding.{LackEvent};
-    ghost use Rattle.tmw_judge.specs.Judging.{AreFed};
+    ghost use Rattle.tmw_judge.specs.Feeding.{FeedsEach};
     ghost use Rattle.tmw_defs.specs.History.{is_well_formed};
     ghost use Rattle.tmw_events.specs.declared.event.Event.{Event};
     ghost use Rattle.tmw_judge.specs.Counted.{HasSummary};
@@ -45,14 +41,7 @@ pub trait Counting: Drop {
     /// Feeds an event to each monitor. After a failed allocation none has taken it, or of two the first alone.
     fn feed(monitors: &mut ByCriterion<Monitor>, event: Event) -> Result<(), AllocError>
         requires { Each (λ _ monitor. fed_of monitor < 2 ^ 40) monitors.old }
-        ensures fed { OnOk result
-            ((header : Header) (bounds : Bounds) (asked : Asked) (history : List Event)
-            → AreFed header bounds asked history monitors.old
-            → AreFed header bounds asked (history ++ event ∷ []) monitors.new) }
-        ensures refused { OnErr result
-            ((header : Header) (bounds : Bounds) (asked : Asked) (history : List Event)
-            → AreFed header bounds asked history monitors.old
-            → LackEvent header bounds asked history event monitors.new) };
+        ensures { FeedsEach monitors.old monitors.new event result };
 
     /// Returns what the counted history has shown, if it counts.
     fn summary(&self) -> Option<Summary>

@@ -1,6 +1,6 @@
 ghost use Rattle.std.specs.Prelude.{◌≡◌, ◌≢◌, ◌++◌, IfErr, OnOk};
 ghost use Rattle.tmw_lines.specs.Lines.{IsOver, HasFailed};
-ghost use Rattle.tmw_lines.specs.TextFault.{failures_after};
+ghost use Rattle.tmw_lines.specs.TextFault.{reading_failures};
 ghost use Rattle.tmw_lines.specs.declared.text_fault.TextFault.TheVariants.{Memory};
 ghost use Rattle.tmw_judge.specs.Feeding.{AreFedAllRead, AreFedSoMany, FeedsEvents, TakeEvents, LackAnEvent};
 ghost use Rattle.std.proofs.Common.{append_assoc, append-nil};
@@ -49,9 +49,8 @@ pub fn feed_events<S: Source, C: Counting>(
     requires { AreFedAllRead C.counts lines.old judges.old }
     ensures feeds { FeedsEvents S.from C.counts (S.from.ended source.new) source.old source.new
         lines.old lines.new judges.old judges.new result }
-    ensures well { OnOk result (S.from.failures source.new ≡ S.from.failures source.old) }
-    ensures failed { IfErr result
-        (λ fault. S.from.failures source.new ≡ failures_after fault (S.from.failures source.old)) }
+    ensures failures { S.from.failures source.new ≡ reading_failures result
+        (S.from.failures source.old) }
     ensures over { OnOk result (IsOver lines.new) }
     ensures stays { IfErr result (λ fault. fault ≢ Memory → HasFailed lines.new fault) }
 {

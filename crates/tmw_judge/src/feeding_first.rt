@@ -1,5 +1,5 @@
 ghost use Rattle.std.specs.Prelude.{◌≡◌, IfErr, OnOk};
-ghost use Rattle.tmw_lines.specs.TextFault.{failures_after};
+ghost use Rattle.tmw_lines.specs.TextFault.{reading_failures};
 ghost use Rattle.tmw_judge.specs.Feeding.{AreFedAllRead};
 ghost use Rattle.tmw_judge.specs.FeedingFirst.{FeedsFirst};
 
@@ -21,9 +21,8 @@ pub fn feed_first<S: Source, C: Counting>(
     requires { AreFedAllRead C.counts lines.old judges.old }
     ensures feeds { FeedsFirst S.from C.counts (S.from.ended source.new) source.old source.new
         lines.old lines.new judges.old judges.new result }
-    ensures well { OnOk result (S.from.failures source.new ≡ S.from.failures source.old) }
-    ensures failed { IfErr result
-        (λ fault. S.from.failures source.new ≡ failures_after fault (S.from.failures source.old)) }
+    ensures failures { S.from.failures source.new ≡ reading_failures result
+        (S.from.failures source.old) }
 {
     while any_open(&judges.monitors) {
         match lines.next(source) {

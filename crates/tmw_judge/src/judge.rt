@@ -1,7 +1,7 @@
 ghost use Rattle.std.specs.Prelude.{◌≡◌, ℕ, List, IfErr, OnOk};
 ghost use Rattle.tmw_streams.specs.Told.{Tells};
 ghost use Rattle.tmw_lines.specs.Lines.{IsNew};
-ghost use Rattle.tmw_lines.specs.TextFault.{failures_after};
+ghost use Rattle.tmw_lines.specs.TextFault.{reading_failures};
 ghost use Rattle.tmw_judge.specs.Answering.{Answers, AnswersBy};
 ghost use Rattle.tmw_judge.specs.Feeding.{AreFedAllRead, ReadsBeginning};
 ghost use Rattle.tmw_judge.specs.FeedingFirst.{AnswersFed, FeedsFor};
@@ -108,9 +108,8 @@ fn feed_for<S: Source, C: Counting>(
     requires { AreFedAllRead C.counts lines.old judges.old }
     ensures feeds { FeedsFor first S.from C.counts (S.from.ended source.new) source.old source.new
         lines.old lines.new judges.old judges.new result }
-    ensures well { OnOk result (S.from.failures source.new ≡ S.from.failures source.old) }
-    ensures failed { IfErr result
-        (λ fault. S.from.failures source.new ≡ failures_after fault (S.from.failures source.old)) }
+    ensures failures { S.from.failures source.new ≡ reading_failures result
+        (S.from.failures source.old) }
 {
     if first {
         feed_first(lines, source, judges)
@@ -131,9 +130,8 @@ fn begin<S: Source, C: Counting>(
     requires { IsNew lines.old }
     ensures begins { ReadsBeginning S.from C.counts (S.from.ended source.new) source.old source.new
         lines.new bounds asked result }
-    ensures well { OnOk result (S.from.failures source.new ≡ S.from.failures source.old) }
-    ensures failed { IfErr result
-        (λ fault. S.from.failures source.new ≡ failures_after fault (S.from.failures source.old)) }
+    ensures failures { S.from.failures source.new ≡ reading_failures result
+        (S.from.failures source.old) }
 {
     let header = match lines.header(source) {
         Ok(header) => header,

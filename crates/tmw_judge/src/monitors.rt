@@ -1,5 +1,5 @@
 //! The monitors that judge a trace: one for each requested criterion.
-ghost use Rattle.std.specs.Prelude.{◌≡◌, ◌<◌, ◌^◌, List, [], ◌∷◌, ◌++◌, IfOk, OnOk, OnErr};
+ghost use Rattle.std.specs.Prelude.{◌≡◌, ◌<◌, ◌^◌, List, [], ◌∷◌, ◌++◌, IfOk};
 ghost use Rattle.tmw_defs.specs.Verdict.{Rules};
 ghost use Rattle.tmw_defs.specs.declared.criterion.Asked.{Asked};
 ghost use Rattle.tmw_events.specs.declared.event.Event.{Event};
@@ -10,7 +10,7 @@ ghost use Rattle.tmw_monitor.specs.declared.bounds.Bounds.{Bounds};
 ghost use Rattle.tmw_trace.specs.declared.header.Header.{Header};
 ghost use Rattle.tmw_judge.specs.ByCriterion.{Each};
 ghost use Rattle.tmw_judge.specs.Counted.{any_open, verdicts_of};
-ghost use Rattle.tmw_judge.specs.Feeding.{LackEvent};
+ghost use Rattle.tmw_judge.specs.Feeding.{FeedsEach};
 ghost use Rattle.tmw_judge.specs.Judging.{AreFed, AreReports, IsReportOn, trace_rules};
 
 use crate::by_criterion::ByCriterion;
@@ -77,14 +77,7 @@ pub fn any_open(monitors: &ByCriterion<Monitor>) -> bool
 #[inline(always)]
 pub fn feed_copy(monitors: &mut ByCriterion<Monitor>, event: Event) -> Result<(), AllocError>
     requires { Each (λ _ monitor. fed_of monitor < 2 ^ 40) monitors.old }
-    ensures fed { OnOk result
-        ((header : Header) (bounds : Bounds) (asked : Asked) (history : List Event)
-        → AreFed header bounds asked history monitors.old
-        → AreFed header bounds asked (history ++ event ∷ []) monitors.new) }
-    ensures refused { OnErr result
-        ((header : Header) (bounds : Bounds) (asked : Asked) (history : List Event)
-        → AreFed header bounds asked history monitors.old
-        → LackEvent header bounds asked history event monitors.new) }
+    ensures { FeedsEach monitors.old monitors.new event result }
 {
     // A copy for the call alone, so that the event mostly stays in registers of the processor.
     let copied = Event {
@@ -98,14 +91,7 @@ pub fn feed_copy(monitors: &mut ByCriterion<Monitor>, event: Event) -> Result<()
 #[inline(never)]
 fn feed_each(monitors: &mut ByCriterion<Monitor>, event: Event) -> Result<(), AllocError>
     requires { Each (λ _ monitor. fed_of monitor < 2 ^ 40) monitors.old }
-    ensures fed { OnOk result
-        ((header : Header) (bounds : Bounds) (asked : Asked) (history : List Event)
-        → AreFed header bounds asked history monitors.old
-        → AreFed header bounds asked (history ++ event ∷ []) monitors.new) }
-    ensures refused { OnErr result
-        ((header : Header) (bounds : Bounds) (asked : Asked) (history : List Event)
-        → AreFed header bounds asked history monitors.old
-        → LackEvent header bounds asked history event monitors.new) }
+    ensures { FeedsEach monitors.old monitors.new event result }
 {
     match monitors {
         ByCriterion::Opacity(monitor) => {

@@ -1,5 +1,5 @@
 -- Which fault a text of lines has. Lines are judged in order, and the first fault counts.
-use Rattle.std.specs.Prelude.{◌≡◌, ◌≢◌, ℕ, ◌+◌, ◌<◌, ◌≤◌, ◌^◌, ◌⊎◌, List, [], ◌++◌, length}
+use Rattle.std.specs.Prelude.{◌≡◌, ◌≢◌, ℕ, ◌+◌, ◌<◌, ◌≤◌, ◌^◌, ◌⊎◌, Result, Ok, Err, List, [], ◌++◌, length}
 use Rattle.tmw_lines.specs.Grammar.{Grammar, lines_text, AreLines, IsNoHeader, IsNoItem}
 use Rattle.tmw_lines.specs.Parts.{IsFree}
 use Rattle.tmw_lines.specs.Text.{line}
@@ -99,3 +99,8 @@ HasFirstLineFault grammar Ended bytes Memory = ⊥
 abbrev pub failures_after : TextFault → ℕ → ℕ
 failures_after Io count = one_more count
 failures_after _ count = count
+
+-- how many reads have failed then, after so many before, if this came of reading
+abbrev pub reading_failures : {T : Type 0} → Result T TextFault → ℕ → ℕ
+reading_failures (Ok found) count = count
+reading_failures (Err fault) count = failures_after fault count

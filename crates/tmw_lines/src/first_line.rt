@@ -2,7 +2,7 @@ ghost use Rattle.std.specs.Prelude.{◌≡◌, ◌+◌, ◌∷◌, ◌++◌, tak
 ghost use Rattle.tmw_lines.specs.Held.{bytes_of};
 ghost use Rattle.tmw_lines.specs.LineRead.{ReadsHeader};
 ghost use Rattle.tmw_lines.specs.Text.{line};
-ghost use Rattle.tmw_lines.specs.TextFault.{IsUnbroken, HasBadHeader, failures_after};
+ghost use Rattle.tmw_lines.specs.TextFault.{IsUnbroken, HasBadHeader, reading_failures};
 
 use crate::held::Held;
 use crate::line_format::LineFormat;
@@ -18,9 +18,8 @@ pub fn first_line<F: LineFormat, S: Source>(
 ) -> Result<F::Header, TextFault>
     ensures reads { ReadsHeader F.grammar S.from (S.from.ended source.new) source.old source.new
         (bytes_of held.old) (bytes_of held.new) result }
-    ensures well { OnOk result (S.from.failures source.new ≡ S.from.failures source.old) }
-    ensures failed { IfErr result
-        (λ fault. S.from.failures source.new ≡ failures_after fault (S.from.failures source.old)) }
+    ensures failures { S.from.failures source.new ≡ reading_failures result
+        (S.from.failures source.old) }
 {
     match next_piece(held, source) {
         Piece::Line(length) => match take_header::<F>(held, length) {

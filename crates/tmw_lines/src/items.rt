@@ -2,7 +2,7 @@ ghost use Rattle.std.specs.Prelude.{◌≡◌, ◌≢◌, ◌≤◌, length, vec
 ghost use Rattle.tmw_lines.specs.ItemsGiven.{GivesAll};
 ghost use Rattle.tmw_lines.specs.ItemsRead.{HasBegunToRead, ReadsItems};
 ghost use Rattle.tmw_lines.specs.Lines.{IsOver, HasFailed, items_given};
-ghost use Rattle.tmw_lines.specs.TextFault.{failures_after};
+ghost use Rattle.tmw_lines.specs.TextFault.{reading_failures};
 ghost use Rattle.tmw_lines.specs.declared.text_fault.TextFault.TheVariants.{Memory};
 
 use crate::line_format::LineFormat;
@@ -24,9 +24,8 @@ pub fn give_items<F: LineFormat, S: Source, T: Taker<F::Item>>(
     ensures gives { GivesAll F.grammar S.from (S.from.ended source.new) T.takes T.lacks source.old
         source.new lines.old
         lines.new taker.old taker.new result }
-    ensures well { OnOk result (S.from.failures source.new ≡ S.from.failures source.old) }
-    ensures failed { IfErr result
-        (λ fault. S.from.failures source.new ≡ failures_after fault (S.from.failures source.old)) }
+    ensures failures { S.from.failures source.new ≡ reading_failures result
+        (S.from.failures source.old) }
     ensures over { OnOk result (IsOver lines.new) }
     ensures stays { IfErr result (λ fault. fault ≢ Memory → HasFailed lines.new fault) }
 {
@@ -61,9 +60,8 @@ pub fn read_items<F: LineFormat, S: Source>(
         items.old.items items.new.items result }
     ensures full { IfErr result
         (λ fault. fault ≡ Memory → vec_capacity items.old ≤ length items.new.items) }
-    ensures well { OnOk result (S.from.failures source.new ≡ S.from.failures source.old) }
-    ensures failed { IfErr result
-        (λ fault. S.from.failures source.new ≡ failures_after fault (S.from.failures source.old)) }
+    ensures failures { S.from.failures source.new ≡ reading_failures result
+        (S.from.failures source.old) }
     ensures over { OnOk result (IsOver lines.new) }
     ensures stays { IfErr result (λ fault. fault ≢ Memory → HasFailed lines.new fault) }
 {

@@ -1,5 +1,5 @@
 ghost use Rattle.std.specs.Prelude.{◌≡◌, ℕ, ◌+◌, ◌<◌, ◌≤◌, ◌^◌, List, [], IfOk, IfErr, IfSome, IfNone, OnOk, OnErr, OnSome, Ok, Err, None};
-ghost use Rattle.tmw_lines.specs.TextFault.{HasFirstLineFault, failures_after};
+ghost use Rattle.tmw_lines.specs.TextFault.{HasFirstLineFault, failures_after, reading_failures};
 ghost use Rattle.tmw_lines.specs.declared.text_fault.TextFault.{TextFault};
 ghost use Rattle.tmw_streams.specs.Told.{Tells};
 
@@ -67,10 +67,8 @@ impl<F: LineFormat> Lines<F> {
             × HasFirstLineFault F.grammar (S.from.ended source.new) bytes fault
             × HoldsFront (unread_bytes self.new) bytes) }
         ensures stays { IfErr result (HasFailed self.new) }
-        ensures well { OnOk result (S.from.failures source.new ≡ S.from.failures source.old) }
-        ensures failed { IfErr result
-            (λ fault. S.from.failures source.new ≡ failures_after fault
-            (S.from.failures source.old)) }
+        ensures failures { S.from.failures source.new ≡ reading_failures result
+            (S.from.failures source.old) }
     {
         match first_line::<F, S>(&mut self.held, source) {
             Ok(header) => {

@@ -1,7 +1,7 @@
 ghost use Rattle.std.specs.Prelude.{◌≡◌, ◌<◌, ◌≤◌, ◌+◌, ◌^◌, ◌∷◌, None, length, take, drop, IfSome, IfNone, IfOk, IfErr, OnOk, OnSome};
 ghost use Rattle.tmw_lines.specs.Held.{bytes_of};
 ghost use Rattle.tmw_lines.specs.LineRead.{ReadsLine, IsItemLine};
-ghost use Rattle.tmw_lines.specs.TextFault.{IsUnbroken, IsBadLine, failures_after};
+ghost use Rattle.tmw_lines.specs.TextFault.{IsUnbroken, IsBadLine, reading_failures};
 
 use crate::held::Held;
 use crate::line_format::LineFormat;
@@ -27,9 +27,8 @@ pub fn next_line<F: LineFormat, S: Source>(
     ensures falls { IfOk result
         (λ found. OnSome found (S.from.left source.new + length (bytes_of held.new)
         < S.from.left source.old + length (bytes_of held.old))) }
-    ensures well { OnOk result (S.from.failures source.new ≡ S.from.failures source.old) }
-    ensures failed { IfErr result
-        (λ fault. S.from.failures source.new ≡ failures_after fault (S.from.failures source.old)) }
+    ensures failures { S.from.failures source.new ≡ reading_failures result
+        (S.from.failures source.old) }
 {
     if count == MOST_ITEMS {
         return past_last(held, source, format);
@@ -60,9 +59,8 @@ fn past_last<F: LineFormat, S: Source>(
         format (2 ^ 40)
         (bytes_of held.old) (bytes_of held.new) result }
     ensures none { IfOk result (λ found. found ≡ None) }
-    ensures well { OnOk result (S.from.failures source.new ≡ S.from.failures source.old) }
-    ensures failed { IfErr result
-        (λ fault. S.from.failures source.new ≡ failures_after fault (S.from.failures source.old)) }
+    ensures failures { S.from.failures source.new ≡ reading_failures result
+        (S.from.failures source.old) }
 {
     if !held.bytes().is_empty() {
         return Err(TextFault::TooLong);

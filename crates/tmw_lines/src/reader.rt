@@ -1,6 +1,6 @@
 ghost use Rattle.std.specs.Prelude.{◌≡◌, ℕ, List, IfOk, IfErr, OnOk};
 ghost use Rattle.tmw_lines.specs.Grammar.{lines_text, AreLines};
-ghost use Rattle.tmw_lines.specs.TextFault.{HasTextFault, failures_after};
+ghost use Rattle.tmw_lines.specs.TextFault.{HasTextFault, reading_failures};
 ghost use Rattle.tmw_streams.specs.Told.{Tells};
 
 use crate::items::read_items;
@@ -27,9 +27,8 @@ pub fn read_lines<F: LineFormat, S: Source>(
     ensures fault { IfErr result (λ fault. (bytes : List ℕ)
         × Tells S.from source.old bytes source.new
         × HasTextFault F.grammar (S.from.ended source.new) bytes fault) }
-    ensures well { OnOk result (S.from.failures source.new ≡ S.from.failures source.old) }
-    ensures failed { IfErr result
-        (λ fault. S.from.failures source.new ≡ failures_after fault (S.from.failures source.old)) }
+    ensures failures { S.from.failures source.new ≡ reading_failures result
+        (S.from.failures source.old) }
 {
     let mut lines = Lines::<F>::new();
     let header = match lines.header(source) {

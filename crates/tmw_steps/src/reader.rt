@@ -1,5 +1,5 @@
 ghost use Rattle.std.specs.Prelude.{◌≡◌, ℕ, List, IfOk, IfErr, OnOk};
-ghost use Rattle.tmw_lines.specs.TextFault.{HasTextFault, failures_after};
+ghost use Rattle.tmw_lines.specs.TextFault.{HasTextFault, reading_failures};
 ghost use Rattle.tmw_steps.specs.StepText.{steps_grammar, steps_text, AreSteps};
 ghost use Rattle.tmw_streams.specs.Told.{Tells};
 
@@ -23,9 +23,8 @@ pub fn read_steps<S: Source>(alloc: Global, source: &mut S) -> Result<StepList, 
     ensures fault { IfErr result (λ fault. (bytes : List ℕ)
         × Tells S.from source.old bytes source.new
         × HasTextFault steps_grammar (S.from.ended source.new) bytes fault) }
-    ensures well { OnOk result (S.from.failures source.new ≡ S.from.failures source.old) }
-    ensures failed { IfErr result
-        (λ fault. S.from.failures source.new ≡ failures_after fault (S.from.failures source.old)) }
+    ensures failures { S.from.failures source.new ≡ reading_failures result
+        (S.from.failures source.old) }
 {
     match read_lines::<StepsFormat, S>(alloc, source) {
         Ok((size, steps)) => Ok(StepList { size, steps }),

@@ -1,5 +1,5 @@
 ghost use Rattle.std.specs.Prelude.{◌≡◌, ℕ, List, IfOk, IfErr, OnOk};
-ghost use Rattle.tmw_lines.specs.TextFault.{HasTextFault, failures_after};
+ghost use Rattle.tmw_lines.specs.TextFault.{HasTextFault, reading_failures};
 ghost use Rattle.tmw_streams.specs.Told.{Tells};
 ghost use Rattle.tmw_trace.specs.Text.{trace_grammar, trace_text, AreEvents};
 
@@ -22,9 +22,8 @@ pub fn read_trace<S: Source>(alloc: Global, source: &mut S) -> Result<Trace, Tex
     ensures fault { IfErr result (λ fault. (bytes : List ℕ)
         × Tells S.from source.old bytes source.new
         × HasTextFault trace_grammar (S.from.ended source.new) bytes fault) }
-    ensures well { OnOk result (S.from.failures source.new ≡ S.from.failures source.old) }
-    ensures failed { IfErr result
-        (λ fault. S.from.failures source.new ≡ failures_after fault (S.from.failures source.old)) }
+    ensures failures { S.from.failures source.new ≡ reading_failures result
+        (S.from.failures source.old) }
 {
     match read_lines::<Version, S>(alloc, source) {
         Ok((header, events)) => Ok(Trace { header, events }),

@@ -171,22 +171,7 @@ impl Witness {
         }
     }
 
-    /// Whether the transaction's operations leave the state of its rank as it is.
-    fn leaves_state(&self, item: &Txn, place: Ix) -> bool
-        ensures { IsTrue result
-            → after_writes (state_of self.now (rank_of self.now place.number)) item.now.ops.items
-            ≡ state_of self.now (rank_of self.now place.number) }
-    {
-        match self
-            .states
-            .get(usize::from(self.ranks[place.get() as usize]))
-        {
-            Some(state) => item.after(state) == Some(*state),
-            None => false,
-        }
-    }
-
-    /// Takes in that the transaction has committed: it is taken so, or can be, or its operations leave the state as it is.
+    /// Takes in that the transaction has committed: it is taken so, or can be, or it writes nothing.
     fn commit(&mut self, item: &Txn, place: Ix)
         ensures { (starts : List State) (xs ys : List View) (x : View)
             → TurnsAt xs ys place.number x (view item.now) → item.now.status ≡ Committed
@@ -199,7 +184,7 @@ impl Witness {
         if self.hold(item, place) {
             return;
         }
-        if !self.leaves_state(item, place) {
+        if !self.leaves_nothing(item, place) {
             self.known = false;
         }
     }

@@ -28,8 +28,8 @@ returns-in_default-clause-feeds g c =
     feeds-lack c.loop-lines.invariant.0 (sym c.loop-lines-test.ensures) _ (g.S.Source.from.ended c.next.new.source)
     c.next.new.source c.next.new.self c.take.new.self given.0 c.in-Ok-Some.event given.1 given.2
 
-pub returns-in_default-clause-failed : goal.returns-in_default-clause-failed
-returns-in_default-clause-failed g c = c.in-Ok-Some.ensures.well ∙ c.loop-lines.invariant.1
+pub returns-in_default-clause-failures : goal.returns-in_default-clause-failures
+returns-in_default-clause-failures g c = c.in-Ok-Some.ensures.well ∙ c.loop-lines.invariant.1
 
 pub returns-in-Ok-None-clause-feeds : goal.returns-in-Ok-None-clause-feeds
 returns-in-Ok-None-clause-feeds g c =
@@ -37,8 +37,8 @@ returns-in-Ok-None-clause-feeds g c =
     feeds-end c.loop-lines.invariant.0 (sym c.loop-lines-test.ensures) tt (g.S.Source.from.ended c.next.new.source)
     c.next.new.source c.next.new.self given.0 given.1 given.2
 
-pub returns-in-Ok-None-clause-well : goal.returns-in-Ok-None-clause-well
-returns-in-Ok-None-clause-well g c = c.in-Ok-None.ensures.well ∙ c.loop-lines.invariant.1
+pub returns-in-Ok-None-clause-failures : goal.returns-in-Ok-None-clause-failures
+returns-in-Ok-None-clause-failures g c = c.in-Ok-None.ensures.well ∙ c.loop-lines.invariant.1
 
 pub returns-in-Err-clause-feeds : goal.returns-in-Err-clause-feeds
 returns-in-Err-clause-feeds g c =
@@ -46,13 +46,13 @@ returns-in-Err-clause-feeds g c =
     feeds-fault c.loop-lines.invariant.0 (sym c.loop-lines-test.ensures) _ (g.S.Source.from.ended c.next.new.source)
     c.next.new.source c.next.new.self given.0 c.in-Err.fault given.1 given.2
 
-pub returns-in-Err-clause-failed : goal.returns-in-Err-clause-failed
-returns-in-Err-clause-failed g c =
+pub returns-in-Err-clause-failures : goal.returns-in-Err-clause-failures
+returns-in-Err-clause-failures g c =
     let reading = reads_on c.loop-lines.invariant.0 c.requires in
     c.in-Err.ensures.failed reading ∙ ap (failures_after c.in-Err.fault) c.loop-lines.invariant.1
 
 pub returns-clause-feeds : goal.returns-clause-feeds
 returns-clause-feeds g c = grind (arith, feeds-final)
 
-pub returns-clause-well : goal.returns-clause-well
-returns-clause-well g c = c.loop-lines.invariant.1
+pub returns-clause-failures : goal.returns-clause-failures
+returns-clause-failures g c = c.loop-lines.invariant.1

@@ -50,13 +50,13 @@ returns-in-Err-clause-gives g c =
     let given = c.in-Err.ensures.at_line in
     gives-fault held _ (g.S.Source.from.ended c.next.new.source) g.T.Taker.lacks c.next.new.source _ given.0 c.in-Err.fault c.requires.begun given.1 given.2
 
-pub returns-in-Err-clause-failed : goal.returns-in-Err-clause-failed
-returns-in-Err-clause-failed g c =
+pub returns-in-Err-clause-failures : goal.returns-in-Err-clause-failures
+returns-in-Err-clause-failures g c =
     let held = HasGiven-held c.lines.invariant.0 g.met.T.Taker.takes_more c.give_held.new.self c.give_held.new.taker c.in-Ok.ensures.gives in
     let reading = reads_on held c.requires.begun in grind arith
 
-pub returns-in_default-take-clause-failed : goal.returns-in_default-take-clause-failed
-returns-in_default-take-clause-failed g c = c.in-Ok-Some.ensures.well ∙ c.lines.invariant.1
+pub returns-in_default-take-clause-failures : goal.returns-in_default-take-clause-failures
+returns-in_default-take-clause-failures g c = c.in-Ok-Some.ensures.well ∙ c.lines.invariant.1
 
 pub returns-in-Err-clause-stays : goal.returns-in-Err-clause-stays
 returns-in-Err-clause-stays g c = λ other. c.in-Err.ensures.stays

@@ -10,8 +10,8 @@ pub returns-then-hold : goal.returns-then-hold
 returns-then-hold c = λ starts xs ys x turns committed same was.
     c.hold.ensures.held c.if-hold.true starts xs ys x turns same (rw committed refl) was
 
-pub returns-else-not-leaves_state : goal.returns-else-not-leaves_state
-returns-else-not-leaves_state c = λ starts xs ys x turns committed same was.
+pub returns-else-not-leaves_nothing : goal.returns-else-not-leaves_nothing
+returns-else-not-leaves_nothing c = λ starts xs ys x turns committed same was.
     let stays = c.hold.ensures.left c.if-hold.false in
     left_out-kept starts xs ys x (view c.args.item.now) c.hold.new.self c.args.place.number turns (rw stays (sym c.is_held.ensures ∙ c.if-is_held.false))
-    (inr (rw committed refl, c.leaves_state.ensures c.if-not-leaves_state.false)) (λ reads. rw same reads) (rw stays was)
+    (inr (rw committed refl, c.leaves_nothing.ensures c.if-not-leaves_nothing.false)) (λ reads. rw same reads) (rw stays was)
