@@ -6,11 +6,7 @@ use Rattle.tmw_search.proofs.Branching.{never-true}
 -- members of another set were added
 pub adds-to : {A : Type 0} {done : Bool} {old new : List A} {P Q : A → Type 0} → ((e : A) → P e → Q e) → (IsTrue done → (e : A) → Q e → P e)
     → Adds done old new P → Adds done old new Q
-adds-to to from a = record {
-  only = λ e has. elim (a.only e has) [ inl was ↦ inl was | inr p ↦ inr (to e p) ];
-  kept = a.kept;
-  all = λ all e q. a.all all e (from all e q);
-}
+adds-to = grind arith
 
 pub adds-empty : {A : Type 0} {old : List A} {P : A → Type 0} → ((e : A) → P e → ⊥) → Adds true old old P
 adds-empty none = record { only = λ e has. inl has; kept = λ e has. has; all = λ all e p. absurd (none e p) }
@@ -48,11 +44,7 @@ adds-first = adds-empty (λ q (i, less, is). absurd (omega (arith, less)))
 
 pub adds-next : {A : Type 0} {done : Bool} (P : ℕ → A → Type 0) (n : ℕ) {old mid new : List A} → Adds true old mid (OfFirst P n)
     → Adds done mid new (P n) → Adds done old new (OfFirst P (n + 1))
-adds-next P n one two =
-    adds-both one two (λ q (i, less, is). (i, omega (arith, less), is)) (λ q is. (n, omega arith, is)) (λ q (i, less, is). elim (cases_lt i n) [
-      | inl lower ↦ inl (i, lower, is)
-      | inr last ↦ inr (let same : i ≡ n = omega (arith, less, last) in subst (λ (j : ℕ). P j q) same is)
-    ])
+adds-next = grind (arith, adds-both, cases_lt)
 
 pub adds-places : {A : Type 0} (P : ℕ → A → Type 0) (n : ℕ) {old new : List A} → ((i : ℕ) (q : A) → P i q → i < n)
     → Adds true old new (OfFirst P n) → Adds true old new (λ q. (i : ℕ) × P i q)

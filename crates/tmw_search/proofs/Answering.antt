@@ -1,5 +1,5 @@
 -- What the search answers is what the criterion asks: where it finds a node some legal serial order ends somewhere, and else none does.
-use Rattle.tmw_search.proofs.Shared.{Aborted, ActAs, AreRising, Begins, Bool, Committed, Completes, Criterion, Effect, EndsBy, Event, Explains, HasNone, HaveEight, In, IsCompletion, IsFound, IsLegal, IsRoot, IsSerial, IsTrue, List, Live, Node, NoneBeforeItself, Only, Opacity, Pending, Refutes, ShowsOrder, ShowsStatus, ShowsTransactions, Some, State, Status, Strict, Txn, View, and_parts, ap, arith, bit, bit_at, bit_at_ones, cases_lt, effects, end_state, eq-eqb, eqb-true, false, has_asked, has_committed, inl, inr, is_committed, is_ended, is_over, is_pending, length, length-map, map, may_hold, members_of, orderly, precedes, refl, slice_get, slice_get_within, status_of, sym, transactions, true, view, views_of, ℕ, ◌<◌, ◌==◌, ◌↔◌, ◌∙◌, ◌≡◌, ◌≤◌, ◌⊎◌, Agree, Contains, Contains-append_cases, Entails, NoneExplains, States, TellsEnd, Window, [], get_or, get_or_default, members, subst, suc, take, take_more, views, zero, ◌+◌, ◌∷◌}
+use Rattle.tmw_search.proofs.Shared.{ActAs, AreRising, Begins, Bool, Completes, Criterion, Effect, EndsBy, Event, Explains, HasNone, HaveEight, In, IsCompletion, IsFound, IsLegal, IsRoot, IsSerial, IsTrue, List, Node, NoneBeforeItself, Only, Opacity, Refutes, ShowsOrder, ShowsStatus, ShowsTransactions, Some, State, Status, Strict, Txn, View, and_parts, ap, arith, bit, bit_at, bit_at_ones, cases_lt, effects, end_state, eq-eqb, eqb-true, false, inl, inr, is_committed, is_ended, is_over, is_pending, length, length-map, map, may_hold, members_of, orderly, precedes, refl, slice_get, slice_get_within, status_of, sym, transactions, true, view, views_of, ℕ, ◌<◌, ◌==◌, ◌↔◌, ◌∙◌, ◌≡◌, ◌≤◌, ◌⊎◌, Agree, Contains, Contains-append_cases, Entails, NoneExplains, States, TellsEnd, Window, [], get_or, get_or_default, members, subst, suc, take, take_more, views, zero, ◌+◌, ◌∷◌}
 use Rattle.tmw_search.proofs.Bits.{bit_cases, bit_true, bit_within, or-left, or-right, or_either}
 use Rattle.tmw_search.proofs.LayerSteps.{slice_get_some}
 use Rattle.tmw_search.proofs.Law.{are_ranked, ordered_by}
@@ -11,18 +11,10 @@ use Rattle.tmw_cuts.specs.declared.txn.Txn as cuts
 -- what a completion may hold, by what has committed and what is pending
 may-is : (s : Status) (b : Bool) → IsTrue (may_hold s b)
     ↔ ((IsTrue (is_committed s) → IsTrue b) × (IsTrue b → IsTrue (is_committed s) ⊎ IsTrue (is_pending s)))
-may-is Committed b = (λ may. (λ is. may, λ is. inl refl), λ both. both.0 refl)
-may-is Pending b = (λ may. (λ is. absurd (cc), λ is. inr refl), λ both. refl)
-may-is Live true = (λ may. absurd (cc), λ both. elim (both.1 refl) [ inl is ↦ absurd (cc) | inr is ↦ absurd (cc) ])
-may-is Live false = (λ may. (λ is. absurd (cc), λ is. absurd (cc)), λ both. refl)
-may-is Aborted true = (λ may. absurd (cc), λ both. elim (both.1 refl) [ inl is ↦ absurd (cc) | inr is ↦ absurd (cc) ])
-may-is Aborted false = (λ may. (λ is. absurd (cc), λ is. absurd (cc)), λ both. refl)
+may-is = grind arith
 
 not-over : (s : Status) → is_pending s ≡ true → is_over s ≡ false
-not-over Pending is = refl
-not-over Committed is = absurd (cc)
-not-over Live is = absurd (cc)
-not-over Aborted is = absurd (cc)
+not-over = grind arith
 
 module _ (xs : List View) (ts : List Txn) (committed pending : ℕ) (shows : ShowsTransactions xs ts) (few : length ts ≤ 8)
     (status : ShowsStatus xs committed pending) where
@@ -40,8 +32,7 @@ module _ (xs : List View) (ts : List Txn) (committed pending : ℕ) (shows : Sho
       status.pending_at.below i x (slice_get_within xs i x at_x) at_x ∙ ap is_pending (shows.each i x t at_x at).status
 
   within : (i : ℕ) → In committed i ⊎ In pending i → i < length ts
-  within i (inl is) = rw (← shows.same_length) (marks-within has_committed xs (length xs) committed i status.committed_at is)
-  within i (inr is) = rw (← shows.same_length) (marks-within has_asked xs (length xs) pending i status.pending_at is)
+  within = grind (arith, marks-within)
 
   -- a completion holds what has committed, and some of what is pending
   completes : (held : ℕ) → IsCompletion ts held ↔ Completes committed pending held
@@ -167,8 +158,7 @@ shown-of {criterion = criterion} {items = items} {committed = committed} {pendin
 -- a legal order of the root is a legal serial order of a completion
 in-members : (criterion : Criterion) (n committed held j : ℕ) → j < 8 → ((i : ℕ) → i < 8 → In committed i → In held i)
     → ((i : ℕ) → i < 8 → In held i → i < n) → (In (members_of criterion n committed) j ⊎ In held j) ↔ In (members_of criterion n held) j
-in-members Opacity n committed held j low more within = (λ is. elim is [ inl one ↦ one | inr one ↦ bit_at_ones n j (within j low one) ], λ is. inl is)
-in-members Strict n committed held j low more within = (λ is. elim is [ inl one ↦ more j low one | inr one ↦ one ], λ is. inr is)
+in-members = grind (arith, bit_at_ones)
 
 pub legal-root : (criterion : Criterion) (xs : List Effect) (start : State) (n : ℕ) (reach : List ℕ) (committed pending held : ℕ)
     (rank : ℕ → ℕ) (node : Node) → IsRoot criterion xs n reach committed node → ((i : ℕ) → In committed i ⊎ In pending i → i < n)
@@ -252,12 +242,7 @@ tells-none criterion states window items starts shown same none events stands = 
 pub tells-some : (criterion : Criterion) (states : States) (window : Window) (items : List cuts.Txn) (starts : List State) (start : State)
     → map view items ≡ views window → starts ≡ members states → Contains starts start → Explains criterion items start
     → TellsEnd criterion states window true
-tells-some criterion states window items starts start shown same has explains events stands = (
-  λ alive.
-      let (end, (s, is, leads)) = explains events (shown ∙ stands.shows) in
-      (end, (s, rw (is, ← same) has, leads)),
-  λ some. refl,
-)
+tells-some = grind (arith, explains)
 
 pub none-first : (criterion : Criterion) (items : List cuts.Txn) → NoneExplains criterion items []
 none-first criterion items start (i, within, is) = absurd (omega (arith, within))
@@ -283,5 +268,4 @@ none-more criterion items starts i within none here start has =
 -- registers of each start
 pub start-size : (starts : List State) (start : State) → ((i : ℕ) → i < length starts → length (get_or starts i []) ≡ 8)
     → Contains starts start → length start ≡ 8
-start-size starts start sizes (i, within, is) =
-    subst (λ (s : State). length s ≡ 8) (get_or_default starts i [] start within ∙ is) (sizes i within)
+start-size = grind (arith, get_or_default)

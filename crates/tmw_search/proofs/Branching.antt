@@ -1,5 +1,5 @@
 -- The transactions from which an open read may have its value, one after another.
-use Rattle.tmw_search.proofs.Shared.{Bool, Effect, Has, In, IsBranch, IsNode, IsRead, IsTrue, List, MayBe, Node, Open, Reads, ReadsFrom, ReadsStart, Source, State, and_le_l, and_le_r, ap, arith, bit_and, bit_at, bit_at-zero, bit_not, bit_or, eq-eqb, false, inl, inr, need_at, not, refl, slice_index, source_at, subst, sym, true, w8, ℕ, ◌%◌, ◌*◌, ◌-◌, ◌<◌, ◌==◌, ◌^◌, ◌∙◌, ◌≡◌, ◌⊎◌, Branch, IsOrder, From, Gives, HasNone, IsLegal, MatchOption, MayGive, None, Option, Some, room, ◌+◌}
+use Rattle.tmw_search.proofs.Shared.{Bool, Effect, Has, In, IsBranch, IsNode, IsRead, IsTrue, List, MayBe, Node, Open, Reads, ReadsFrom, ReadsStart, Source, State, and_le_l, and_le_r, ap, arith, bit_and, bit_at, bit_at-zero, bit_not, bit_or, eq-eqb, false, inl, inr, need_at, not, slice_index, source_at, subst, sym, true, w8, ℕ, ◌%◌, ◌*◌, ◌-◌, ◌<◌, ◌==◌, ◌^◌, ◌∙◌, ◌≡◌, ◌⊎◌, Branch, IsOrder, From, Gives, HasNone, IsLegal, MatchOption, MayGive, Option, room, ◌+◌}
 use Rattle.tmw_search.proofs.Bits.{masks, some-place, same_place, less_of, less_has, or-left, or-right, or_either}
 use Rattle.tmw_search.proofs.Passing.{Grows, room-most, room-pair}
 
@@ -76,8 +76,7 @@ one-before row mask j within fits some =
     (k, few, grind (arith, masks), grind (arith, masks), grind (arith, masks))
 
 pub not-of : (b : Bool) → (IsTrue b → ⊥) → IsTrue (not b)
-not-of true none = absurd (none refl)
-not-of false none = refl
+not-of = grind arith
 
 pub never-true : IsTrue false → ⊥
 never-true is = absurd (cc)
@@ -129,16 +128,13 @@ tries-all none t = λ held rank l.
 -- fewer reads are open, or fewer pairs not ordered
 pub fewer-given : {old new child : List ℕ} {before after : ℕ} → IsOrder old → Grows old new → child ≡ new → after < before
     → room child + after < room old + before
-fewer-given {old = old} {new = new} o grows same fewer =
-    omega (arith, room-most old new 8 (omega arith) o.fits grows, ap (λ (xs : List ℕ). room xs) same, fewer)
+fewer-given = grind (arith, room-most)
 
 pub fewer-ordered : {i j : ℕ} {old new child : List ℕ} (opened : ℕ) → IsOrder old → IsOrder new → IsOrder child → i < 8 → j < 8 → Grows old new
     → Grows new child → Has child i j → (Has new i j → ⊥) → room child + opened < room old + opened
-fewer-ordered {i = i} {j = j} {old = old} {new = new} {child = child} opened o n c within_i within_j grows more has not =
-    omega (arith, room-most old new 8 (omega arith) o.fits grows, room-pair new child i j within_j n.fits c.fits more has not)
+fewer-ordered = grind (arith, room-most, room-pair)
 
 -- what one search says of another
 pub result-with : {A B : Type 0} {P Q : Node → Type 0} (result : Option Node) → (A → B) → ((n : Node) → P n → Q n) → MatchOption result A P
     → MatchOption result B Q
-result-with None none some is = none is
-result-with (Some n) none some is = some n is
+result-with = grind arith

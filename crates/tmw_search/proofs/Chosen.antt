@@ -89,10 +89,7 @@ chosen-at (x ∷ ts) mask (suc place) t at one =
 
 pub length-chosen : (ts : List Txn) (mask i place : ℕ) (t : Txn) (less : ℕ) → IsChosen ts mask i place t → IsLess mask place less
     → length (chosen less ts) + 1 ≡ length (chosen mask ts)
-length-chosen ts mask i place t less c l =
-    let one_less : length (remove (chosen mask ts) i) + 1 ≡ length (chosen mask ts) =
-    length-remove (chosen mask ts) i (slice_get_within (chosen mask ts) i t c.among) in
-    omega (arith, one_less, ap length (c.others less l))
+length-chosen = grind (arith, length-remove, slice_get_within)
 
 -- what holds of each that is chosen
 pub list_all-chosen : (p : Txn → Bool) (ts : List Txn) (mask : ℕ)
@@ -116,10 +113,7 @@ chosen-zero (t ∷ ts) = chosen-zero ts
 
 pub chosen_none : (ts : List Txn) (mask place : ℕ) (t : Txn) → length (chosen mask ts) ≡ 0 → slice_get ts place ≡ Some t
     → bit_at mask place ≡ 1 → ⊥
-chosen_none ts mask place t none at one =
-    let (i, c) = chosen-at ts mask place t at one in
-    let within = slice_get_within (chosen mask ts) i t c.among in
-    omega (arith, none, within)
+chosen_none = grind (arith, chosen-at, slice_get_within)
 
 -- and where the bit of each is set, all are
 pub chosen_bits : (ts : List Txn) (mask : ℕ) → ((place : ℕ) → place < length ts → bit_at mask place ≡ 1) → chosen mask ts ≡ ts
@@ -144,8 +138,7 @@ pub record HeldBy (ts us : List Txn) : Type 0 where
 
 may_at : (x : Txn) (ts : List Txn) (held : ℕ) → IsTrue (may_hold (status_of x.text) (bit_at held 0 == 1)) → MayHold ts (held / 2)
     → MayHold (x ∷ ts) held
-may_at x ts held first more zero t at = let same : x ≡ t = cc in rw (← same) first
-may_at x ts held first more (suc i) t at = rw (bit_at-suc held i) (more i t at)
+may_at = grind (arith, bit_at-suc)
 
 pub held_by : (ts us : List Txn) → AreHeld ts us → HeldBy ts us
 held_by [] us none = record { held = 0; fits = omega arith; may = λ i t at. absurd (cc); are = none }

@@ -1,5 +1,5 @@
 -- The ends from each start and by each completion are those of the criterion.
-use Rattle.tmw_search.proofs.Shared.{Adds, Agree, AllOpen, AreEnds, AreEndsFrom, AreMembers, Bool, Completes, Contains, Criterion, Effect, EndsBy, EndsByMore, EndsByReading, EndsFromAll, EndsIn, Entails, Event, In, IsEndOf, IsLegal, IsNode, IsRead, IsRoot, IsTrue, LeadsBy, List, Node, Open, Reads, ReadsAll, Source, State, States, Window, [], arith, bit_at-zero, bit_at_ones, bit_or, contains_none, effects, false, get_or, get_or_default, inl, inr, length, map, members, members_of, not, refl, slice_index, subst, sym, transactions, true, view, views, ℕ, ◌%◌, ◌*◌, ◌+◌, ◌-◌, ◌<◌, ◌^◌, ◌↔◌, ◌∙◌, ◌≡◌, ◌≤◌}
+use Rattle.tmw_search.proofs.Shared.{Adds, Agree, AllOpen, AreEnds, AreEndsFrom, Bool, Completes, Contains, Criterion, Effect, EndsBy, EndsByMore, EndsByReading, EndsFromAll, EndsIn, Entails, Event, In, IsEndOf, IsLegal, IsNode, IsRead, IsRoot, IsTrue, LeadsBy, List, Node, Open, Reads, ReadsAll, State, States, Window, [], arith, bit_at-zero, bit_at_ones, bit_or, contains_none, effects, false, get_or, get_or_default, inl, inr, length, map, members, members_of, refl, slice_index, subst, sym, transactions, true, view, views, ℕ, ◌%◌, ◌*◌, ◌+◌, ◌-◌, ◌<◌, ◌^◌, ◌↔◌, ◌∙◌, ◌≡◌, ◌≤◌}
 use Rattle.tmw_search.specs.declared.completions.Reading.{Reading}
 use Rattle.tmw_search.specs.declared.end_states.EndStates.{EndStates}
 use Rattle.tmw_search.specs.declared.end_states.EndStates.TheVariants.{Few, Many}
@@ -23,25 +23,12 @@ moved onto x = record { held = x.held; rank = x.rank; legal = onto x.held x.rank
 -- from another start that has the same in each register that is read
 start-same : (xs : List Effect) (held : ℕ) (one other : State) (rank : ℕ → ℕ) (j r : ℕ) → slice_index other r ≡ slice_index one r
     → Reads xs held one rank j r Open → Reads xs held other rank j r Open
-start-same xs held one other rank j r same (inl s) = inl (record { value = same ∙ s.value; others = s.others })
-start-same xs held one other rank j r same (inr f) = inr f
+start-same = grind arith
 
 pub legal-start : {xs : List Effect} {one other : State} {root : Node} → IsNode xs one 0 root → AllOpen root.choices.reads root → ReadsAll xs root
     → ((j r : ℕ) → j < 8 → r < 8 → IsRead root.choices j r → slice_index other r ≡ slice_index one r)
     → (held : ℕ) (rank : ℕ → ℕ) → IsLegal xs one 0 root held rank → IsLegal xs other 0 root held rank
-legal-start {xs = xs} {one = one} {other = other} {root = root} n waits all same held rank l = record {
-  ranking = l.ranking;
-  more = l.more;
-  only = l.only;
-  agree = l.agree;
-  reads = λ j r within_j within_r is needs.
-      let member : In root.members j = grind (arith, masks, l.only j within_j, n.members j within_j) in
-      let read = all j r within_j within_r member needs in
-      let free = (waits j r within_j within_r read).1 in
-      subst (λ (s : Source). Reads xs held other rank j r s) (sym free)
-      (start-same xs held one other rank j r (same j r within_j within_r read)
-      (subst (λ (s : Source). Reads xs held one rank j r s) free (l.reads j r within_j within_r is needs)));
-}
+legal-start = grind (arith, masks, start-same)
 
 -- the ends of a reading are the root's from each start that has the same in each register that is read
 pub ends-read : {xs : List Effect} {start : State} {root : Node} {done : Bool} {old new : List State} (needed : ℕ) (reading : Reading)
@@ -141,9 +128,7 @@ held-added within is a = adds-to
 pub held-none : {criterion : Criterion} {xs : List Effect} {n : ℕ} {starts : List State} {reach : List ℕ} {held : ℕ} {node : Node}
     {old : List State} → ((i : ℕ) → In held i → i < n) → IsRoot criterion xs n reach held node → (Agree xs node.members → ⊥)
     → Adds true old old (EndsByMore criterion xs n starts reach held 0)
-held-none within is not = adds-empty (λ e y.
-    let x = (ends-law _ _ _ y.start _ _ _ e within is).1 (y.more, y.completes, y.ends) in
-    not (λ j few in_it. x.legal.agree j few (inl in_it)))
+held-none = grind (arith, adds-empty, ends-law)
 
 -- the same end by a completion of others
 by-others : {criterion : Criterion} {xs : List Effect} {n : ℕ} {starts : List State} {reach : List ℕ} {held left now rest : ℕ} {e : State}
@@ -232,5 +217,4 @@ ends-many ends b sizes more a = λ events shown. (
 pub ends-window : (criterion : Criterion) (states : States) (window : Window) (items : List cuts.Txn) (starts : List State) (cap : ℕ)
     (ends : EndStates) → map view items ≡ views window → starts ≡ members states → AreEndsFrom criterion items starts cap ends
     → AreEnds criterion states window cap ends
-ends-window criterion states window items starts cap ends shown same are = λ events stands.
-    subst (λ (s : List State). AreMembers cap (EndsBy criterion (Contains s) (transactions events)) ends) same (are events (shown ∙ stands.shows))
+ends-window = grind arith

@@ -1,6 +1,6 @@
 -- An end state that is known is the only one, where the end states are forced: what each writer of a register finds and leaves there
 -- sums up to the same over each legal serial order. Masks tell of a window that they are.
-use Rattle.tmw_search.proofs.Shared.{Aborted, AreHeld, Bool, Committed, Criterion, IsForced, IsTrue, Leads, LeadsBy, List, Live, Op, Opacity, Pending, Placed, Some, State, Status, Strict, Txn, [], after, after_writes, and_from, and_parts, ap, arith, cases_Bool, cond, count_by, end_state, eqb-false, eqb-true, ext_get_or, false, get_or-set_other, get_or-set_same, if◌then◌else◌, inl, inr, is_blind_writer, is_committed, is_ended, is_over, is_writer, length, length-set, list_all, list_all-remove, may_be, may_hold, needs, not, not-false, not-true, operations, precedes, reads_hold, refl, remove, slice_get, slice_index, slice_set, status_of, suc, sum_by, sum_by-cons, sym, true, writes, zero, ℕ, ◌%◌, ◌+◌, ◌<◌, ◌==◌, ◌^◌, ◌∙◌, ◌∷◌, ◌≡◌, ◌≤◌, ◌⊎◌, AreForced, Contains, EndsOf, Event, Replaces, StandsFor, States, View, Window, contains_cases, contains_here, contains_none, count_by-le-length, list_all-map, map, members, subst, transactions, view_of, views, ◌↔◌, IsMaskOf, and_left, and_right, bit_and, bit_at, bit_at-lt, bit_at-zero, bit_at_above, bit_at_and, bit_at_not, bit_at_or, bit_not, bit_or, cases_lt, get_or_from_slice_get, list_all_more, not_from_false, slice_get_within, sum_by_more, take, take_all, w8}
+use Rattle.tmw_search.proofs.Shared.{AreHeld, Bool, Criterion, IsForced, IsTrue, Leads, LeadsBy, List, Op, Opacity, Placed, Some, State, Status, Strict, Txn, [], after, after_writes, and_from, and_parts, ap, arith, cases_Bool, cond, count_by, end_state, eqb-false, eqb-true, ext_get_or, false, get_or-set_other, get_or-set_same, if◌then◌else◌, inl, inr, is_blind_writer, is_committed, is_ended, is_over, is_writer, length, length-set, list_all, list_all-remove, may_be, may_hold, needs, not, not-false, not-true, operations, precedes, reads_hold, refl, remove, slice_get, slice_index, slice_set, status_of, suc, sum_by, sum_by-cons, sym, true, writes, zero, ℕ, ◌%◌, ◌+◌, ◌<◌, ◌==◌, ◌^◌, ◌∙◌, ◌∷◌, ◌≡◌, ◌≤◌, ◌⊎◌, AreForced, Contains, EndsOf, Event, Replaces, StandsFor, States, View, Window, contains_cases, contains_here, contains_none, count_by-le-length, list_all-map, map, members, subst, transactions, view_of, views, ◌↔◌, IsMaskOf, and_left, and_right, bit_and, bit_at, bit_at-lt, bit_at-zero, bit_at_above, bit_at_and, bit_at_not, bit_at_or, bit_not, bit_or, cases_lt, get_or_from_slice_get, list_all_more, not_from_false, slice_get_within, sum_by_more, take, take_all, w8}
 use Rattle.std.proofs.lemmas.Bool.Decides.{nat_tests}
 use Rattle.tmw_defs.specs.declared.op.Op.TheVariants.{Read, Write, Add}
 use Rattle.tmw_defs.specs.Opaque.{Explains}
@@ -23,11 +23,7 @@ final r x (Write q v ∷ ops) = final r (if q.number == r then v else x) ops
 final r x (Add q d v ∷ ops) = final r (if q.number == r then (v + d) % 2 ^ 64 else x) ops
 
 index-set : (s : State) (q r v : ℕ) → r < length s → slice_index (slice_set s q v) r ≡ (if q == r then v else slice_index s r)
-index-set s q r v within =
-    elim (cases_Bool (q == r)) [
-      | inl is ↦ rw (is, eqb-true q r is) (get_or-set_same s r v 0 within)
-      | inr other ↦ rw other (get_or-set_other s q r v 0 (λ same. eqb-false q r other (sym same)))
-    ]
+index-set = grind (arith, cases_Bool, eqb-true, get_or-set_same, get_or-set_other, eqb-false)
 
 after-final : (s : State) (ops : List Op) (r : ℕ) → r < length s
     → slice_index (after_writes s ops) r ≡ final r (slice_index s r) ops
@@ -47,8 +43,7 @@ length-writes s (Write q v ∷ ops) = length-writes (slice_set s q.number v) ops
 length-writes s (Add q d v ∷ ops) = length-writes (slice_set s q.number ((v + d) % 2 ^ 64)) ops ∙ length-set s q.number ((v + d) % 2 ^ 64)
 
 pub length-after : (s : State) (p : Placed) → length (after s p) ≡ length s
-length-after s p =
-    elim (cases_Bool p.held) [ inl is ↦ rw is (length-writes s (operations p.txn.text)) | inr other ↦ rw other refl ]
+length-after = grind (arith, cases_Bool, length-writes)
 
 pub length-end : (s : State) (order : List Placed) → length (end_state s order) ≡ length s
 length-end s [] = refl
@@ -103,35 +98,13 @@ abbrev gives : ℕ → ℕ → Txn → ℕ
 gives r x t = if writer r t then final r (found r x (operations t.text)) (operations t.text) else 0
 
 held_is : (status : Status) (held : Bool) → IsTrue (is_over status) → IsTrue (may_hold status held) → held ≡ is_committed status
-held_is Committed true over may = refl
-held_is Committed false over may = absurd (cc)
-held_is Pending held over may = absurd (cc)
-held_is Live held over may = absurd (cc)
-held_is Aborted true over may = absurd (cc)
-held_is Aborted false over may = refl
+held_is = grind arith
 
 -- what it leaves and what was there differ as what it leaves and what it finds
 placed-balance : (s : State) (p : Placed) (r x : ℕ) → r < length s → IsTrue (is_ended p.txn.text) → IsTrue (may_be p)
     → IsTrue (reads_hold s (operations p.txn.text)) → IsTrue (no_blind r p.txn) ⊎ (slice_index s r ≡ x)
     → slice_index (after s p) r + takes r x p.txn ≡ slice_index s r + gives r x p.txn
-placed-balance s p r x within over may reads fits =
-    let ops = operations p.txn.text in
-    let held = held_is (status_of p.txn.text) p.held over may in
-    elim (cases_Bool (is_committed (status_of p.txn.text))) [
-      | inr other ↦ rw (other, held ∙ other) refl
-      | inl is ↦
-          let left : slice_index (after s p) r ≡ final r (slice_index s r) ops = rw (held ∙ is) (after-final s ops r within) in
-          elim (cases_Bool (writes r ops)) [
-            | inr none ↦ rw (is, none) (omega (arith, left, final-kept r (slice_index s r) ops none))
-            | inl some ↦
-                let seen : (needs r ops ≡ true) ⊎ (slice_index s r ≡ x) = elim fits [
-                  | inl told ↦ inl (not-false (needs r ops) (rw (is, some) at (not-true _ told)))
-                  | inr same ↦ inr same
-                ] in
-                let same = found-is s ops r x within reads seen in
-                rw (is, some) (omega (arith, left, same, ap (λ y. final r y ops) same))
-          ]
-    ]
+placed-balance = grind (arith, held_is, cases_Bool, after-final, final-kept, not-false, not-true, found-is)
 
 -- none of them writes the register blindly, or there is one writer at most, and the register holds this before it
 abbrev Fits : ℕ → ℕ → State → List Txn → Type 0

@@ -88,13 +88,11 @@ explains-by Strict start ts held small order within same c places kept completed
 
 within_list : (criterion : Criterion) (ts : List Txn) (held j : ℕ) → IsCompletion ts held → j < 8 → In (members_of criterion (length ts) held) j
     → j < length ts
-within_list Opacity ts held j c few is = bit_within (2 ^ length ts - 1) (length ts) j (omega (arith, pow_pos (length ts))) is
-within_list Strict ts held j c few is = elim (cases_lt j (length ts)) [ inl low ↦ low | inr past ↦ absurd (omega (arith, is, c.none j few past)) ]
+within_list = grind (arith, bit_within, pow_pos, cases_lt)
 
 held_in : (criterion : Criterion) (ts : List Txn) (held j : ℕ) → IsCompletion ts held → j < 8 → In held j
     → In (members_of criterion (length ts) held) j
-held_in Opacity ts held j c few is = bit_at_ones (length ts) j (within_list Strict ts held j c few is)
-held_in Strict ts held j c few is = is
+held_in = grind (arith, bit_at_ones, within_list)
 
 module _ (criterion : Criterion) (ts : List Txn) (xs : List Effect) (mat : List ℕ) (start : State) (acts : ActAs xs ts) (few : length ts ≤ 8)
     (shows : (held : ℕ) → IsCompletion ts held → ShowsOrder ts (members_of criterion (length ts) held) mat) (size : length start ≡ 8) where

@@ -185,12 +185,7 @@ step-way xs ts n q r p shows few (place, made) w =
 
 -- with none to place, the way is at its end
 pub way-end : (ts : List Txn) (p : ℕ × State) → IsOnWay ts 0 p p
-way-end ts p = record {
-  left = 0;
-  parts = λ i. omega (arith, bit_at-zero i);
-  size = ap length (chosen-zero ts);
-  leads = rw chosen-zero ([], record { each = refl; kept = refl; completed = refl; legal = refl }, refl);
-}
+way-end = grind (arith, bit_at-zero, chosen-zero)
 
 pub way_end : (ts : List Txn) (q p : ℕ × State) → p.0 < 2 ^ length ts → IsOnWay ts 0 q p → (q.0 ≡ p.0) × (q.1 ≡ p.1)
 way_end ts q p fits w = (same_from_bits q.0 p.0 (λ i. omega (arith, w.parts i, none i)), ends w.size w.leads)

@@ -1,14 +1,11 @@
 -- What the legal orders of a node are where more is known, and where a read is given its source.
-use Rattle.tmw_search.proofs.Shared.{AllSettled, Before, Bool, Choices, Chosen, Effect, From, Has, HasNone, In, IsBetween, IsFound, IsLegal, IsNode, IsOrder, IsRanking, IsRead, IsSound, IsTrue, List, Narrows, Node, Open, Reads, SettledSource, Settles, Source, Sourced, Start, State, Writes, arith, false, inl, inr, ordered, refl, slice_index, source_at, subst, sym, ℕ, ◌<◌, ◌≡◌, ◌⊎◌, cond, count_by, FromIs, Gives, Holds, Leaves, MayGive, Needs, WithinSource, ap, bit_at, bit_or, get_or, get_or-set_other, get_or-set_same, idle, is_open, length, set, ◌%◌, ◌*◌, ◌+◌, ◌^◌, ◌↔◌, ◌∙◌}
+use Rattle.tmw_search.proofs.Shared.{AllSettled, Before, Bool, Choices, Chosen, Effect, From, Has, HasNone, In, IsBetween, IsFound, IsLegal, IsNode, IsOrder, IsRanking, IsRead, IsSound, IsTrue, List, Narrows, Node, Open, Reads, SettledSource, Settles, Source, Sourced, State, Writes, arith, false, inl, inr, ordered, refl, slice_index, source_at, subst, sym, ℕ, ◌<◌, ◌≡◌, ◌⊎◌, cond, count_by, FromIs, Gives, Holds, Leaves, MayGive, Needs, WithinSource, ap, bit_at, bit_or, get_or, get_or-set_other, get_or-set_same, idle, is_open, length, set, ◌%◌, ◌*◌, ◌+◌, ◌^◌, ◌↔◌, ◌∙◌}
 use Rattle.tmw_search.proofs.Bits.{same_place, masks}
 use Rattle.tmw_search.proofs.Passing.{Grows, rank_of, order-ranks}
 use Rattle.std.proofs.lemmas.List.Sums.{sum_by-set}
 
 pub ranking-less : (old new : List ℕ) (rank : ℕ → ℕ) → Grows old new → IsRanking rank new → IsRanking rank old
-ranking-less old new rank grows r = record {
-  apart = r.apart;
-  kept = λ i j within_i within_j has. r.kept i j within_i within_j (grows i j within_i within_j has);
-}
+ranking-less = grind arith
 
 -- a read that is settled stays so, where fewer orders are kept and more is held
 pub settles-with : (xs : List Effect) (start : State) (may : ℕ) (old new : Node) (j r : ℕ)
@@ -39,43 +36,20 @@ node-ordered {xs = xs} {start = start} {may = may} {node = node} {reach = reach}
 -- a source that the ranking reads from is its last writer among those that are held
 pub reads-sourced : (xs : List Effect) (start : State) (held : ℕ) (rank : ℕ → ℕ) (j r writers : ℕ) (source : Source)
     → ((k : ℕ) → k < 8 → In writers k → Writes xs held r k) → Reads xs held start rank j r source → Sourced writers j source rank
-reads-sourced xs start held rank j r writers Open some is = tt
-reads-sourced xs start held rank j r writers Start some is = λ k within one. is.others k (some k within one)
-reads-sourced xs start held rank j r writers (From i) some is = record {
-  before = is.below;
-  out = λ k within one. is.others k (some k within one);
-}
+reads-sourced = grind arith
 
 pub legal-chosen : {xs : List Effect} {start : State} {may : ℕ} {node : Node} {held : ℕ} {rank : ℕ → ℕ} → IsNode xs start may node
     → IsLegal xs start may node held rank → Chosen node.choices rank
-legal-chosen {xs = xs} {start = start} {node = node} {held = held} {rank = rank} n l = λ j within_j r within_r is.
-    let (member, needs) = n.reads j r within_j within_r is in
-    reads-sourced xs start held rank j r (slice_index node.choices.writers r) (source_at node.choices j r)
-    (λ k within one.
-    let (holds, leaves) = (n.writers r k within_r within).0 one in
-    (within, l.more k within holds, leaves))
-    (l.reads j r within_j within_r (inl member) needs)
+legal-chosen = grind (arith, reads-sourced)
 
 -- a legal order with more known, and with less
 pub legal-with : {xs : List Effect} {start : State} {may : ℕ} {node : Node} {reach : List ℕ} {held : ℕ} {rank : ℕ → ℕ} → IsRanking rank reach
     → IsLegal xs start may node held rank → IsLegal xs start may (ordered node reach) held rank
-legal-with r l = record {
-  ranking = r;
-  more = l.more;
-  only = l.only;
-  agree = l.agree;
-  reads = l.reads;
-}
+legal-with = grind arith
 
 pub legal-less : {xs : List Effect} {start : State} {may : ℕ} {node : Node} {reach : List ℕ} {held : ℕ} {rank : ℕ → ℕ}
     → Grows node.reach reach → IsLegal xs start may (ordered node reach) held rank → IsLegal xs start may node held rank
-legal-less {node = node} {reach = reach} {rank = rank} grows l = record {
-  ranking = ranking-less node.reach reach rank grows l.ranking;
-  more = l.more;
-  only = l.only;
-  agree = l.agree;
-  reads = l.reads;
-}
+legal-less = grind (arith, ranking-less)
 
 pub none-settled : {xs : List Effect} {start : State} {may : ℕ} {node : Node} {reach : List ℕ} {alive : Bool} → IsNode xs start may node
     → Narrows (Chosen node.choices) node.reach reach alive → alive ≡ false → HasNone xs start may node
@@ -102,28 +76,12 @@ found-less grows f = found-from (λ held rank l. legal-less grows l) f
 
 -- all is settled, and so any order is legal
 pub before-of : (reach : List ℕ) (rank : ℕ → ℕ) (i j : ℕ) → i < 8 → j < 8 → IsRanking rank reach → Has reach i j → (i ≡ j → ⊥) → rank i < rank j
-before-of reach rank i j within_i within_j r has apart =
-    grind (arith, r.kept i j within_i within_j has, r.apart i j within_i within_j, apart)
+before-of = grind arith
 
 pub sourced-reads : (xs : List Effect) (start : State) (held : ℕ) (rank : ℕ → ℕ) (reach : List ℕ) (j r writers : ℕ) (source : Source) → j < 8
     → (source ≡ Open → ⊥) → ((k : ℕ) → Writes xs held r k → In writers k) → IsSound xs start held j r source → IsRanking rank reach
     → SettledSource writers j source reach → Reads xs held start rank j r source
-sourced-reads xs start held rank reach j r writers Open within closed all sound ranks s = absurd (closed refl)
-sourced-reads xs start held rank reach j r writers Start within closed all sound ranks s = record {
-  value = sound;
-  others = λ k w. ranks.kept j k within w.0 (s k w.0 (all k w));
-}
-sourced-reads xs start held rank reach j r writers (From i) within closed all sound ranks s =
-    let (w, value) = sound in
-    record {
-      writes = w;
-      value = value;
-      below = before-of reach rank i j w.0 within ranks s.has s.apart;
-      others = λ k v. elim (s.out k v.0 (all k v)) [
-        | inl before ↦ inl (ranks.kept k i v.0 w.0 before)
-        | inr after ↦ inr (ranks.kept j k within v.0 after)
-      ];
-    }
+sourced-reads = grind (arith, before-of)
 
 abbrev pub NoneOpen : Choices → Type 0
 NoneOpen c = (j r : ℕ) → j < 8 → r < 8 → IsRead c j r → source_at c j r ≡ Open → ⊥
@@ -173,30 +131,20 @@ abbrev opened : Source → ℕ
 opened source = cond (is_open source) 1 0
 
 closed-zero : (source : Source) → (source ≡ Open → ⊥) → opened source ≡ 0
-closed-zero Open closed = absurd (closed refl)
-closed-zero Start closed = refl
-closed-zero (From i) closed = refl
+closed-zero = grind arith
 
 -- the source of a read is chosen
 pub opens-less : (sources : List Source) (k : ℕ) (source : Source) → k < length sources → get_or sources k Open ≡ Open
     → (source ≡ Open → ⊥) → count_by is_open (set sources k source) < count_by is_open sources
-opens-less sources k source within free closed =
-    let less = rw free at (sum_by-set opened sources k source Open within) in
-    omega (arith, less, closed-zero source closed)
+opens-less = grind (arith, sum_by-set, closed-zero)
 
 pub given-closed : (xs : List Effect) (start : State) (may : ℕ) (node : Node) (j r : ℕ) (source : Source) → MayGive xs start may node j r source
     → source ≡ Open → ⊥
-given-closed xs start may node j r Open may_give same = may_give
-given-closed xs start may node j r Start may_give same = absurd (cc)
-given-closed xs start may node j r (From i) may_give same = absurd (cc)
+given-closed = grind arith
 
 pub sound-more : (xs : List Effect) (start : State) (old new j r : ℕ) (source : Source) → ((k : ℕ) → k < 8 → In old k → In new k)
     → IsSound xs start old j r source → IsSound xs start new j r source
-sound-more xs start old new j r Open more is = tt
-sound-more xs start old new j r Start more is = is
-sound-more xs start old new j r (From i) more is =
-    let ((within, holds, leaves), value) = is in
-    ((within, more i within holds, leaves), value)
+sound-more = grind arith
 
 -- the reads that are looked at, where a transaction more is held
 pub record HasReads (xs : List Effect) (old new : Node) : Type 0 where
@@ -246,14 +194,7 @@ held-with xs start may i old new within given n reach sources held members write
 
 pub mid-same : {xs : List Effect} {start : State} {may : ℕ} {source : Source} {node : Node} → IsNode xs start may node
     → ((k : ℕ) → FromIs source k → ⊥) → Holds xs start may source node node
-mid-same n none = record {
-  is = n;
-  reach = refl;
-  sources = refl;
-  held = λ k within. (inl, λ is. elim is [ inl was ↦ was | inr of ↦ absurd (none k of) ]);
-  members = λ k within. (inl, λ is. elim is [ inl was ↦ was | inr of ↦ absurd (none k of) ]);
-  reads = λ a q within_a within_q is. is;
-}
+mid-same = grind arith
 
 -- the node with the source of a read chosen
 abbrev pub chosen : Node → ℕ → ℕ → Source → Node
@@ -261,46 +202,32 @@ chosen node j r source = record node { choices = record node.choices { sources =
 
 pub chosen-here : (node : Node) (j r : ℕ) (source : Source) → j < 8 → r < 8 → length node.choices.sources ≡ 64
     → source_at (chosen node j r source).choices j r ≡ source
-chosen-here node j r source within_j within_r long =
-    get_or-set_same node.choices.sources (8 * j + r) source Open (omega (arith, within_j, within_r, long))
+chosen-here = grind (arith, get_or-set_same)
 
 pub chosen-else : (node : Node) (j r : ℕ) (source : Source) (a q : ℕ) → r < 8 → q < 8 → ((a ≡ j) × (q ≡ r) → ⊥)
     → source_at (chosen node j r source).choices a q ≡ source_at node.choices a q
-chosen-else node j r source a q within_r few differ =
-    get_or-set_other node.choices.sources (8 * j + r) (8 * a + q) source Open
-    (λ same. differ (omega (arith, same, within_r, few), omega (arith, same, within_r, few)))
+chosen-else = grind (arith, get_or-set_other)
 
 given-sound : (xs : List Effect) (start : State) (may held j r : ℕ) (node : Node) (source : Source) → ((k : ℕ) → k < 8 → FromIs source k → In held k)
     → MayGive xs start may node j r source → IsSound xs start held j r source
-given-sound xs start may held j r node Open has m = tt
-given-sound xs start may held j r node Start has m = m
-given-sound xs start may held j r node (From i) has m = let (within, where_from, leaves, value) = m in ((within, has i within refl, leaves), value)
+given-sound = grind arith
 
 -- what is read from a source is read
 given-open : (xs : List Effect) (held : ℕ) (start : State) (rank : ℕ → ℕ) (j r : ℕ) (source : Source) → Reads xs held start rank j r source
     → Reads xs held start rank j r Open
-given-open xs held start rank j r Open is = is
-given-open xs held start rank j r Start is = inl is
-given-open xs held start rank j r (From i) is = inr (i, is)
+given-open = grind arith
 
 -- a source that is read from is held
 read-held : (xs : List Effect) (held : ℕ) (start : State) (rank : ℕ → ℕ) (j r : ℕ) (source : Source) → Reads xs held start rank j r source
     → (k : ℕ) → FromIs source k → In held k
-read-held xs held start rank j r Open is k from = absurd from
-read-held xs held start rank j r Start is k from = absurd from
-read-held xs held start rank j r (From i) is k from = subst (λ (m : ℕ). In held m) (sym from) is.writes.1
+read-held = grind arith
 
 pub may-agree : (xs : List Effect) (start : State) (may : ℕ) (node : Node) (j r : ℕ) (source : Source) → MayGive xs start may node j r source
     → (k : ℕ) → FromIs source k → In node.held k ⊎ (In may k × IsTrue (get_or xs k idle).agrees)
-may-agree xs start may node j r Open m k from = absurd from
-may-agree xs start may node j r Start m k from = absurd from
-may-agree xs start may node j r (From i) (within, where_from, leaves, value) k from = rw from where_from
+may-agree = grind arith
 
 pub is_pair : (a q j r : ℕ) → ((a ≡ j) × (q ≡ r)) ⊎ ((a ≡ j) × (q ≡ r) → ⊥)
-is_pair a q j r = elim (same_place a j) [
-  | inl same ↦ elim (same_place q r) [ inl here ↦ inl (same, here) | inr apart ↦ inr (λ both. apart both.1) ]
-  | inr apart ↦ inr (λ both. apart both.0)
-]
+is_pair = grind (arith, same_place)
 
 pub gives-of : {xs : List Effect} {start : State} {may : ℕ} {node mid : Node} {j r : ℕ} {source : Source} → j < 8 → r < 8
     → IsRead node.choices j r → source_at node.choices j r ≡ Open → IsNode xs start may node → MayGive xs start may node j r source
@@ -373,8 +300,7 @@ pub reads-with : (xs : List Effect) (start : State) (may i : ℕ) (node new : No
     → length node.choices.reads ≡ 8 → IsNode xs start may node
     → ((k : ℕ) → k < 8 → In new.members k ↔ (In node.members k ⊎ (k ≡ i)))
     → new.choices.reads ≡ set node.choices.reads i (get_or xs i idle).needed → HasReads xs node new
-reads-with xs start may i node new within not size n members made =
-    record { only = grind (arith, masks); kept = grind (arith, masks); all = grind (arith, masks) }
+reads-with = grind (arith, masks)
 
 pub reads-same : (xs : List Effect) (start : State) (may i : ℕ) (node new : Node) → In node.members i → IsNode xs start may node
     → ((k : ℕ) → k < 8 → In new.members k ↔ (In node.members k ⊎ (k ≡ i)))
@@ -383,6 +309,4 @@ reads-same xs start may i node new has n members same = record { only = grind (a
 
 pub may-within : (xs : List Effect) (start : State) (may : ℕ) (node : Node) (j r : ℕ) (source : Source) → MayGive xs start may node j r source
     → WithinSource source
-may-within xs start may node j r Open m = tt
-may-within xs start may node j r Start m = tt
-may-within xs start may node j r (From i) m = m.0
+may-within = grind arith

@@ -194,9 +194,7 @@ Apart member rank = (i j : ℕ) → member i → member j → rank i ≡ rank j 
 
 module _ (ts : List Txn) (member : ℕ → Type 0) (held : ℕ) (rank : ℕ → ℕ) (apart : Apart member rank) where
   later : (upto k j : ℕ) (p : Placed) → IsNext ts member held rank upto k p → member j → upto ≤ rank j → (j ≡ k → ⊥) → rank k + 1 ≤ rank j
-  later upto k j p x is high differ =
-      let above = x.least j is high in
-      elim (same_place (rank k) (rank j)) [ inl same ↦ absurd (differ (sym (apart k j x.is is same))) | inr less ↦ omega (arith, above, less) ]
+  later = grind (arith, same_place)
 
   -- what holds of all in the order holds of each member, and the other way round
   pub sorted_all : (f : Placed → Bool) (upto : ℕ) (order : List Placed) → IsSorted ts member held rank upto order
@@ -265,47 +263,14 @@ pub record Serves (xs : List Effect) (member : ℕ → Type 0) (held : ℕ) (sta
 pub one-end : {xs : List Effect} {held : ℕ} {rank : ℕ → ℕ} {r was v w : ℕ}
     → ((i j : ℕ) → Writes xs held r i → Writes xs held r j → rank i ≡ rank j → i ≡ j)
     → EndsAt xs held rank r was v → EndsAt xs held rank r was w → v ≡ w
-one-end apart (inl (none, is)) (inl (also, same)) = is ∙ sym same
-one-end apart (inl (none, is)) (inr (q, m)) = absurd (none q m.writes)
-one-end apart (inr (p, l)) (inl (none, is)) = absurd (none p l.writes)
-one-end {xs = xs} {r = r} apart (inr (p, l)) (inr (q, m)) =
-    let same : p ≡ q = apart p q l.writes m.writes (omega (arith, l.last q m.writes, m.last p l.writes)) in
-    l.is ∙ ap (λ (k : ℕ). left_at xs k r) same ∙ sym m.is
+one-end = grind arith
 
 module _ (ts : List Txn) (xs : List Effect) (member : ℕ → Type 0) (held : ℕ) (start : State) (rank : ℕ → ℕ) (apart : Apart member rank)
     (low : (j : ℕ) → member j → j < 8) (sub : (j : ℕ) → j < 8 → In held j → member j) (acts : ActAs xs ts) where
   -- the value is there where it is read from the start or from a writer, and only there
   reads_value : (upto k r old value : ℕ) (p : Placed) → old ≡ slice_index start r → IsNext ts member held rank upto k p → ValueAt xs held rank upto r old value
       → (value ≡ need_at xs k r) ↔ Reads xs held start rank k r Open
-  reads_value upto k r old value p is x (inl (none, same)) = (
-    λ need. inl (record { value = sym is ∙ sym same ∙ need; others = λ w v. x.least w (sub w v.0 v.1) (none w v) }),
-    λ reads. elim reads [
-      | inl st ↦ same ∙ is ∙ st.value
-      | inr (i, f) ↦ absurd (omega (arith, f.below, x.least i (sub i f.writes.0 f.writes.1) (none i f.writes)))
-    ],
-  )
-  reads_value upto k r old value p is x (inr (place, l)) = (
-    λ need. inr (
-      place,
-      record {
-        writes = l.writes;
-        value = sym l.is ∙ need;
-        below = omega (arith, l.below, x.above);
-        others = λ w v. elim (cases_lt (rank w) upto) [ inl below ↦ inl (l.last w v below) | inr above ↦ inr (x.least w (sub w v.0 v.1) above) ];
-      },
-    ),
-    λ reads. elim reads [
-      | inl st ↦ absurd (omega (arith, l.below, x.above, st.others place l.writes))
-      | inr (i, f) ↦ elim (cases_lt (rank i) upto) [
-        | inr above ↦ absurd (omega (arith, f.below, x.least i (sub i f.writes.0 f.writes.1) above))
-        | inl below ↦ elim (f.others place l.writes) [
-          | inr high ↦ absurd (omega (arith, high, l.below, x.above))
-          | inl least ↦ l.is ∙ ap (λ (w : ℕ). left_at xs w r)
-              (apart place i (sub place l.writes.0 l.writes.1) (sub i f.writes.0 f.writes.1) (omega (arith, least, l.last i f.writes below))) ∙ f.value
-        ]
-      ]
-    ],
-  )
+  reads_value = grind (arith, cases_lt)
 
   -- what is held behind the next
   value-next : (upto k r old : ℕ) (p : Placed) (s : State) → length s ≡ 8 → r < 8 → IsNext ts member held rank upto k p

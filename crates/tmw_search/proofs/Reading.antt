@@ -1,5 +1,5 @@
 -- What follows from each read, one after another.
-use Rattle.tmw_search.proofs.Shared.{Bool, Branch, Chosen, Effect, Entails, From, Gives, HasNone, In, IsBranch, IsFalse, IsLegal, IsNode, IsOnly, IsRead, IsSound, IsTrue, KeepsOthers, LeavesOut, List, Narrows, Node, NoneMay, TakesIn, Open, Reads, ReadsFrom, SettledSource, Settles, Source, Sourced, Start, State, Writes, ap, arith, bit_and, bit_at, bit_at-zero, bit_at_clear_other, bit_not, eq-eqb, false, inl, inr, looking, need_at, ordered, refl, slice_index, source_at, subst, sym, true, w8, ℕ, ◌%◌, ◌*◌, ◌+◌, ◌-◌, ◌<◌, ◌==◌, ◌^◌, ◌↔◌, ◌∙◌, ◌≡◌, ◌≤◌, ◌⊎◌}
+use Rattle.tmw_search.proofs.Shared.{Bool, Branch, Chosen, Effect, Entails, From, Gives, HasNone, In, IsBranch, IsFalse, IsLegal, IsNode, IsOnly, IsRead, IsTrue, KeepsOthers, LeavesOut, List, Narrows, Node, NoneMay, TakesIn, Open, Reads, ReadsFrom, SettledSource, Settles, Source, Sourced, Start, State, Writes, ap, arith, bit_and, bit_at, bit_at-zero, bit_at_clear_other, bit_not, eq-eqb, false, inl, inr, looking, need_at, ordered, refl, slice_index, source_at, subst, sym, true, w8, ℕ, ◌%◌, ◌*◌, ◌+◌, ◌-◌, ◌<◌, ◌==◌, ◌^◌, ◌↔◌, ◌∙◌, ◌≡◌, ◌≤◌, ◌⊎◌}
 use Rattle.tmw_search.proofs.Bits.{masks, same_place}
 use Rattle.tmw_search.proofs.Branching.{never-true}
 use Rattle.tmw_search.proofs.Nodes.{is_pair, sound-more, node-ordered, legal-chosen, legal-with, legal-less, reads-sourced, sourced-reads}
@@ -23,10 +23,7 @@ follows-none none = record {
 -- nodes that differ in what is looked at have the same legal orders
 legal-looking : {xs : List Effect} {start : State} {may : ℕ} {node : Node} {held : ℕ} {rank : ℕ → ℕ} (reads : List ℕ)
     → IsLegal xs start may node held rank ↔ IsLegal xs start may (looking node reads) held rank
-legal-looking reads = (
-  λ l. record { ranking = l.ranking; more = l.more; only = l.only; agree = l.agree; reads = l.reads },
-  λ l. record { ranking = l.ranking; more = l.more; only = l.only; agree = l.agree; reads = l.reads },
-)
+legal-looking = grind arith
 
 -- a settled read is left out
 pub follows-left : {xs : List Effect} {start : State} {may j r : ℕ} {old new : Node} → LeavesOut j r old new → Settles xs start may old j r
@@ -55,10 +52,7 @@ follows-left {xs = xs} {start = start} {may = may} {j = j} {r = r} {old = old} {
 -- a writer of the register is one that the node holds
 held-writes : (xs : List Effect) (start : State) (may r k held : ℕ) (node : Node) → r < 8 → IsNode xs start may node → NoneMay xs may r
     → ((i : ℕ) → i < 8 → In held i → In node.held i ⊎ In may i) → Writes xs held r k → In (slice_index node.choices.writers r) k
-held-writes xs start may r k held node within n none among w = elim (among k w.0 w.1) [
-  | inl own ↦ (n.writers r k within w.0).1 (own, w.2)
-  | inr might ↦ absurd (none k w.0 might w.2)
-]
+held-writes = grind arith
 
 -- no other writes the register
 pub alone : (mask j k : ℕ) → bit_and mask (bit_not w8 (1 * 2 ^ j % 2 ^ 8)) ≡ 0 → k < 8 → j < 8 → In mask k → k ≡ j
@@ -101,8 +95,7 @@ follows-never is none not = follows-none (λ held rank l. elim (is.all held rank
 ])
 
 false-true : (b : Bool) → IsFalse b → IsTrue b → ⊥
-false-true true is not = absurd (cc)
-false-true false is not = absurd (cc)
+false-true = grind arith
 
 only-reads : (xs : List Effect) (start : State) (may : ℕ) (node : Node) (b : Branch) (source : Source) → IsBranch xs start may node b
     → IsOnly b source → (held : ℕ) (rank : ℕ → ℕ) → IsLegal xs start may node held rank → Reads xs held start rank b.reader b.register source
@@ -150,16 +143,10 @@ follows-settled {xs = xs} {start = start} {may = may} {mid = mid} {reach = reach
 pub settled-by : {xs : List Effect} {start : State} {may : ℕ} {node : Node} (j r : ℕ) (source : Source) → j < 8 → r < 8
     → IsNode xs start may node → NoneMay xs may r → source_at node.choices j r ≡ source → (source ≡ Open → ⊥)
     → SettledSource (slice_index node.choices.writers r) j source node.reach → Settles xs start may node j r
-settled-by {xs = xs} {start = start} {may = may} {node = node} j r source within_j within_r n none at closed s held rank ranks more among =
-    subst (λ (x : Source). Reads xs held start rank j r x) (sym at)
-    (sourced-reads xs start held rank node.reach j r (slice_index node.choices.writers r) source within_j closed
-    (λ k w. held-writes xs start may r k held node within_r n none among w) (sound-more xs start node.held held j r source more
-    (subst (λ (x : Source). IsSound xs start node.held j r x) at (n.sound j r within_j within_r))) ranks s)
+settled-by = grind (arith, sourced-reads, held-writes, sound-more)
 
 pub only-closed : (b : Branch) (source : Source) → IsOnly b source → source ≡ Open → ⊥
-only-closed b Open only same = only
-only-closed b Start only same = absurd (cc)
-only-closed b (From i) only same = absurd (cc)
+only-closed = grind arith
 
 -- the reads of one transaction, those of the mask left
 pub record ReadBy (xs : List Effect) (start : State) (may j left : ℕ) (old now : Node) : Type 0 where
@@ -187,19 +174,14 @@ pub read-next : {xs : List Effect} {start : State} {may j : ℕ} {reads : List �
     → ((a q : ℕ) → a < 8 → q < 8 → (a ≡ j → ⊥) → IsRead mid.choices a q
     → IsRead new.choices a q × (source_at new.choices a q ≡ source_at mid.choices a q))
     → ReadFrom xs start may (j + 1) reads old new
-read-next b f kept = record {
-  follows = follows-then b.follows f;
-  waits = grind (arith, masks);
-}
+read-next = grind (arith, follows-then, masks)
 
 pub kept-given : {xs : List Effect} {start : State} {may : ℕ} {old new : Node} {j r : ℕ} {source : Source}
     → Gives xs start may old j r source new → KeepsOthers j r old new
 kept-given g = λ a q within_a within_q differ is. (g.reads a q within_a within_q is, g.others a q within_q differ)
 
 pub kept-left : {mid new : Node} {j r : ℕ} (old : Node) → LeavesOut j r mid new → KeepsOthers j r old mid → KeepsOthers j r old new
-kept-left old lo kept = λ a q within_a within_q differ is.
-    let (read, same) = kept a q within_a within_q differ is in
-    rw lo.is (lo.kept a q within_a within_q differ read, same)
+kept-left = grind arith
 
 pub taken-given : {xs : List Effect} {start : State} {may : ℕ} {old mid : Node} {reach : List ℕ} {b : Branch} {source : Source} {alive : Bool}
     → IsBranch xs start may old b → IsOnly b source → Gives xs start may old b.reader b.register source mid

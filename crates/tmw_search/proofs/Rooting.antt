@@ -1,5 +1,5 @@
 -- Where the search begins: the masks of who precedes whom are an order, and are the real-time order of a window's transactions.
-use Rattle.tmw_search.proofs.Shared.{AllByRecursion, AreRising, Begins, Bool, Criterion, Event, Has, In, IsOrder, IsRow, IsTrue, Lies, List, Marks, Opacity, Some, Strict, Txn, View, [], add_event, and_from, and_parts, ap, arith, bit, bit_and, bit_at-zero, bit_at_ones, bit_or, cases_Bool, cases_lt, false, get_or-set_other, get_or-set_same, get_or_past, inl, inr, is_ended, length, length-set, lies-add, lt-ltb, ltb-true, members_of, precedes, refl, set, slice_get, slice_get_within, slice_index, suc, sym, transactions, transactions_from, true, views_of, zero, ℕ, ◌%◌, ◌*◌, ◌+◌, ◌-◌, ◌<◌, ◌^◌, ◌↔◌, ◌∙◌, ◌∷◌, ◌≡◌, ◌≤◌, ◌⊎◌}
+use Rattle.tmw_search.proofs.Shared.{AllByRecursion, AreRising, Begins, Bool, Criterion, Event, Has, In, IsOrder, IsRow, IsTrue, Lies, List, Marks, Some, Txn, View, [], add_event, and_from, and_parts, ap, arith, bit, bit_and, bit_at-zero, bit_at_ones, bit_or, cases_Bool, cases_lt, false, get_or-set_other, get_or-set_same, get_or_past, inl, inr, is_ended, length, length-set, lies-add, lt-ltb, ltb-true, members_of, precedes, refl, set, slice_get, slice_get_within, slice_index, suc, sym, transactions, transactions_from, true, views_of, zero, ℕ, ◌%◌, ◌*◌, ◌+◌, ◌-◌, ◌<◌, ◌^◌, ◌↔◌, ◌∙◌, ◌∷◌, ◌≡◌, ◌≤◌, ◌⊎◌}
 use Rattle.std.proofs.lemmas.List.FromFn.{get_or-map-range_with_len}
 use Rattle.std.proofs.Math.Pow.{pow-lt}
 use Rattle.tmw_defs.proofs.OneMore.{joins, add_event_here, add_event_past}
@@ -165,21 +165,7 @@ rows-order mask xs n reach before r = record {
 
 pub rows-begin : (mask : ℕ) (xs : List View) (n : ℕ) (reach : List ℕ) (before : ℕ) → n ≡ length xs → length xs ≤ 8
     → Rows mask xs n reach before → AreRising xs → Begins mask xs reach
-rows-begin mask xs n reach before all few r rising = record {
-  each = λ i j y within_i at apart.
-      let below : j < n = (let w = slice_get_within xs j y at in omega (arith, w, all)) in
-      let both = r.has i j within_i (omega (arith, below, all, few)) in (
-        λ has. elim (both.0 has) [
-          | inl same ↦ absurd (apart same)
-          | inr (less, own, other, (m, x, less_m, at_m, one, past)) ↦ (own, other, rising.later i m j x y at_m at (omega (arith, less_m)) one)
-        ],
-        λ (own, other, one). both.1 (inr (below, own, other, (j, y, omega arith, at, one, rising.earlier i j y at one))),
-      );
-  none = λ i j within_i within_j apart past has. elim ((r.has i j within_i within_j).0 has) [
-    | inl same ↦ apart same
-    | inr (below, own, other, under) ↦ absurd (omega (arith, below, all, past))
-  ];
-}
+rows-begin = grind (arith, slice_get_within)
 
 abbrev alone : List ℕ
 alone = 1 ∷ 2 ∷ 4 ∷ 8 ∷ 16 ∷ 32 ∷ 64 ∷ 128 ∷ []
@@ -188,15 +174,7 @@ alone-at : (j : ℕ) → j < 8 → slice_index alone j ≡ 2 ^ j
 alone-at j few = get_or-map-range_with_len (λ k. 2 ^ k) 0 8 j j 0 few (omega arith)
 
 pub rows-none : (mask : ℕ) (xs : List View) → Rows mask xs 0 (1 ∷ 2 ∷ 4 ∷ 8 ∷ 16 ∷ 32 ∷ 64 ∷ 128 ∷ []) 0
-rows-none mask xs = record {
-  size = refl;
-  fits = λ k. elim (cases_lt k 8) [
-    | inl few ↦ omega (arith, alone-at k few, pow-lt few)
-    | inr past ↦ omega (arith, get_or_past alone k 0 past)
-  ];
-  upto = λ i. (λ is. absurd (omega (arith, is, bit_at-zero i)), λ (m, x, within, at, one, less). absurd (omega (arith, within)));
-  has = λ i j few_i few_j. grind (arith, masks, alone-at j few_j);
-}
+rows-none = grind (arith, cases_lt, alone-at, pow-lt, get_or_past, bit_at-zero, masks)
 
 -- the mask with one more looked at
 pub marks-more : (holds : View → Bool) (xs : List View) (n mask : ℕ) (x : View) → n < 8 → slice_get xs n ≡ Some x → Marks holds xs n mask
@@ -209,8 +187,7 @@ marks-same holds xs n mask x at m out = record { below = grind (arith, masks); r
 
 -- one that is held is in each serial order
 pub held-member : (criterion : Criterion) (n held i : ℕ) → i < n → In held i → In (members_of criterion n held) i
-held-member Strict n held i within has = has
-held-member Opacity n held i within has = bit_at_ones n i within
+held-member = grind (arith, bit_at_ones)
 
 -- those that the mask has are of the list
 pub marks-within : (holds : View → Bool) (xs : List View) (n mask i : ℕ) → Marks holds xs n mask → In mask i → i < n

@@ -1,11 +1,10 @@
 -- What a window shows of its events is what the search and the law need of their transactions.
-use Rattle.tmw_search.proofs.Shared.{AllByRecursion, Event, Lies, List, NoneBeforeItself, ShowsTransaction, ShowsTransactions, Some, Txn, [], and_right, ap, arith, before_of, bit, bit_at-before_of, get_or, is_ended, le-ltb, length, lies-transactions, map, option_map, pow-suc, precedes, refl, slice_get, slice_get-map, slice_get_read, suc, transactions, view, view_of, views_of, zero, ℕ, ◌+◌, ◌<◌, ◌^◌, ◌∙◌, ◌∷◌, ◌≡◌, ◌≤◌, ActAs, ActsAs, Bool, Effect, HaveEight, IsTrue, Op, State, and_from, and_parts, bit_at, cases_Bool, effect_of, effects, eq-eqb, eqb-true, false, get_or_from_slice_get, have, idle, inl, inr, length-map, not, slice_get_within, slice_index, sym, true, ◌&&◌, ◌==◌, ◌||◌}
+use Rattle.tmw_search.proofs.Shared.{AllByRecursion, Event, Lies, List, NoneBeforeItself, ShowsTransaction, ShowsTransactions, Some, Txn, [], and_right, ap, arith, before_of, bit, bit_at-before_of, get_or, is_ended, le-ltb, length, lies-transactions, map, option_map, pow-suc, precedes, refl, slice_get, slice_get-map, slice_get_read, suc, transactions, view, view_of, views_of, zero, ℕ, ◌<◌, ◌^◌, ◌∙◌, ◌∷◌, ◌≡◌, ◌≤◌, ActAs, ActsAs, Bool, Effect, HaveEight, IsTrue, Op, State, and_from, and_parts, cases_Bool, effect_of, effects, eq-eqb, eqb-true, false, get_or_from_slice_get, have, idle, inl, inr, length-map, not, slice_get_within, slice_index, true, ◌==◌, ◌||◌}
 use Rattle.tmw_cuts.proofs.Standings.{length-views_of}
 use Rattle.tmw_cuts.proofs.Masks.{bit-le}
 use Rattle.tmw_cuts.proofs.Chosen.{get_or-chosen, length-chosen}
 use Rattle.tmw_cuts.proofs.Effects.{index-put}
 use Rattle.tmw_cuts.specs.Effects.{SumsUp}
-use Rattle.tmw_cuts.specs.Registers.{chosen}
 use Rattle.tmw_search.proofs.LayerSteps.{slice_get_some}
 use Rattle.tmw_cuts.specs.declared.txn.Txn as cuts
 
@@ -20,15 +19,7 @@ shows-one : (ts : List Txn) (t : Txn) → ShowsTransaction ts (view_of ts t) t
 shows-one ts t = record { ops = refl; status = refl; fits = before_of-lt ts t; bits = λ i u at. bit_at-before_of ts t u i at }
 
 pub shows-views_of : (events : List Event) → ShowsTransactions (views_of events) (transactions events)
-shows-views_of events =
-    let ts = transactions events in
-    record {
-      same_length = length-views_of events;
-      each = λ i x t shown at.
-          let made = rw at at (slice_get-map (view_of ts) ts i) in
-          let is : x ≡ view_of ts t = cc in
-          rw is (shows-one ts t);
-    }
+shows-views_of = grind (arith, length-views_of, slice_get-map, shows-one)
 
 lies-at : (upto i : ℕ) (ts : List Txn) (t : Txn) → AllByRecursion (Lies 0 upto) ts → slice_get ts i ≡ Some t → Lies 0 upto t
 lies-at upto i [] t lies at = absurd (cc)
@@ -37,8 +28,7 @@ lies-at upto (suc i) (u ∷ ts) t lies at = lies-at upto i ts t lies.1 at
 
 -- a transaction's last event isn't before its first, so it does not precede itself
 pub last_in_time : (events : List Event) (i : ℕ) (t : Txn) → slice_get (transactions events) i ≡ Some t → t.first ≤ t.last
-last_in_time events i t at =
-    (lies-at (0 + length events) i (transactions events) t (lies-transactions 0 0 [] events (omega arith) tt) at).ordered
+last_in_time = grind (arith, lies-at, lies-transactions)
 
 pub none_before_itself : (events : List Event) → NoneBeforeItself (transactions events)
 none_before_itself events i t at = and_right (is_ended t.text) _ (le-ltb t.last t.first (last_in_time events i t at))
@@ -46,8 +36,7 @@ none_before_itself events i t at = and_right (is_ended t.text) _ (le-ltb t.last 
 -- what the list shows at a place that it has
 pub shown_at : (items : List cuts.Txn) (place : ℕ) (item : cuts.Txn) → place < length items → item ≡ get_or items place item
     → slice_get (map view items) place ≡ Some (view item)
-shown_at items place item within is =
-    slice_get-map view items place ∙ ap (option_map view) (slice_get_read items (length items) place item refl within is)
+shown_at = grind (arith, slice_get-map, slice_get_read)
 
 have_at : (ds : List Bool) (vs : List ℕ) (s : State) (i : ℕ) → i < length ds → i < length vs → i < length s → IsTrue (have ds vs s)
     → get_or ds i false ≡ true → slice_index s i ≡ slice_index vs i
@@ -75,28 +64,7 @@ have-each (d ∷ ds) (v ∷ vs) (x ∷ s) each a b =
     ]
 
 pub acts-as : (e : Effect) (ops : List Op) → length e.needs ≡ 8 → length e.leaves ≡ 8 → SumsUp e ops → ActsAs e ops
-acts-as e ops needs leaves sums =
-    let long : (mask r : ℕ) → r < 8 → r < length (chosen mask) = λ mask r few. omega (arith, few, length-chosen mask) in
-    record {
-      reads = λ s size. (
-        λ holds.
-            let both : IsTrue (e.agrees && have (chosen e.needed) e.needs s) = rw (sums s size).0 at holds in
-            let (agree, has) = and_parts e.agrees _ both in (
-              agree,
-              λ r few one. have_at (chosen e.needed) e.needs s r (long e.needed r few) (omega (arith, few, needs)) (omega (arith, few, size)) has
-                  (get_or-chosen e.needed r false few ∙ eq-eqb (bit_at e.needed r) 1 one),
-            ),
-        λ told.
-            let (agree, each) = told in
-            rw (sums s size).0 (and_from e.agrees _ agree (have-each (chosen e.needed) e.needs s (λ i within one.
-            let few : i < 8 = omega (arith, within, length-chosen e.needed) in
-            each i few (eqb-true (bit_at e.needed i) 1 (sym (get_or-chosen e.needed i false few) ∙ one)))
-            (length-chosen e.needed ∙ sym needs) (length-chosen e.needed ∙ sym size))),
-      );
-      leaves = λ s r size few.
-          let put_is = index-put (chosen e.left) e.leaves s r (long e.left r few) (omega (arith, few, leaves)) (omega (arith, few, size)) in
-          ap (λ (t : State). slice_index t r) (sums s size).1 ∙ rw (get_or-chosen e.left r false few) at put_is;
-    }
+acts-as = grind (arith, length-chosen, and_parts, have_at, get_or-chosen, eq-eqb, and_from, have-each, eqb-true, index-put)
 
 -- a window's effects are its transactions' acts
 pub act-as : (items : List cuts.Txn) (ts : List Txn) → ShowsTransactions (map view items) ts → HaveEight items

@@ -1,4 +1,4 @@
-use Rattle.tmw_search.proofs.Shared.{arith, effects, length, refl, sym, ◌∙◌, ◌≡◌}
+use Rattle.tmw_search.proofs.Shared.{arith, effects, ◌∙◌}
 use Rattle.tmw_search.proofs.Adding.{adds-first, adds-next}
 use Rattle.tmw_search.proofs.Bits.{or-left, or-right}
 use Rattle.tmw_search.proofs.Completing.{EndsAtIndex, below-same, below-all, ends-read}
@@ -6,15 +6,10 @@ use Rattle.tmw_search.proofs.completions.add_all.Goals.{then-index-eq0+in_ok-add
 use Rattle.tmw_search.proofs.completions.add_all.Goals as goal
 
 pub returns-then-starts-eq0-clause-adds : goal.returns-then-starts-eq0-clause-adds
-returns-then-starts-eq0-clause-adds c =
-    below-all (omega arith) (λ all. sym c.if-starts-eq0.true) adds-first
+returns-then-starts-eq0-clause-adds = grind (arith, below-all, adds-first)
 
 pub loop-index-init : goal.loop-index-init
-loop-index-init c = record {
-  adds = adds-first;
-  cap = refl;
-  follows = c.reading_of-reading.ensures.follows;
-}
+loop-index-init = grind (arith, adds-first)
 
 pub reading_of-reading-requires-clause-node : goal.reading_of-reading-requires-clause-node
 reading_of-reading-requires-clause-node c = c.requires.node _
@@ -50,6 +45,4 @@ loop-index-preserved c =
     ]
 
 pub returns-clause-adds : goal.returns-clause-adds
-returns-clause-adds c =
-    let all : c.loop-index.index ≡ length c.args.starts.now = omega (arith, c.loop-index-test.false, c.loop-index.auto.index-end) in
-    below-all (omega (arith, all)) (λ done. all) c.loop-index.invariant.adds
+returns-clause-adds = grind (arith, below-all)

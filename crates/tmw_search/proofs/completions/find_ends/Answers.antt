@@ -1,16 +1,14 @@
-use Rattle.tmw_search.proofs.Shared.{arith, length-map, view}
+use Rattle.tmw_search.proofs.Shared.{arith, length-map}
 use Rattle.tmw_search.proofs.Answering.{begun}
 use Rattle.tmw_search.proofs.Completing.{ends-few, ends-many}
 use Rattle.tmw_search.proofs.Rooting.{marks-within}
 use Rattle.tmw_search.proofs.completions.find_ends.Goals as goal
 
 pub add_completions-requires-clause-within : goal.add_completions-requires-clause-within
-add_completions-requires-clause-within c = λ i has.
-    let w = marks-within _ _ _ _ i c.statuses_of-statuses.ensures.shows.committed_at has in omega (arith, w, length-map c.args.items.now view)
+add_completions-requires-clause-within c = grind (arith, marks-within, c.statuses_of-statuses.ensures.shows.committed_at, length-map)
 
 pub add_completions-requires-clause-left : goal.add_completions-requires-clause-left
-add_completions-requires-clause-left c = λ i has.
-    let w = marks-within _ _ _ _ i c.statuses_of-statuses.ensures.shows.pending_at has in omega (arith, w, length-map c.args.items.now view)
+add_completions-requires-clause-left c = grind (arith, marks-within, c.statuses_of-statuses.ensures.shows.pending_at, length-map)
 
 pub returns-then-not-branch : goal.returns-then-not-branch
 returns-then-not-branch c =

@@ -1,4 +1,4 @@
-use Rattle.tmw_search.proofs.Shared.{ap, arith, bit_at, bit_at-lt, bit_at_or, eq-eqb, eqb-true, inl, inr, same_from_bits, shr_and_one, sym, ◌∙◌}
+use Rattle.tmw_search.proofs.Shared.{ap, arith, bit_at, bit_at-lt, bit_at_or, eq-eqb, eqb-true, same_from_bits, shr_and_one, sym, ◌∙◌}
 use Rattle.tmw_search.proofs.Bits.{bit_cases}
 use Rattle.tmw_search.proofs.nexts.is_next.Goals as goal
 
@@ -10,8 +10,5 @@ returns-then-mask-place-eq0 c =
         new = sym (shr_and_one mask c.args.place) ∙ c.if-mask-place-eq0.true;
         later = λ i one. omega (arith, one, bit_at_or before mask i, ap (λ n. bit_at n i) (eqb-true _ mask same), bit_at-lt mask i);
       },
-      λ comes. eq-eqb _ mask (same_from_bits _ mask (λ i. elim (bit_cases before i) [
-        | inl none ↦ omega (arith, none, bit_at_or before mask i)
-        | inr one ↦ omega (arith, one, comes.later i one, bit_at_or before mask i)
-      ])),
+      λ comes. eq-eqb _ mask (same_from_bits _ mask (grind (arith, bit_cases, before, bit_at_or, mask, comes.later))),
     )

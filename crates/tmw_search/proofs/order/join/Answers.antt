@@ -4,5 +4,4 @@ use Rattle.tmw_search.proofs.order.join.Goals as goal
 
 pub returns : goal.returns
 returns c =
-    joins-each c.args.place c.args.before c.args.reach.now c.loop-k.reach c.loop-k.invariant.0 c.requires.order.fits c.ranges.before.fits (λ k within.
-    c.loop-k.invariant.1 k (omega (arith, within, c.loop-k-test.false)))
+    joins-each c.args.place c.args.before c.args.reach.now c.loop-k.reach c.loop-k.invariant.0 c.requires.order.fits c.ranges.before.fits (grind (arith, c.loop-k.invariant.1, c.loop-k-test.false))

@@ -7,12 +7,7 @@ pub loop-j-init : goal.loop-j-init
 loop-j-init c = passed-none c.requires.order
 
 pub returns-in-Never : goal.returns-in-Never
-returns-in-Never c = record {
-  narrows = narrows-then (λ rank is. is) (λ rank is. λ k within any. is k within) (same-narrows c.requires.order)
-      (passed-never c.loop-j-test.true (omega arith) c.loop-j.invariant c.in-Never.ensures.narrows);
-  clear = tt;
-  stuck = tt;
-}
+returns-in-Never = grind (arith, narrows-then, same-narrows, passed-never)
 
 pub loop-j-preserved : goal.loop-j-preserved
 loop-j-preserved c =

@@ -16,12 +16,7 @@ loop-place-preserved c =
     c.loop-place.invariant c.row_of.ensures
 
 pub returns-clause-order : goal.returns-clause-order
-returns-clause-order c =
-    rows-order c.args.mask (map view c.args.items.now) c.loop-place.place c.loop-place.reach c.loop-place.before c.loop-place.invariant
+returns-clause-order = grind (arith, rows-order)
 
 pub returns-clause-shows : goal.returns-clause-shows
-returns-clause-shows c =
-    let items = c.args.items.now in
-    rows-begin c.args.mask (map view items) c.loop-place.place c.loop-place.reach c.loop-place.before
-    (omega (arith, length-map items view, c.loop-place-test.false, c.loop-place.auto.place-end)) (omega (arith, length-map items view, c.requires))
-    c.loop-place.invariant
+returns-clause-shows = grind (arith, rows-begin, length-map)

@@ -1,4 +1,4 @@
-use Rattle.tmw_search.proofs.Shared.{Bool, HasEight, Marks, Some, View, ap, arith, effect_of, is_committed, is_pending, length, length-map, map, refl, slice_get, slice_get_read, slice_get_within, view, ℕ, ◌+◌, ◌<◌, ◌≡◌}
+use Rattle.tmw_search.proofs.Shared.{Bool, HasEight, Marks, Some, View, arith, effect_of, length, length-map, map, refl, slice_get, slice_get_read, slice_get_within, view, ℕ, ◌+◌, ◌<◌, ◌≡◌}
 use Rattle.tmw_search.proofs.Rooting.{marks-more, marks-same}
 use Rattle.tmw_search.proofs.WindowViews.{shown_at}
 use Rattle.tmw_search.proofs.root.statuses_of.Goals.{in-Committed, in-Pending, in-Live, in-Aborted}
@@ -19,38 +19,10 @@ loop-place-preserved c =
     let eight : (i : ℕ) (y : cuts.Txn) → i < place + 1 → slice_get items i ≡ Some y → HasEight (effect_of y) =
     λ i y below there. grind (arith, c.loop-place.invariant.eight i y, here, sized) in
     let set = λ (holds : View → Bool) (mask : ℕ) (m : Marks holds (map view items) place mask). marks-more holds (map view items) place mask x within at m in
-    let keep = λ (holds : View → Bool) (mask : ℕ) (m : Marks holds (map view items) place mask). marks-same holds (map view items) place mask x at m in
-    let committed = c.loop-place.invariant.committed in
-    let pending = c.loop-place.invariant.pending in
-    elim c.match-item.branch [
-      | in-Committed w ↦ rw (w.committed-is, w.pending-is) (record {
-        committed = set _ _ committed (ap is_committed w.in-Committed.is);
-        pending = keep _ _ pending (ap is_pending w.in-Committed.is);
-        eight = eight;
-      })
-      | in-Pending w ↦ rw (w.committed-is, w.pending-is) (record {
-        committed = keep _ _ committed (ap is_committed w.in-Pending.is);
-        pending = set _ _ pending (ap is_pending w.in-Pending.is);
-        eight = eight;
-      })
-      | in-Live w ↦ rw (w.committed-is, w.pending-is) (record {
-        committed = keep _ _ committed (ap is_committed w.in-Live.is);
-        pending = keep _ _ pending (ap is_pending w.in-Live.is);
-        eight = eight;
-      })
-      | in-Aborted w ↦ rw (w.committed-is, w.pending-is) (record {
-        committed = keep _ _ committed (ap is_committed w.in-Aborted.is);
-        pending = keep _ _ pending (ap is_pending w.in-Aborted.is);
-        eight = eight;
-      })
-    ]
+    grind (arith, marks-same, x, c.loop-place.invariant.committed, c.loop-place.invariant.pending, c.match-item.branch, set, eight)
 
 pub returns-clause-shows : goal.returns-clause-shows
-returns-clause-shows c =
-    let all : c.loop-place.place ≡ length (map view c.args.items.now) =
-    omega (arith, length-map c.args.items.now view, c.loop-place-test.false, c.loop-place.auto.place-end) in
-    record { committed_at = rw all at c.loop-place.invariant.committed; pending_at = rw all at c.loop-place.invariant.pending }
+returns-clause-shows = grind (arith, length-map)
 
 pub returns-clause-eight : goal.returns-clause-eight
-returns-clause-eight c = λ i x at.
-    c.loop-place.invariant.eight i x (let w = slice_get_within c.args.items.now i x at in omega (arith, w, c.loop-place-test.false)) at
+returns-clause-eight c = grind (arith, c.loop-place.invariant.eight, slice_get_within, c.loop-place-test.false)

@@ -34,8 +34,7 @@ returns-in-Some-any-2 t c =
     found-less c.settle-settled.ensures.narrows.grows (found-from c.give-in-loop-left.ensures.gives.into c.in-Some-any-2.ensures)
 
 pub loop-left-preserved : goal.loop-left-preserved
-loop-left-preserved t c =
-    tries-next c.lowest-i.ensures.within c.lowest-i.ensures.among c.give-in-loop-left.ensures.gives c.in-None-any-2.ensures c.loop-left.invariant
+loop-left-preserved = grind (arith, tries-next)
 
 pub returns-after-loop-left : goal.returns-after-loop-left
 returns-after-loop-left t c =

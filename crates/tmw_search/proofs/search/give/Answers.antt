@@ -1,10 +1,9 @@
-use Rattle.tmw_search.proofs.Shared.{arith, effects, ◌*◌, ◌+◌}
+use Rattle.tmw_search.proofs.Shared.{arith, effects}
 use Rattle.tmw_search.proofs.Nodes.{may-agree, may-within, gives-of, given-closed, opens-less}
 use Rattle.tmw_search.proofs.search.give.Goals as goal
 
 pub hold_source-requires : goal.hold_source-requires
-hold_source-requires c =
-    may-within (effects c.args.items.now) c.args.start.now c.args.may c.args.node.now c.args.j c.args.r c.args.source c.requires.may
+hold_source-requires = grind (arith, may-within)
 
 pub returns-clause-gives : goal.returns-clause-gives
 returns-clause-gives c =
@@ -17,5 +16,4 @@ pub returns-clause-fewer : goal.returns-clause-fewer
 returns-clause-fewer c =
     let mid = c.hold_source.ensures c.args.start.now c.args.may c.requires.node
     (may-agree (effects c.args.items.now) c.args.start.now c.args.may c.args.node.now c.args.j c.args.r c.args.source c.requires.may) in
-    rw mid.sources (opens-less c.args.node.now.choices.sources (8 * c.args.j + c.args.r) c.args.source (omega arith) c.requires.free
-    (given-closed (effects c.args.items.now) c.args.start.now c.args.may c.args.node.now c.args.j c.args.r c.args.source c.requires.may))
+    grind (arith, mid.sources, opens-less, c.args.node.now.choices.sources, c.args.j, c.args.r, c.args.source, c.requires.free, given-closed, c.args.may)

@@ -1,4 +1,4 @@
-use Rattle.tmw_search.proofs.Shared.{Clear, Stuck, arith, ap, bit_at, refl, slice_index, ℕ, ◌∙◌}
+use Rattle.tmw_search.proofs.Shared.{Clear, Stuck, arith, refl}
 use Rattle.tmw_search.proofs.Passing.{narrows-then, bit-left, no-bit, out-grows, passed-all, passed-never, passed-next, passed-none, passes-then}
 use Rattle.tmw_search.proofs.settle.settle_read.Goals as goal
 
@@ -34,9 +34,6 @@ returns c =
     let o = c.requires.order in
     passes-then (λ rank is. omega (arith, is.before)) (λ rank is. is.out) (λ grows done. record {
       has = grows c.args.i c.args.j first second (c.if-not-precede.ensures.has (cc));
-      apart = λ same. absurd (
-          let t = c.has.ensures.1 (ap (λ (m : ℕ). bit_at (slice_index c.args.reach.now m) c.args.j) same ∙ o.self c.args.j second) in
-          let f = c.if-has.false in
-          cc);
+      apart = grind (arith, c.has.ensures.1, c.args.j, o.self, second, c.if-has.false);
       out = done;
     }) c.if-not-precede.ensures.narrows (passed-all (no-bit c.loop-left.left c.loop-left-test.false) c.loop-left.invariant)
