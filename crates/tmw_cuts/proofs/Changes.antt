@@ -15,7 +15,7 @@ change-past f (x ∷ xs) (suc i) past = ap (λ ys. x ∷ ys) (change-past f xs i
 change-past f _ i past = grind arith
 
 -- the transaction at the place is changed, if it is one of those that are used
-pub taken-change : (f : View → View) (txns : List Txn) (n i : ℕ) (old new : Txn) → n ≤ length txns
+taken-change : (f : View → View) (txns : List Txn) (n i : ℕ) (old new : Txn) → n ≤ length txns
     → old ≡ get_or txns i old → view new ≡ f (view old)
     → map view (take n (slice_set txns i new)) ≡ change i f (map view (take n txns))
 taken-change f txns n i old new within at is =
@@ -29,6 +29,12 @@ taken-change f txns n i old new within at is =
           ap (map view) (take-set-le n txns i new past)
           ∙ sym (change-past f (map view (take n txns)) i (omega (arith, len, past, length-map (take n txns) view)))
     ]
+
+-- so is one of eight
+pub put-changes : (f : View → View) (slots : List Txn) (at place : ℕ) (old new : Txn) → length slots ≡ 8 → at ≡ place → old ≡ get_or slots at old
+    → view new ≡ f (view old) → (count : ℕ) → count ≤ 8 → map view (take count (slice_set slots at new)) ≡ change place f (map view (take count slots))
+put-changes f slots at place old new long is here does count few =
+    rw is (taken-change f slots count place old new (omega (arith, few, long)) (rw is at here) does)
 
 pub length-change : {A : Type 0} (f : A → A) (xs : List A) (i : ℕ) → length (change i f xs) ≡ length xs
 length-change f (x ∷ xs) (suc i) = ap suc (length-change f xs i)

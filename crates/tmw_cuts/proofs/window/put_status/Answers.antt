@@ -1,11 +1,8 @@
--- The transaction at the place is changed, if it is one of them.
-use Rattle.tmw_cuts.proofs.Shared.{ap, arith, sym, view, with_status, ◌∙◌}
-use Rattle.tmw_cuts.proofs.Changes.{taken-change}
+use Rattle.tmw_cuts.proofs.Shared.{ap, sym, view, with_status, ◌∙◌}
+use Rattle.tmw_cuts.proofs.Changes.{put-changes}
 use Rattle.tmw_cuts.proofs.window.put_status.Goals as goal
 
 pub returns-clause-shown : goal.returns-clause-shown
-returns-clause-shown c = λ count few.
-    let f = with_status c.args.status in
-    let at = c.get.ensures.value in
-    rw at (taken-change f c.args.slots.now count c.args.place.number c.index-slots-get.result c.put_status.new.self
-    (omega (arith, few, c.told-slots)) (rw at at c.index-slots-get.is) (c.put_status.ensures ∙ ap (λ t. f (view t)) (sym c.index-slots-get.is)))
+returns-clause-shown c =
+    put-changes (with_status c.args.status) c.args.slots.now c.get.result c.args.place.number c.index-slots-get.result c.put_status.new.self c.told-slots
+    c.get.ensures.value c.index-slots-get.is (c.put_status.ensures ∙ ap (λ t. with_status c.args.status (view t)) (sym c.index-slots-get.is))

@@ -1,5 +1,5 @@
 -- The thread asks on.
-use Rattle.tmw_cuts.proofs.Shared.{Ask, None, Some, [], ap, append-nil, change, length, map, next_view, numbered, option_map, refl, rules, sym, take, view, views, with_status, ◌∙◌, ◌≡◌}
+use Rattle.tmw_cuts.proofs.Shared.{Ask, None, Some, [], ap, append-nil, change, map, next_view, numbered, option_map, refl, rules, sym, take, view, views, with_status, ◌∙◌, ◌≡◌}
 use Rattle.tmw_defs.specs.declared.status.Status.TheVariants.{Pending}
 use Rattle.tmw_cuts.proofs.Changes.{change-alike, change-nothing}
 use Rattle.tmw_cuts.proofs.Moves.{asked_live, asked_on}
@@ -12,7 +12,6 @@ returns-clause-stands c events stands next =
     let e = c.args.event in
     let old = c.args.self.now in
     let p = c.args.place in
-    let long : length old.turns ≡ 8 = search rules in
     let (kept, asks_it) = (moves e old (Ask p) next).is in
     let on = asked_on e.kind asks_it in
     let (turn, one_turn, at) = c.ask.ensures asks_it in
@@ -24,5 +23,5 @@ returns-clause-stands c events stands next =
       | in_default w ↦ rw w.self-is (sym (change-nothing (views old) p.number) ∙ change-alike (λ v. v) f (views old) p.number (λ v there.
           rw (append-nil v.ops, asked_live e.kind asks_it w.in_default.not-T, ← live-next events e old (Ask p) p v stands next refl refl (rw stands.shows at there)) refl))
     ] in
-    stands-with events e old _ turn (Ask p) (Some (p, None)) stands next kept long p.below refl one_turn
+    stands-with events e old _ turn (Ask p) (Some (p, None)) stands next kept (search rules) p.below refl one_turn
     (rw on (ap (option_map numbered) at)) shows (rw on refl)

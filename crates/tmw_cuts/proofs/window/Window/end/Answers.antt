@@ -1,5 +1,5 @@
 -- The thread's transaction ends.
-use Rattle.tmw_cuts.proofs.Shared.{End, Event, Ix, List, Some, Window, [], ap, append-nil, bit_or, change, length, map, next_view, numbered, option_map, refl, rules, status_after, take, view, views, with_status, ◌∙◌, ◌≡◌}
+use Rattle.tmw_cuts.proofs.Shared.{End, Event, Ix, List, Some, Window, [], ap, append-nil, bit_or, change, map, next_view, numbered, option_map, refl, rules, status_after, take, view, views, with_status, ◌∙◌, ◌≡◌}
 use Rattle.tmw_defs.specs.declared.status.Status.{Status}
 use Rattle.tmw_cuts.specs.declared.txn.Txn.{Txn}
 use Rattle.tmw_cuts.proofs.Changes.{change-alike}
@@ -15,11 +15,10 @@ with-end old e p status slots is shown =
 pub returns-clause-stands : goal.returns-clause-stands
 returns-clause-stands c events stands next =
     let old = c.args.self.now in
-    let long : length old.turns ≡ 8 = search rules in
     let p = c.args.place in
     let (call, (kept, (makes, over))) = (moves c.args.event old (End p) next).is in
     let (turn, one_turn, at) = c.end.ensures in
-    stands-with events c.args.event old _ turn (End p) (Some (p, Some call)) stands next kept long p.below refl
+    stands-with events c.args.event old _ turn (End p) (Some (p, Some call)) stands next kept (search rules) p.below refl
     one_turn (rw over (ap (option_map numbered) at))
     (rw makes (with-end old c.args.event p c.status_after.result c.put_status.new.slots c.status_after.ensures (c.put_status.ensures.shown old.count old.few))) (rw over (ap (bit_or old.completed) c.bit_of.ensures))
 
