@@ -3,11 +3,11 @@ use Rattle.tmw_c.proofs.judge.pump_held.Goals as goal
 
 pub returns-in-Ok-clause-ok : goal.returns-in-Ok-clause-ok
 returns-in-Ok-clause-ok c = record {
+  on = record { ring = c.pump.ensures.ring; headline = c.pump.ensures.headline };
   before = c.in-Open.watch;
   after = c.pump.new.self;
   opened = c.in-Open.is;
   stays = refl;
-  on = record { ring = c.pump.ensures.ring; headline = c.pump.ensures.headline };
   pumped = c.in-Ok.pumped;
   count = refl;
   judging = c.in-Ok.ensures.ok;
