@@ -20,6 +20,7 @@ abbrev pub before_of : List Txn → Txn → ℕ
 before_of [] u = 0
 before_of (t ∷ ts) u = bit (precedes t u) + 2 * before_of ts u
 
+-- What is to be shown of a transaction among these.
 abbrev pub view_of : List Txn → Txn → View
 view_of ts t = record { ops = operations t.text; status = status_of t.text; before = before_of ts t }
 

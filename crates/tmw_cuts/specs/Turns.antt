@@ -21,7 +21,7 @@ use Rattle.tmw_cuts.specs.declared.turn.Move.TheVariants.{Begin, Ask, Answer, En
 abbrev pub Found : Type 0
 Found = Option (ℕ × Option Kind)
 
--- The same as a turn has it, whose place is below eight.
+-- The same of a thread at this stage, where this is the place, the register and the value of its turn.
 abbrev pub kept_at : Stage → Ix → Ix → ℕ → Option (Ix × Option Kind)
 kept_at Between p r v = None
 kept_at Within p r v = Some (p, None)
@@ -31,6 +31,7 @@ kept_at Writing p r v = Some (p, Some (W r v))
 kept_at Committing p r v = Some (p, Some T)
 kept_at Aborting p r v = Some (p, Some X)
 
+-- The same as a turn has it, whose place is below eight.
 abbrev pub kept_in : Turn → Option (Ix × Option Kind)
 kept_in turn = kept_at turn.stage turn.place turn.register turn.value
 
@@ -38,7 +39,7 @@ kept_in turn = kept_at turn.stage turn.place turn.register turn.value
 abbrev pub between : Turn
 between = record { stage = Between; place = ix_of 0; register = ix_of 0; value = 0 }
 
--- The same of a thread, whose turn is among those.
+-- The same of the thread, whose turn is among these.
 abbrev pub kept_of : List Turn → ℕ → Option (Ix × Option Kind)
 kept_of turns thread = kept_in (slice_index_or turns thread between)
 
@@ -46,12 +47,14 @@ kept_of turns thread = kept_in (slice_index_or turns thread between)
 abbrev pub Turns : List Turn → List Turn → Ix → Option (Ix × Option Kind) → Type 0
 Turns old new thread kept = (next : Turn) × (new ≡ slice_set old thread.number next) × (kept_in next ≡ kept)
 
+-- The same, by the place's number.
 abbrev pub numbered : Ix × Option Kind → ℕ × Option Kind
 numbered k = (k.0.number, k.1)
 
 abbrev pub found_in : Turn → Found
 found_in turn = option_map numbered (kept_in turn)
 
+-- The same, with one transaction more before it.
 abbrev pub further : ℕ × Option Kind → ℕ × Option Kind
 further f = (suc f.0, f.1)
 
@@ -64,6 +67,7 @@ abbrev pub find_open : ℕ → List Txn → Found
 find_open thread [] = None
 find_open thread (t ∷ ts) = if is_open_for thread t then Some (0, call_of t.text) else option_map further (find_open thread ts)
 
+-- The pending call of it.
 abbrev pub call_in : Found → Option Kind
 call_in None = None
 call_in (Some f) = f.1

@@ -13,6 +13,7 @@ pub record View : Type 0 where
   pub status : Status
   pub before : ℕ
 
+-- What a transaction of the window shows.
 abbrev pub view : Txn → View
 view txn = record { ops = txn.ops.items; status = txn.status; before = txn.before }
 
@@ -20,6 +21,7 @@ view txn = record { ops = txn.ops.items; status = txn.status; before = txn.befor
 abbrev pub effect_of : Txn → Effect
 effect_of txn = txn.effect
 
+-- A truth value as a number.
 abbrev pub bit : Bool → ℕ
 bit true = 1
 bit false = 0

@@ -1,6 +1,5 @@
 ghost use Rattle.std.specs.Prelude.{◌≡◌, ◌==◌, ◌<◌, ◌++◌, [], ◌∷◌, List, None, IsFalse, length, slice_index};
 ghost use Rattle.std.specs.Int.{bit_at};
-ghost use Rattle.std.specs.List.{list_all};
 ghost use Rattle.tmw_defs.specs.declared.op.Op.{Op};
 ghost use Rattle.tmw_defs.specs.declared.op.Op.TheVariants.{Read, Write, Add};
 ghost use Rattle.tmw_defs.specs.Opaque.{State, reads_hold, after_writes};

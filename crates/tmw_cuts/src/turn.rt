@@ -30,9 +30,9 @@ pub enum Stage {
     Aborting,
 }
 
-/// Where a thread is: the place of its open transaction in the window, and its pending call. What the stage has no use for stays as it
-/// was, so that an event stores few fields.
-#[derive(Clone, Copy, PartialEq, Eq, Debug)]
+/// Where a thread is: the place of its open transaction in the window, and its pending call. What the stage has no use for may hold
+/// anything, so that an event stores few fields.
+#[derive(Clone, Copy, Debug)]
 pub struct Turn {
     pub stage: Stage,
     /// The place of the open transaction.

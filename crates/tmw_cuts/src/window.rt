@@ -340,6 +340,7 @@ impl Window {
             → Follows registers history self.old → Refuses registers history event fault) }
         ensures kept { OnErr result (self.new ≡ self.old) }
         ensures shown { views self.new ≡ views self.old }
+        ensures masks { completed_of self.new ≡ completed_of self.old }
     {
         let step = self.next(event)?;
         match step {

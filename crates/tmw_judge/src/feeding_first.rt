@@ -1,4 +1,4 @@
-ghost use Rattle.std.specs.Prelude.{◌≡◌, IfErr, OnOk};
+ghost use Rattle.std.specs.Prelude.{◌≡◌};
 ghost use Rattle.tmw_lines.specs.TextFault.{reading_failures};
 ghost use Rattle.tmw_judge.specs.Feeding.{AreFedAllRead};
 ghost use Rattle.tmw_judge.specs.FeedingFirst.{FeedsFirst};

@@ -1,4 +1,4 @@
-ghost use Rattle.std.specs.Prelude.{◌≡◌, ℕ, List, IfErr, OnOk};
+ghost use Rattle.std.specs.Prelude.{◌≡◌, ℕ, List};
 ghost use Rattle.tmw_streams.specs.Told.{Tells};
 ghost use Rattle.tmw_lines.specs.Lines.{IsNew};
 ghost use Rattle.tmw_lines.specs.TextFault.{reading_failures};

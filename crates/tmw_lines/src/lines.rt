@@ -84,7 +84,7 @@ impl<F: LineFormat> Lines<F> {
     }
 
     /// Gives the taker the items of lines that the bytes held begin with, and reads nothing. It gives none or more:
-    /// as many as the format reads in one pass. After a failed allocation for an item, that item's line is the last
+    /// as many as the format reads in one pass, none near 2^40 lines. After a failed allocation for an item, that item's line is the last
     /// that was read. Before the header, and after `None` or a fault, it gives nothing and changes nothing.
     #[inline(always)]
     pub fn give_held<T: Taker<F::Item>>(&mut self, taker: &mut T) -> Result<(), AllocError>

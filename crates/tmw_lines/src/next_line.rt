@@ -1,4 +1,4 @@
-ghost use Rattle.std.specs.Prelude.{◌≡◌, ◌<◌, ◌≤◌, ◌+◌, ◌^◌, ◌∷◌, None, length, take, drop, IfSome, IfNone, IfOk, IfErr, OnOk, OnSome};
+ghost use Rattle.std.specs.Prelude.{◌≡◌, ◌<◌, ◌≤◌, ◌+◌, ◌^◌, ◌∷◌, None, length, take, drop, IfSome, IfNone, IfOk, OnSome};
 ghost use Rattle.tmw_lines.specs.Held.{bytes_of};
 ghost use Rattle.tmw_lines.specs.LineRead.{ReadsLine, IsItemLine};
 ghost use Rattle.tmw_lines.specs.TextFault.{IsUnbroken, IsBadLine, reading_failures};

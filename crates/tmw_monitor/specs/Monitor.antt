@@ -12,6 +12,7 @@ use Rattle.tmw_monitor.specs.declared.open.Open.{Open}
 abbrev pub criterion_of : Monitor → Criterion
 criterion_of monitor = monitor.criterion
 
+-- how far it judges
 abbrev pub bounds_of : Monitor → Bounds
 bounds_of monitor = monitor.bounds
 

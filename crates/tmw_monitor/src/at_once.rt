@@ -16,7 +16,7 @@ use tmw_events::{Event, Ix, Kind};
 
 /// Takes the next event if it begins a transaction for which the window has room, or if the serial order that is kept explains it: by no
 /// criterion is anything wrong with it then. At a cut it has to end the only transaction, from the only outcome before. Else it returns
-/// `false`, and what is kept is of the history without it. It is inlined into its callers, which mostly know the kind of their event.
+/// `false`, and what is kept is of the history without it. It is inlined into the reading of each kind of line.
 #[inline(always)]
 pub fn take_at_once(kept: &mut Open, bounds: &Bounds, event: Event) -> bool
     ensures taken { IsTrue result → (criterion : Criterion)

@@ -13,6 +13,7 @@ use Rattle.tmw_cuts.specs.declared.turn.Move.{Move}
 use Rattle.tmw_cuts.specs.declared.window.Window.{Window}
 use Rattle.tmw_witness.specs.declared.witness.Witness.{Witness}
 
+-- The rank of transaction i, whether it is taken as committed, and the state of a rank.
 abbrev pub rank_of : Witness → ℕ → ℕ
 rank_of w i = slice_index w.ranks i
 
@@ -54,10 +55,11 @@ pub record PlacesThose (starts : List State) (xs : List View) (member : ℕ → 
   pub apart : (i j : ℕ) → member i → member j → committed_of w i ≡ true → committed_of w j ≡ true → rank_of w i ≡ rank_of w j → i ≡ j
   pub full : (r : ℕ) → r < w.top → HasWriter member w r
 
+-- It is one of the window's transactions.
 abbrev pub Below : List View → ℕ → Type 0
 Below xs i = i < length xs
 
--- All transactions of the window stand in a serial order.
+-- All transactions of the window stand in a serial order. (Of all of them `within` and `closed` say nothing.)
 pub record IsWitness (starts : List State) (xs : List View) (w : Witness) : Type 0 where
   pub few : length xs ≤ 8
   pub places : PlacesThose starts xs (Below xs) w

@@ -66,7 +66,7 @@ impl Witness {
     }
 
     /// Tells whether an order is known and, as it stands, is one with the next event too, an answer of the transaction at the place, which
-    /// makes this operation. After `false` it may still be one, as below.
+    /// makes this operation.
     #[inline(always)]
     pub fn explains_answer(&self, window: &Window, event: Event, place: Ix, op: Op) -> bool
         ensures known { IsTrue result → IsTrue self.now.known }
@@ -78,7 +78,8 @@ impl Witness {
         self.has_answer(window.slot(place), place, op)
     }
 
-    /// Tells whether an order is known and, as it stands, is one with the next event too, which ends the transaction at the place.
+    /// Tells whether an order is known and, as it stands, is one with the next event too, which ends the transaction at the place. After
+    /// `false` it may still be one: what a transaction writes may be there already.
     #[inline(always)]
     pub fn explains_end(&self, window: &Window, event: Event, place: Ix) -> bool
         ensures known { IsTrue result → IsTrue self.now.known }

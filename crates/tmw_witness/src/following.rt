@@ -20,10 +20,11 @@ impl Witness {
     /// Takes in that a transaction begins at the place, behind the others.
     #[inline(always)]
     pub fn begin(&mut self, place: Ix)
-        ensures { (starts : List State) (xs : List View) (y : View) → length xs ≡ place.number
+        ensures stands { (starts : List State) (xs : List View) (y : View) → length xs ≡ place.number
             → y.ops ≡ [] → IsTrue (may_hold y.status false)
             → ((j : ℕ) → bit_at y.before j ≡ 1 → j < length xs) → Witnesses starts xs self.old
             → Witnesses starts (xs ++ y ∷ []) self.new }
+        ensures known { self.new.known ≡ self.old.known }
     {
         self.ranks[place.get() as usize] = self.top;
         self.committed[place.get() as usize] = false;
@@ -82,7 +83,7 @@ impl Witness {
     }
 
     /// Updates the order for an answer to a read or an add of the transaction: it stands where it stood, or at
-    /// another rank.
+    /// another rank, or the order is marked unknown.
     fn answer(&mut self, item: &Txn, place: Ix)
         ensures { (starts : List State) (xs ys : List View) (x : View)
             → TurnsAt xs ys place.number x (view item.now) → IsTrue (may_hold item.now.status false)
@@ -121,6 +122,7 @@ impl Witness {
             → TurnsAt xs ys place.number x (view item.now) → item.now.ops.items ≡ x.ops
             → IsTrue (may_hold item.now.status true)
             → Witnesses starts xs self.old → Witnesses starts ys self.new }
+        ensures taken { IsTrue result → committed_of self.new place.number ≡ true }
         ensures left { IsFalse result → self.new ≡ self.old }
         ensures known { self.new.known ≡ self.old.known }
     {
@@ -159,7 +161,8 @@ impl Witness {
         }
     }
 
-    /// Takes in that the transaction has aborted: it stands as before, and is to be left out.
+    /// Takes in that the transaction has aborted: it stands as before, and is to be left out, or the order is marked
+    /// unknown.
     #[inline(always)]
     fn abort(&mut self, place: Ix)
         ensures { (starts : List State) (xs ys : List View) (x y : View)
@@ -171,7 +174,8 @@ impl Witness {
         }
     }
 
-    /// Takes in that the transaction has committed: it is taken so, or can be, or it writes nothing.
+    /// Takes in that the transaction has committed: it is taken so, or can be, or it writes nothing, or the order is
+    /// marked unknown.
     fn commit(&mut self, item: &Txn, place: Ix)
         ensures { (starts : List State) (xs ys : List View) (x : View)
             → TurnsAt xs ys place.number x (view item.now) → item.now.status ≡ Committed

@@ -69,7 +69,7 @@ impl Witness {
     }
 
     /// Looks for a legal serial order of the window's transactions, for some completion, from one of the states, and tells
-    /// whether there is one. The order is kept if it is one of all transactions.
+    /// whether there is one. The order may be kept if it is one of all transactions.
     pub fn finds(&mut self, criterion: Criterion, starts: &States, window: &Window) -> bool
         ensures tells { TellsEnd criterion starts.now window.now result }
         ensures known { (events : List Event) → StandsFor window.now events

@@ -25,10 +25,7 @@ pub struct Witness {
 }
 
 impl Witness {
-    ghost use Rattle.tmw_cuts.specs.declared.turn.Move.TheVariants.{Ask};
-    ghost use Rattle.tmw_cuts.specs.declared.window.Window.{Window};
-    ghost use Rattle.tmw_events.specs.declared.ix.Ix.{Ix};
-    ghost use Rattle.tmw_witness.specs.Witnessing.{ExplainsWith, Witnesses, state_of};
+    ghost use Rattle.tmw_witness.specs.Witnessing.{Witnesses, state_of};
 
     /// Makes the order of a window without a transaction, from this state.
     pub fn new(start: State) -> Witness
@@ -75,16 +72,13 @@ impl Witness {
         self.known = false;
     }
 
-    /// Tells whether an order is known. If so, the window's transactions have an end state. As it stands, it is one with a call more too: who
-    /// calls is live, and so left out.
+    /// Tells whether an order is known. If so, the window's transactions have an end state.
     #[inline(always)]
     pub fn is_known(&self) -> bool
         ensures shown { result ≡ self.now.known }
         ensures ends { (starts : List State) (events : List Event)
             → Witnesses starts (views_of events) self.now → IsTrue result
             → (end : State) × Ends (Contains starts) (transactions events) end }
-        ensures asks { (window : Window) (event : Event) (place : Ix)
-            → ExplainsWith self.now window event (Ask place) }
     {
         self.known
     }

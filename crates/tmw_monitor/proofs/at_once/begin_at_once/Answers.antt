@@ -19,5 +19,5 @@ returns-clause-taken c took criterion rules history by window states keeps =
     (uncut-next rest e old.window Begin keeps.stands next refl) (λ _. omega (arith, count, free, window))
     (inl (asked_quiet rules.criterion (transactions rest) e.thread.number e.kind asked)) refl
     (rw (begun-pushed rest e old.window keeps.stands next)
-    (c.begin.ensures (members old.states) (views_of rest) _ (omega (arith, length-views_of rest, count, c.begin-place.ensures.place, c.count.ensures.shown)) refl
+    (c.begin.ensures.stands (members old.states) (views_of rest) _ (omega (arith, length-views_of rest, count, c.begin-place.ensures.place, c.count.ensures.shown)) refl
     (left_out e.kind (no_commit e.kind (asked_on e.kind asked))) (λ j one. completed-within (views_of rest) j one) keeps.witness))

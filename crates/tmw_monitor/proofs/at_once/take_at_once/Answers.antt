@@ -1,4 +1,4 @@
--- What the event is to its thread is told, and the order explains it or it is quiet.
+-- What the event is to its thread is told, and the order explains it.
 use Rattle.tmw_monitor.proofs.Shared.{Answer, Ask, Event, IsNext, Ix, [], drop, refl, subst, sym, ℕ, ◌∙◌, ◌∷◌, ◌≡◌}
 use Rattle.tmw_events.specs.declared.event.Kind.{Kind}
 use Rattle.tmw_events.specs.declared.event.Kind.TheVariants.{K, N, R, V, W}
@@ -6,6 +6,7 @@ use Rattle.tmw_defs.specs.declared.op.Op.TheVariants.{Add}
 use Rattle.tmw_defs.specs.History.{operation}
 use Rattle.tmw_cuts.proofs.Standings.{moves}
 use Rattle.tmw_cuts.specs.declared.window.Window.{Window}
+use Rattle.tmw_witness.proofs.Pushed.{asks-kept}
 use Rattle.tmw_monitor.specs.AtOnce.{StaysFine}
 use Rattle.tmw_monitor.proofs.AtOnce.{explained-fine}
 use Rattle.tmw_monitor.proofs.at_once.take_at_once.Goals as goal
@@ -19,7 +20,7 @@ returns-else-not-is_known-clause-taken c took criterion rules history by window 
     let next : IsNext c.args.kept.now.window c.args.event (Ask p) = rw c.in-Ok-Ask.field-0-is at c.in-Ok-Ask.ensures.ok in
     explained-fine rules history c.args.event c.args.kept.now _ keeps (Ask p) refl (λ begins. absurd (cc)) next
     (c.ask.ensures.stands (drop keeps.cut history) keeps.stands next) c.ask.ensures.registers
-    (sym c.is_known.ensures.shown ∙ c.if-not-is_known.false) (c.is_known.ensures.asks c.args.kept.now.window c.args.event p) refl refl
+    (sym c.is_known.ensures.shown ∙ c.if-not-is_known.false) (asks-kept c.args.kept.now.witness c.args.kept.now.window c.args.event p) refl refl
 
 pub returns-in-Ok-End-clause-taken : goal.returns-in-Ok-End-clause-taken
 returns-in-Ok-End-clause-taken c took criterion = c.end_at_once.ensures.taken took criterion c.args.bounds.now

@@ -13,7 +13,7 @@ returns-in-Begin c = λ starts before events stands next after was.
     let begun = begun-pushed events e before stands begins in
     let on = no_commit e.kind (asked_on e.kind (found-begun events e before stands begins).1) in
     let size = ap length (after.shows ∙ begun) ∙ length-append xs (y ∷ []) in
-    rw begun (c.begin.ensures starts xs y (omega (arith, size, ap length after.shows, c.last.ensures (omega (arith, size)))) refl
+    rw begun (c.begin.ensures.stands starts xs y (omega (arith, size, ap length after.shows, c.last.ensures (omega (arith, size)))) refl
     (left_out e.kind on) (λ j one. completed-within xs j one) was)
 
 pub returns-in-Ask : goal.returns-in-Ask
