@@ -51,7 +51,7 @@ impl Witness {
 
     /// Whether the transaction writes nothing, and so may be taken as committed as well as left out.
     #[inline(always)]
-    pub(crate) fn leaves_nothing(&self, item: &Txn, place: Ix) -> bool
+    fn leaves_nothing(&self, item: &Txn, place: Ix) -> bool
         ensures { IsTrue result
             → after_writes (state_of self.now (rank_of self.now place.number)) item.now.ops.items
             ≡ state_of self.now (rank_of self.now place.number) }

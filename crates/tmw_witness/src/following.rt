@@ -9,6 +9,13 @@ use tmw_cuts::{Move, State, Txn, Window};
 use tmw_defs::Status;
 use tmw_events::{Event, Ix, Kind};
 
+/// Whether the transaction's operations leave the state as it is.
+fn leaves_state(item: &Txn, state: &State) -> bool
+    ensures { IsTrue result → after_writes state.now item.now.ops.items ≡ state.now }
+{
+    item.after(state) == Some(*state)
+}
+
 impl Witness {
     ghost use Rattle.tmw_witness.specs.Witnessing.{Witnesses, rank_of, committed_of, state_of};
     ghost use Rattle.tmw_witness.specs.Turns.{TurnsAt};
@@ -174,8 +181,8 @@ impl Witness {
         }
     }
 
-    /// Takes in that the transaction has committed: it is taken so, or can be, or it writes nothing, or the order is
-    /// marked unknown.
+    /// Takes in that the transaction has committed: it is taken so, or can be, or its operations leave the state as it is, or
+    /// the order is marked unknown.
     fn commit(&mut self, item: &Txn, place: Ix)
         ensures { (starts : List State) (xs ys : List View) (x : View)
             → TurnsAt xs ys place.number x (view item.now) → item.now.status ≡ Committed
@@ -188,7 +195,12 @@ impl Witness {
         if self.hold(item, place) {
             return;
         }
-        if !self.leaves_nothing(item, place) {
+        let rank = usize::from(self.ranks[place.get() as usize]);
+        let stays = self
+            .states
+            .get(rank)
+            .is_some_and(|state| leaves_state(item, state));
+        if !stays {
             self.known = false;
         }
     }
