@@ -12,7 +12,7 @@ set -eu
 # shellcheck source=tests/common.sh
 . "$(dirname "${BASH_SOURCE[0]}")/common.sh"
 page=$top/crates/tmw_show/page
-constants=$top/crates/tmw_show/src/command/page/parts.rt
+constants=$top/crates/tmw_show/src/page/constants.rt
 
 # The source file that holds both files as constants.
 write_constants() {

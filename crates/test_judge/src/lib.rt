@@ -3,18 +3,18 @@
 #![tactic(auto)]
 
 #[cfg(test)]
-mod ends;
+mod allocation_failures;
 #[cfg(test)]
-mod failing;
+mod event_words;
 #[cfg(test)]
-mod first;
+mod first_option;
 #[cfg(test)]
-mod packing;
+mod io_failures;
 #[cfg(test)]
-mod refused;
-#[cfg(test)]
-mod seeded;
+mod random_histories;
 #[cfg(test)]
 mod tracker;
+#[cfg(test)]
+mod window_ends;
 #[cfg(test)]
 mod witness;

@@ -16,11 +16,11 @@ use tmw_ring::{Refused, RingFault};
 use tmw_tm::{Did, Tm};
 
 mod at_once;
-mod memories;
+mod barrier_memories;
 mod progress;
 
-use crate::counting::{Counting, is_two_sevens};
-use crate::told::{has_recorded, told};
+use crate::call_counter::{CallCounter, is_two_sevens};
+use crate::workload_log::{has_recorded, told};
 
 /// How often a record is tried if no thread is to stop.
 const PATIENT: u64 = 1_000_000_000;
@@ -87,7 +87,7 @@ fn stops(
 ) -> bool
     requires { places ≤ 4 }
 {
-    let memory = Counting::new(Did::Done, at_commit, 7);
+    let memory = CallCounter::new(Did::Done, at_commit, 7);
     let Some(outcome) = run(rt, &memory, text, settings(4, places, 1_000_000, 1)) else {
         return false;
     };
@@ -126,7 +126,7 @@ fn is_refused(
     places: u64,
     fault: BenchFault,
 ) -> bool {
-    let memory = Counting::new(Did::Done, Did::Done, 7);
+    let memory = CallCounter::new(Did::Done, Did::Done, 7);
     let Some(workload) = told(rt.alloc(), text) else {
         return false;
     };
@@ -145,7 +145,7 @@ fn no_call_is_made_without_places_or_registers(rt: HostRuntime) {
 #[test]
 fn each_call_is_made_once(rt: HostRuntime) {
     let text = r#"{"order": [], "registers": 1, "scripts": [[["R 0", "R 0", "T"]]]}"#;
-    let memory = Counting::new(Did::Done, Did::Done, 7);
+    let memory = CallCounter::new(Did::Done, Did::Done, 7);
     let outcome = run(&rt, &memory, text, settings(16, 1 << 40, 1_000_000, 1));
     assert!(rt; outcome.is_some_and(|it| is_two_sevens(&it)));
     assert_eq!(rt; memory.counts(), [1, 2, 0, 0, 1, 0]);
@@ -154,7 +154,7 @@ fn each_call_is_made_once(rt: HostRuntime) {
 /// Whether a thread that writes and commits over one cell and tries each record once is done; nothing if it is neither that nor stopped
 /// before its end by a full ring.
 fn try_once(rt: &(impl Threads + Wait + Sync + AllocGlobal)) -> Option<bool> {
-    let memory = Counting::new(Did::Done, Did::Done, 7);
+    let memory = CallCounter::new(Did::Done, Did::Done, 7);
     let outcome = run(rt, &memory, WRITES, settings(1, 1_000, 1, 1))?;
     match outcome.ends.first()? {
         Ending::Done => (outcome.log.len() == 4).then_some(true),

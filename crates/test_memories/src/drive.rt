@@ -1,7 +1,7 @@
 //! What the contract leaves open: that there is memory, which calls the memory gets, and that workloads are driven as their
 //! readers expect.
-use crate::counting::{Counting, is_two_sevens};
-use crate::told::{has_recorded, told};
+use crate::call_counter::{CallCounter, is_two_sevens};
+use crate::workload_log::{has_recorded, told};
 use std::alloc::Global;
 use test_support::FIRST;
 use tmw_drive::{DriveFault, Ending, Outcome, drive};
@@ -10,9 +10,9 @@ use tmw_memories::NoRec;
 use tmw_monitor::Bounds;
 use tmw_tm::{Did, Tm};
 
-mod memories;
+mod marking;
 
-use memories::Marking;
+use marking::Marking;
 
 const ONE: Registers = Registers { number: 1 };
 
@@ -36,7 +36,7 @@ fn is_driven(
     end: Ending,
     counts: [u64; 6],
 ) -> bool {
-    let memory = Counting::new(at_begin, Did::Done, 0);
+    let memory = CallCounter::new(at_begin, Did::Done, 0);
     let Some(outcome) = driven(alloc, &memory, text) else {
         return false;
     };
@@ -48,7 +48,7 @@ fn is_driven(
 #[test]
 fn each_call_is_made_once(rt: HostRuntime) {
     let text = r#"{"order": [0, 0, 0], "registers": 1, "scripts": [[["R 0", "R 0", "T"]]]}"#;
-    let memory = Counting::new(Did::Done, Did::Done, 7);
+    let memory = CallCounter::new(Did::Done, Did::Done, 7);
     let outcome = driven(rt.alloc(), &memory, text);
     assert!(rt; outcome.is_some_and(|it| is_two_sevens(&it)));
     assert_eq!(rt; memory.counts(), [1, 2, 0, 0, 1, 0]);
@@ -131,7 +131,7 @@ fn lacks_registers(alloc: Global, memory: &(dyn Tm + Sync)) -> bool {
 
 #[test]
 fn a_memory_may_lack_registers(rt: HostRuntime) {
-    let memory = Counting::new(Did::Done, Did::Done, 7);
+    let memory = CallCounter::new(Did::Done, Did::Done, 7);
     assert!(rt; lacks_registers(rt.alloc(), &NoRec::new(ONE)));
     assert!(rt; lacks_registers(rt.alloc(), &memory));
     assert_eq!(rt; memory.counts(), [0; 6]);

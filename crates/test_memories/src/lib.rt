@@ -2,9 +2,11 @@
 #![tactic(auto)]
 
 #[cfg(test)]
+mod allocation_failures;
+#[cfg(test)]
 mod bench;
 #[cfg(test)]
-mod counting;
+mod call_counter;
 #[cfg(test)]
 mod drive;
 #[cfg(test)]
@@ -12,8 +14,6 @@ mod memories;
 #[cfg(test)]
 mod one_writer;
 #[cfg(test)]
-mod refused;
-#[cfg(test)]
-mod told;
-#[cfg(test)]
 mod work;
+#[cfg(test)]
+mod workload_log;

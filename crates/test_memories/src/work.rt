@@ -1,5 +1,5 @@
 //! What the contract of a worker leaves open: that a thread stops where its ring lets it.
-use crate::counting::Counting;
+use crate::call_counter::CallCounter;
 use std::alloc::Global;
 use test_support::FIRST;
 use tmw_bench::{Signals, work};
@@ -8,7 +8,7 @@ use tmw_ring::{Refused, ring};
 use tmw_tm::Did;
 
 /// Where a thread stops that writes 5 and asks to commit, over a ring of one cell that nobody pumps, or ever will.
-fn stop_of(alloc: Global, memory: &Counting, patience: u64, will_pump: bool) -> Option<Refused> {
+fn stop_of(alloc: Global, memory: &CallCounter, patience: u64, will_pump: bool) -> Option<Refused> {
     let signals = Signals::new();
     if !will_pump {
         signals.give_up();
@@ -20,7 +20,7 @@ fn stop_of(alloc: Global, memory: &Counting, patience: u64, will_pump: bool) -> 
 
 /// Whether it stops where it finds the ring full, and aborts its transaction.
 fn stops(alloc: Global, patience: u64, will_pump: bool) -> bool {
-    let memory = Counting::new(Did::Done, Did::Done, 7);
+    let memory = CallCounter::new(Did::Done, Did::Done, 7);
     stop_of(alloc, &memory, patience, will_pump) == Some(Refused::Full { front: 0, tail: 1 })
         && memory.counts() == [1, 0, 1, 0, 0, 1]
 }

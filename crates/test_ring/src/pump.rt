@@ -1,8 +1,8 @@
 //! Tests of the pump by one thread: what it judges, what a meeting leaves, and what a refused growth leaves.
 ghost use Rattle.std.specs.Prelude.{◌≡◌, ◌<◌, [], length, All, IfOk};
-ghost use Rattle.tmw_pump.specs.Pumping.{pump_in, reader_of};
-ghost use Rattle.tmw_ring.specs.Ends.{ReaderOf, WriterOf};
-ghost use Rattle.tmw_ring.specs.Settling.{AreInOrder};
+ghost use Rattle.tmw_pump.specs.Pump.{pump_in, reader_of};
+ghost use Rattle.tmw_ring.specs.RingEnds.{ReaderOf, WriterOf};
+ghost use Rattle.tmw_ring.specs.Settle.{AreInOrder};
 
 use crate::ring::record_two;
 use std::alloc::{AllocError, Global};

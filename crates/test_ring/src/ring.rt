@@ -1,7 +1,7 @@
 //! Tests of the ring by one thread: a full ring and what it leaves, spent places, and writers that meet.
 ghost use Rattle.std.specs.Prelude.{◌≡◌, ◌<◌, length, All};
-ghost use Rattle.tmw_ring.specs.Ends.{WriterOf};
-ghost use Rattle.tmw_ring.specs.Settling.{AreInOrder};
+ghost use Rattle.tmw_ring.specs.RingEnds.{WriterOf};
+ghost use Rattle.tmw_ring.specs.Settle.{AreInOrder};
 
 use std::test::Fail;
 use test_support::{FIRST, one};

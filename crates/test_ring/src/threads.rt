@@ -1,7 +1,7 @@
 //! Threads that record into one ring while another takes or judges what they record, run to their ends.
 ghost use Rattle.std.specs.Prelude.{◌≡◌, All};
-ghost use Rattle.tmw_pump.specs.Pumping.{pump_in, reader_of};
-ghost use Rattle.tmw_ring.specs.Ends.{ReaderOf, WriterOf};
+ghost use Rattle.tmw_pump.specs.Pump.{pump_in, reader_of};
+ghost use Rattle.tmw_ring.specs.RingEnds.{ReaderOf, WriterOf};
 
 use crate::pump::{ONE, WIDEST, new_pump};
 use std::alloc::Global;

@@ -1,6 +1,6 @@
 -- The writers that are still to be started are the ring's.
 use Rattle.std.proofs.Common.{◌≡◌, ◌∷◌, suc, List, All, subst, arith}
-use Rattle.tmw_ring.specs.Ends.{RingIs, WriterIs, WriterOf}
+use Rattle.tmw_ring.specs.RingEnds.{RingIs, WriterIs, WriterOf}
 
 pub of_rest : (ring : RingIs) (all rest : List WriterIs) (writer : WriterIs) → All (WriterOf ring) all → all ≡ writer ∷ rest
     → All (WriterOf ring) rest

@@ -1,6 +1,6 @@
 -- How many events were recorded and taken.
 use Rattle.std.specs.Prelude.{◌≡◌, ◌+◌, ℕ, length}
-use Rattle.tmw_ring.specs.Ends.{RingIs, WriterIs, ReaderIs, WriterOf, ReaderOf}
+use Rattle.tmw_ring.specs.RingEnds.{RingIs, WriterIs, ReaderIs, WriterOf, ReaderOf}
 
 -- The writer has recorded so many events more, and is the ring's writer with this number as before.
 pub record HasMade (ring : RingIs) (count : ℕ) (old new : WriterIs) : Type 0 where

@@ -1,6 +1,6 @@
 -- What a run of a ring needs, and what it does.
 use Rattle.std.specs.Prelude.{◌≡◌, ◌+◌, ◌*◌, ◌^◌, ◌≤◌, ℕ, List, length, All}
-use Rattle.tmw_ring.specs.Ends.{RingIs, WriterIs, ReaderIs, WriterOf, ReaderOf}
+use Rattle.tmw_ring.specs.RingEnds.{RingIs, WriterIs, ReaderIs, WriterOf, ReaderOf}
 
 -- All the ring's writers and its reader are there, and so many events of each writer can be counted.
 pub record CanRun (ring : RingIs) (writers : List WriterIs) (reader : ReaderIs) (share : ℕ) : Type 0 where

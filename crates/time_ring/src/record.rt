@@ -1,6 +1,6 @@
 //! A writer records its events, each tried again while the ring is full.
 ghost use Rattle.std.specs.Prelude.{OnOk};
-ghost use Rattle.tmw_ring.specs.Ends.{WriterOf};
+ghost use Rattle.tmw_ring.specs.RingEnds.{WriterOf};
 ghost use Rattle.time_ring.specs.Counts.{HasMade};
 
 use crate::pause::pause;

@@ -1,6 +1,6 @@
 //! A ring with all its threads.
 ghost use Rattle.std.specs.Prelude.{◌≡◌, ◌≤◌, ◌*◌, All, IfOk, length};
-ghost use Rattle.tmw_ring.specs.Ends.{WriterOf};
+ghost use Rattle.tmw_ring.specs.RingEnds.{WriterOf};
 ghost use Rattle.time_ring.specs.Runs.{CanRun, HasRun};
 
 use crate::plan::Plan;

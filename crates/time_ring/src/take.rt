@@ -1,5 +1,5 @@
 //! The main thread takes events, and looks again while the next one is not published.
-ghost use Rattle.tmw_ring.specs.Ends.{ReaderOf};
+ghost use Rattle.tmw_ring.specs.RingEnds.{ReaderOf};
 ghost use Rattle.time_ring.specs.Counts.{HasTakenMore};
 
 use crate::pause::pause;

@@ -1,6 +1,6 @@
-mod Bounding
+mod Bounds
 mod Commands
-mod Counting
+mod CountTexts
 mod Flags
 mod HelpWords
 mod Refusals

@@ -1,5 +1,5 @@
-pub mod Counts
 pub mod Names
+pub mod OptionNumbers
 pub mod Program
-pub mod Reading
+pub mod ReadWords
 pub mod Words

@@ -10,9 +10,9 @@ use Rattle.tmw_defs.specs.declared.criterion.Asked.{Asked}
 use Rattle.tmw_defs.specs.declared.criterion.Criterion.{Criterion}
 use Rattle.tmw_monitor.specs.declared.bounds.Bounds.{Bounds}
 use Rattle.tmw_bench.specs.declared.settings.Settings.{Settings}
-use Rattle.tmw_show.specs.declared.command.form.Form.{Form}
-use Rattle.tmw_show.specs.declared.command.form.Form.TheVariants.{Drawing, Traces, Page}
-use Rattle.tmw_args.specs.Counts.{Count, counted}
+use Rattle.tmw_show.specs.declared.form.Form.{Form}
+use Rattle.tmw_show.specs.declared.form.Form.TheVariants.{Drawing, Traces, Page}
+use Rattle.tmw_args.specs.OptionNumbers.{Count, counted}
 use Rattle.tmw_args.specs.Names.{asked_named, criterion_named, memory_named, named}
 use Rattle.tmw_args.specs.declared.order.Order.{Order}
 use Rattle.tmw_args.specs.declared.order.Order.TheVariants.{Judge, Show, Drive, Bench, Steps}

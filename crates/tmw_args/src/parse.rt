@@ -2,11 +2,11 @@ ghost use Rattle.std.specs.Prelude.{◌≡◌, ◌≤◌, List, IfErr, IfOk, IfS
 ghost use Rattle.clap.specs.Walk.{texts};
 ghost use Rattle.clap.specs.Words.{App, Text, app_of, first_of, found_of, kind_of, rows_of, subcommand_rows_of};
 ghost use Rattle.tmw_args.specs.Program.{IsProgram};
-ghost use Rattle.tmw_args.specs.Reading.{FailsAs};
+ghost use Rattle.tmw_args.specs.ReadWords.{FailsAs};
 ghost use Rattle.tmw_args.specs.Words.{Asks, asked_in, bench_in, bounds_in, criterion_in, drive_in, flag_in, form_by, form_in, help_as_flag, judge_in, memory_in, names_help, number_in, order_in, run_options_in, settings_in, show_in};
 
 use crate::bench_options::BenchOptions;
-use crate::names::{asked_named, criterion_named};
+use crate::criterion_names::{asked_named, criterion_named};
 use crate::order::Order;
 use crate::program::new_program;
 use crate::run_options::RunOptions;

@@ -1,7 +1,7 @@
 -- A worker, from one round to the next, and to its end.
-use Rattle.tmw_bench.proofs.Shared.{Answer, Call, Consumer, Ended, HasMet, HasPlayedLast, HasPlayedOn, HasSeen, HasWorked, IsBetween, Kind, List, None, Option, Producer, Refused, RingIs, SameConsumer, SameProducer, Worker, WriterIs, WriterOf, [], ap, arith, length, length_push, received, sent, subst, sym, ℕ, ◌++◌, ◌+◌, ◌∙◌, ◌∷◌, ◌≡◌, ◌≤◌}
-use Rattle.tmw_bench.proofs.PlayedRounds.{ready-met, played_last-worked}
-use Rattle.tmw_ring.specs.Meeting.{FindsTail}
+use Rattle.tmw_bench.proofs.Shared.{Answer, Call, Consumer, HasMet, HasPlayedLast, HasPlayedOn, HasSeen, HasWorked, IsBetween, Kind, List, None, Option, Producer, Refused, RingIs, RoundEnd, SameConsumer, SameProducer, Worker, WriterIs, WriterOf, [], ap, arith, length, length_push, received, sent, subst, sym, ℕ, ◌++◌, ◌+◌, ◌∙◌, ◌∷◌, ◌≡◌, ◌≤◌}
+use Rattle.tmw_bench.proofs.RoundPlaces.{ready-met, played_last-worked}
+use Rattle.tmw_ring.specs.Meet.{FindsTail}
 
 module _ {T A P : Type 0} where
   pub up-then : (a b c : Producer T A P) → SameProducer a b → SameProducer b c → SameProducer a c
@@ -31,7 +31,7 @@ last-met gives script bounds tail old new last met = grind arith
 
 module _ (gives : Call → Answer → Type 0) (ring : RingIs) (script : List (List Kind)) (first old new : Worker) (was : IsBetween gives ring script first old) where
   -- It was stopped in a round, and has told of it.
-  pub played_on-stopped : (stop : Option Refused) (ended : Ended) → ended.stop ≡ stop → WriterOf ring new.writer → new.writer.number ≡ old.writer.number
+  pub played_on-stopped : (stop : Option Refused) (ended : RoundEnd) → ended.stop ≡ stop → WriterOf ring new.writer → new.writer.number ≡ old.writer.number
       → HasWorked gives script old.writer stop new.writer → SameProducer old.up new.up → sent new.up ≡ sent old.up ++ ended ∷ []
       → new.down ≡ old.down → HasPlayedOn gives ring script first stop new
   played_on-stopped stop ended stopped of_ring number worked up told down = record {
@@ -52,7 +52,7 @@ module _ (gives : Call → Answer → Type 0) (ring : RingIs) (script : List (Li
   }
 
   -- It was not stopped, has told of the round, and no further round begins.
-  pub played_on-over : (tail : ℕ) (stop : Option Refused) (ended : Ended) (worked : WriterIs) → stop ≡ None → ended.stop ≡ stop → WriterOf ring worked
+  pub played_on-over : (tail : ℕ) (stop : Option Refused) (ended : RoundEnd) (worked : WriterIs) → stop ≡ None → ended.stop ≡ stop → WriterOf ring worked
       → worked.number ≡ old.writer.number → HasWorked gives script old.writer stop worked → FindsTail tail worked new.writer
       → SameProducer old.up new.up → sent new.up ≡ sent old.up ++ ended ∷ [] → SameConsumer old.down new.down → received new.down ≡ received old.down
       → HasPlayedOn gives ring script first stop new
@@ -80,7 +80,7 @@ module _ (gives : Call → Answer → Type 0) (ring : RingIs) (script : List (Li
       }
 
   -- It was not stopped, has told of the round, was told of a bound behind it, and has seen it.
-  pub between-next : (tail bound : ℕ) (stop : Option Refused) (ended : Ended) (worked found : WriterIs) → stop ≡ None → WriterOf ring worked
+  pub between-next : (tail bound : ℕ) (stop : Option Refused) (ended : RoundEnd) (worked found : WriterIs) → stop ≡ None → WriterOf ring worked
       → worked.number ≡ old.writer.number → HasWorked gives script old.writer stop worked → FindsTail tail worked found
       → SameProducer old.up new.up → sent new.up ≡ sent old.up ++ ended ∷ [] → SameConsumer old.down new.down
       → received new.down ≡ received old.down ++ bound ∷ [] → tail ≤ bound → HasSeen bound found new.writer
@@ -96,7 +96,7 @@ module _ (gives : Call → Answer → Type 0) (ring : RingIs) (script : List (Li
         };
         bounds = bound ∷ was.bounds;
         told = next ∙ ap (λ (l : List ℕ). l ++ bound ∷ []) was.told;
-        counted = let all : length (sent new.up) ≡ length (sent old.up) + 1 = ap (λ (l : List Ended). length l) told ∙ length_push (sent old.up) ended in
+        counted = let all : length (sent new.up) ≡ length (sent old.up) + 1 = ap (λ (l : List RoundEnd). length l) told ∙ length_push (sent old.up) ended in
             let before : length (sent old.up) ≡ length was.bounds = was.counted in omega (arith, all, before);
         ready = ready-met gives script was.bounds bound worked stop new.writer not_stopped
             (played_last-worked gives script was.bounds old.writer stop worked was.ready works) met;

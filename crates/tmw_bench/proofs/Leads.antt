@@ -1,5 +1,5 @@
 -- What the leader has heard and told, from one worker to the next.
-use Rattle.tmw_bench.proofs.Shared.{AllOpaque, AreNewLines, Ended, Fits, Front, HasGoneOn, HasHeard, HasJudged, HasLedTo, HasToldStop, HaveHeardUpTo, HaveToldUpTo, IsVerdict, Line, List, OpaqueSoFar, Option, Refused, Rules, SameConsumer, SameProducer, Some, SomeToldStop, [], ap, append_assoc, arith, cases_lt, get_or, get_or-set_other, get_or-set_same, inl, inr, judged-none, length, length-append, length-set, length_push, received, sent, set, subst, sym, ℕ, ◌++◌, ◌+◌, ◌<◌, ◌∙◌, ◌∷◌, ◌≡◌, ◌≢◌, rules}
+use Rattle.tmw_bench.proofs.Shared.{AllOpaque, AreNewLines, RoundEnd, Fits, Front, HasGoneOn, HasHeard, HasJudged, HasLedTo, HasToldStop, HaveHeardUpTo, HaveToldUpTo, IsVerdict, Line, List, OpaqueSoFar, Option, Refused, Rules, SameConsumer, SameProducer, Some, SomeToldStop, [], ap, append_assoc, arith, cases_lt, get_or, get_or-set_other, get_or-set_same, inl, inr, judged-none, length, length-append, length-set, length_push, received, sent, set, subst, sym, ℕ, ◌++◌, ◌+◌, ◌<◌, ◌∙◌, ◌∷◌, ◌≡◌, ◌≢◌, rules}
 use Rattle.std.specs.Option.{IsSome}
 use Rattle.std.proofs.Math.Nat.{ne_of_lt}
 use Rattle.tmw_bench.proofs.OpaqueRounds.{all_opaque-append, all_opaque-round}
@@ -25,7 +25,7 @@ module _ {K N : Type 0} {G : Ghosts K N} where
 some_of : (stop : Option Refused) → IsSome stop → (refused : Refused) × (stop ≡ Some refused)
 some_of stop is = grind arith
 
-module _ (old now : List Line) (count : ℕ) (item next : Line) (ended : Ended) (low : count < length now)
+module _ (old now : List Line) (count : ℕ) (item next : Line) (ended : RoundEnd) (low : count < length now)
     (is : (fallback : Line) → get_or now count fallback ≡ item) (heard : HasHeard ended item next) where
   other : (place : ℕ) (fallback : Line) → place ≢ count → get_or (set now count next) place fallback ≡ get_or now place fallback
   other place fallback apart = get_or-set_other now count place next fallback apart
@@ -39,12 +39,12 @@ module _ (old now : List Line) (count : ℕ) (item next : Line) (ended : Ended) 
     each = λ place fallback below.
         elim (cases_lt place count) [
           | inl before ↦
-              subst (λ (line : Line). (e : Ended) × HasHeard e (get_or old place fallback) line) (sym (other place fallback (ne_of_lt before)))
+              subst (λ (line : Line). (e : RoundEnd) × HasHeard e (get_or old place fallback) line) (sym (other place fallback (ne_of_lt before)))
               (so_far.each place fallback before)
           | inr past ↦
               let same : count ≡ place = omega (arith, below, past) in
               let was : item ≡ get_or old count fallback = sym (is fallback) ∙ so_far.rest count fallback (omega arith) in
-              subst (λ (n : ℕ). (e : Ended) × HasHeard e (get_or old n fallback) (get_or (set now count next) n fallback)) same (
+              subst (λ (n : ℕ). (e : RoundEnd) × HasHeard e (get_or old n fallback) (get_or (set now count next) n fallback)) same (
                 ended,
                 subst (λ (line : Line). HasHeard ended (get_or old count fallback) line) (sym (here fallback))
                     (subst (λ (line : Line). HasHeard ended line next) was heard),
@@ -84,7 +84,7 @@ module _ (rules : Rules) (bounds : List ℕ) (first old new : List Line) (before
         let line = led.lines place fallback low in
         let one = (heard.each place fallback (let n = led.line_count in omega (arith, n, low))).1 in
         let more : length (received (get_or new place fallback).up) ≡ length (received (get_or old place fallback).up) + 1
-        = ap (λ (l : List Ended). length l) one.heard ∙ length_push (received (get_or old place fallback).up)
+        = ap (λ (l : List RoundEnd). length l) one.heard ∙ length_push (received (get_or old place fallback).up)
         (heard.each place fallback (let n = led.line_count in omega (arith, n, low))).0 in
         record {
           up = down-then (get_or first place fallback).up (get_or old place fallback).up (get_or new place fallback).up line.up one.up;

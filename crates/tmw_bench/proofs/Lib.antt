@@ -1,22 +1,22 @@
+pub mod AllBack
 pub mod Between
+mod CallsLeft
 mod Claims
-pub mod Closing
-pub mod Cutting
-pub mod Gathered
+pub mod CutPlaces
 pub mod InRounds
-pub mod Joined
+pub mod JoinThreads
 pub mod Leads
-mod Left
 pub mod MadeFrom
 pub mod NeverMalformed
 pub mod OpaqueRounds
-pub mod PlayedRounds
-pub mod RepeatedRuns
 pub mod Returns
+pub mod RoundPlaces
 pub mod RoundsOver
+pub mod RunsAgain
 mod Shared
 pub mod Starts
 pub mod Tries
 pub mod Whole
 pub mod WholeRounds
+pub mod WorkerBack
 mod Works

@@ -1,8 +1,8 @@
 -- From writers that have claimed whole rounds to the log of these rounds.
 use Rattle.tmw_bench.proofs.Shared.{All, All-drop, All-take, AllOpaque, AllStand, Answer, AreWholeRounds, Call, Event, HasPlayed, IsWholeRound, IsWholeRun, Kind, List, Rules, [], arith, cases_lt, drop, inl, inr, kinds_of, last_bound, length, length-take-le, made_from, nil_from_length, no_kinds, script_at, subst, sym, take, take-append-drop, true, ℕ, ◌<◌, ◌∷◌, ◌≡◌, ◌≤◌, rules}
-use Rattle.tmw_bench.proofs.Cutting.{cutting}
+use Rattle.tmw_bench.proofs.CutPlaces.{cutting}
 use Rattle.tmw_bench.proofs.OpaqueRounds.{all_opaque-take, last_bound-within, opaque_at_last}
-use Rattle.tmw_bench.proofs.PlayedRounds.{earlier_played}
+use Rattle.tmw_bench.proofs.RoundPlaces.{earlier_played}
 
 -- What a thread has done in a log whose last round begins at this length.
 pub record RoundAt (gives : Call → Answer → Type 0) (script : List (List Kind)) (earlier : List ℕ) (thread : ℕ) (log : List Event) : Type 0 where

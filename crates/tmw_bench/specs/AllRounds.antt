@@ -1,14 +1,14 @@
 -- Rounds that workers play: what they need, and what they leave.
 use Rattle.std.specs.Prelude.{◌≡◌, ◌≤◌, ◌<◌, ℕ, [], List, Option, length}
 use Rattle.std.specs.Global.{Vec}
-use Rattle.tmw_bench.specs.Begun.{HaveBegun, IsOver}
-use Rattle.tmw_bench.specs.Playing.{AreTransactions, GivesWithin}
+use Rattle.tmw_bench.specs.RoundsBegun.{HaveBegun, IsOver}
+use Rattle.tmw_bench.specs.PlayWithin.{AreTransactions, GivesWithin}
 use Rattle.tmw_defs.specs.Verdict.{Rules}
 use Rattle.tmw_events.specs.declared.event.Kind.{Kind}
-use Rattle.tmw_monitor.specs.Fitting.{Fits}
-use Rattle.tmw_pump.specs.Fronts.{judged_of, monitor_of}
-use Rattle.tmw_pump.specs.Pumping.{PumpIs, pump_front, reader_of}
-use Rattle.tmw_ring.specs.Ends.{ReaderOf, RingIs, WriterIs}
+use Rattle.tmw_monitor.specs.Fits.{Fits}
+use Rattle.tmw_pump.specs.Front.{judged_of, monitor_of}
+use Rattle.tmw_pump.specs.Pump.{PumpIs, pump_front, reader_of}
+use Rattle.tmw_ring.specs.RingEnds.{ReaderOf, RingIs, WriterIs}
 use Rattle.tmw_ring.specs.NewRing.{AreNewWriters}
 use Rattle.tmw_ring.specs.declared.refused.Refused.{Refused}
 use Rattle.tmw_runs.specs.Scripts.{scripts_of}

@@ -2,20 +2,20 @@
 use Rattle.std.specs.Prelude.{◌≡◌, ◌≤◌, ◌<◌, ◌++◌, ℕ, true, List, [], ◌∷◌, Option, Some, None, length, get_or, take, All}
 use Rattle.tmw_defs.specs.Verdict.{Rules, IsVerdict}
 use Rattle.tmw_defs.specs.declared.verdict.Verdict.TheVariants.{OpaqueSoFar}
-use Rattle.tmw_drive.specs.Driving.{script_at}
+use Rattle.tmw_drive.specs.Drive.{script_at}
 use Rattle.tmw_drive.specs.declared.ending.Ending.{Ending}
 use Rattle.tmw_drive.specs.declared.ending.Ending.TheVariants.{Done, Stopped}
 use Rattle.tmw_events.specs.declared.event.Event.{Event}
 use Rattle.tmw_events.specs.declared.event.Kind.{Kind}
 use Rattle.tmw_pump.specs.Kinds.{kinds_made}
-use Rattle.tmw_ring.specs.Ends.{WriterIs}
+use Rattle.tmw_ring.specs.RingEnds.{WriterIs}
 use Rattle.tmw_ring.specs.Parts.{made_from}
-use Rattle.tmw_ring.specs.declared.part.Made.{Made}
+use Rattle.tmw_ring.specs.declared.seat_part.Made.{Made}
 use Rattle.tmw_ring.specs.declared.refused.Refused.{Refused}
 use Rattle.tmw_runs.specs.Runs.{IsWholeRun}
-use Rattle.tmw_runs.specs.Standing.{AllStand}
+use Rattle.tmw_runs.specs.Stands.{AllStand}
 use Rattle.tmw_tm.specs.Answers.{Call, Answer}
-use Rattle.tmw_bench.specs.Working.{EndsWork, FindsFrom}
+use Rattle.tmw_bench.specs.Work.{EndsWork, FindsFrom}
 
 -- A bound is the length of the log when a round has ended. Bounds are listed with the last round's first.
 

@@ -3,11 +3,11 @@ use Rattle.std.specs.Prelude.{◌≡◌, ◌≤◌, ◌++◌, ℕ, List, [], ◌
 use Rattle.rtrb.specs.Ring.{received, sent, SameConsumer, SameProducer}
 use Rattle.tmw_bench.specs.Rounds.{HasPlayedLast, IsReady}
 use Rattle.tmw_events.specs.declared.event.Kind.{Kind}
-use Rattle.tmw_bench.specs.declared.ended.Ended.{Ended}
+use Rattle.tmw_bench.specs.declared.round_end.RoundEnd.{RoundEnd}
 use Rattle.tmw_bench.specs.declared.worker.Worker.{Worker}
-use Rattle.tmw_ring.specs.Ends.{RingIs, WriterIs, WriterOf}
+use Rattle.tmw_ring.specs.RingEnds.{RingIs, WriterIs, WriterOf}
 use Rattle.tmw_ring.specs.declared.refused.Refused.{Refused}
-use Rattle.tmw_bench.specs.Meeting.{HasOnlySeen}
+use Rattle.tmw_bench.specs.RoundMeeting.{HasOnlySeen}
 use Rattle.tmw_tm.specs.Answers.{Call, Answer}
 
 -- The writer is as it was, but has seen so many places, and no fewer than before.
@@ -42,8 +42,8 @@ pub record HasPlayedOn (gives : Call → Answer → Type 0) (ring : RingIs) (scr
   pub same : IsSameWorker old new
   pub bounds : List ℕ
   pub told : received new.down ≡ in_order bounds
-  pub earlier : List Ended
-  pub last : Ended
+  pub earlier : List RoundEnd
+  pub last : RoundEnd
   pub sent_all : sent new.up ≡ earlier ++ last ∷ []
   pub counted : length earlier ≡ length bounds
   pub stopped : last.stop ≡ stop

@@ -1,20 +1,20 @@
 ghost use Rattle.std.specs.Prelude.{◌≤◌, length, IfOk, IfErr};
-ghost use Rattle.tmw_bench.specs.Benched.{IsBenched, IsHunted, IsNoBench};
-ghost use Rattle.tmw_bench.specs.Keeping.{IsCarriedOut};
+ghost use Rattle.tmw_bench.specs.BenchHeadline.{IsBenched, IsHunted, IsNoBench};
+ghost use Rattle.tmw_bench.specs.CarryOut.{IsCarriedOut};
 ghost use Rattle.tmw_runs.specs.Scripts.{scripts_of};
 
-use crate::benched::Benched;
-use crate::ends::ends_of;
+use crate::bench_keep::BenchKeep;
+use crate::bench_result::BenchResult;
+use crate::bench_stage::BenchStage;
 use crate::fault::BenchFault;
+use crate::hunt_result::HuntResult;
 use crate::hunt_window::Hunting;
-use crate::hunted::Hunted;
 use crate::orders::Orders;
-use crate::play::{Left, play_rounds};
+use crate::play_rounds::{Left, play_rounds};
 use crate::progress::Progress;
+use crate::script_ends::ends_of;
 use crate::settings::Settings;
 use crate::signals::Signals;
-use crate::stage::Stage;
-use crate::tell::Tell;
 use std::alloc::Global;
 use std::marker::Brand;
 use std::sync::Wait;
@@ -45,7 +45,7 @@ pub fn run_bench<R: Threads + Wait + Sync>(
     memory: &(dyn Tm + Sync),
     workload: &Workload,
     settings: Settings,
-) -> Result<Benched, BenchFault>
+) -> Result<BenchResult, BenchFault>
     ensures ok { IfOk result
         (IsBenched (gives memory.now) workload.now.registers (scripts_of workload.now.scripts.items)
         settings) }
@@ -57,7 +57,7 @@ pub fn run_bench<R: Threads + Wait + Sync>(
     let carried = carry_out::<R, Vec<Event>>(rt, alloc, memory, workload, settings, ())?;
     let summary = carried.rest.front().summary();
     let (log, verdict) = carried.rest.finish();
-    Ok(Benched {
+    Ok(BenchResult {
         summary,
         outcome: Outcome {
             log,
@@ -78,7 +78,7 @@ pub fn hunt<R: Threads + Wait + Sync, P: Progress>(
     workload: &Workload,
     settings: Settings,
     progress: &P,
-) -> Result<Hunted, BenchFault>
+) -> Result<HuntResult, BenchFault>
     ensures ok { IfOk result
         (IsHunted (gives memory.now) workload.now.registers (scripts_of workload.now.scripts.items)
         settings) }
@@ -92,7 +92,7 @@ pub fn hunt<R: Threads + Wait + Sync, P: Progress>(
     let carried = over?;
     let (front, kept) = carried.rest.into_kept();
     let Hunting { window, .. } = kept;
-    Ok(Hunted {
+    Ok(HuntResult {
         // The log is never malformed.
         showing: window.finish(front.monitor()),
         summary: front.summary(),
@@ -110,7 +110,7 @@ pub struct Carried<K: Keep> {
 }
 
 /// Carries the scripts out, and judges all that is recorded.
-fn carry_out<R: Threads + Wait + Sync, K: Tell>(
+fn carry_out<R: Threads + Wait + Sync, K: BenchKeep>(
     rt: &R,
     alloc: Global,
     memory: &(dyn Tm + Sync),
@@ -143,7 +143,7 @@ fn carry_out<R: Threads + Wait + Sync, K: Tell>(
     };
     let pump = Pump::keeping(kept, reader, monitor);
     let (signals, orders) = (Signals::new(), Orders::new());
-    let stage = Stage {
+    let stage = BenchStage {
         ring: &ring,
         scripts: workload.scripts.as_slice(),
         patience: settings.patience,

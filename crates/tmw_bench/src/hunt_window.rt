@@ -1,12 +1,12 @@
 ghost use Rattle.std.specs.Prelude.{◌≡◌, List, [], ◌∷◌, ◌++◌, IfOk};
 
+use crate::bench_keep::BenchKeep;
 use crate::progress::Progress;
-use crate::tell::Tell;
 use std::alloc::{AllocError, Global};
 use tmw_events::Event;
 use tmw_monitor::Monitor;
 use tmw_pump::Keep;
-use tmw_window::{KeptWindow, NextShown};
+use tmw_window::{KeptWindow, WindowChange};
 
 /// The last window. Somebody is told now and then how far the bench has come.
 #[derive(Drop)]
@@ -16,24 +16,24 @@ pub struct Hunting<'a, P> {
 }
 
 impl<'a, P: Progress> Keep for Hunting<'a, P> {
-    ghost use Rattle.tmw_window.specs.Keeping.{HasPlaceFor, IsNext, KeepsShown};
+    ghost use Rattle.tmw_window.specs.KeptWindow.{HasPlaceFor, IsNext, KeepsShown};
 
-    type Next = NextShown;
+    type Next = WindowChange;
 
     ghost keeps = { λ rules history verdict hunting. KeepsShown rules history verdict hunting.window };
 
     ghost awaits = { λ monitor next hunting. IsNext monitor next × HasPlaceFor next hunting.window };
 
-    fn make_room(&mut self, monitor: &Monitor) -> Result<NextShown, AllocError> {
+    fn make_room(&mut self, monitor: &Monitor) -> Result<WindowChange, AllocError> {
         self.window.make_room(monitor)
     }
 
-    fn take(&mut self, next: NextShown, event: Event) {
+    fn take(&mut self, next: WindowChange, event: Event) {
         self.window.take(next, event);
     }
 }
 
-impl<'a, P: Progress> Tell for Hunting<'a, P> {
+impl<'a, P: Progress> BenchKeep for Hunting<'a, P> {
     type Told = &'a P;
 
     fn begin(alloc: Global, monitor: &Monitor, told: &'a P) -> Result<Hunting<'a, P>, AllocError> {

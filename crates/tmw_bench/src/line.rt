@@ -1,13 +1,13 @@
 //! The leader's ends of the lines to its workers.
 ghost use Rattle.std.specs.Prelude.{length, IfOk, OnOk, IsTrue, IsSome};
-ghost use Rattle.tmw_pump.specs.Pumping.{pump_in, reader_of};
-ghost use Rattle.tmw_bench.specs.Leading.{HasHeard, HaveHeardUpTo, HaveToldUpTo, SomeToldStop};
-ghost use Rattle.tmw_bench.specs.Keeping.{HasGoneOn};
-ghost use Rattle.tmw_ring.specs.Ends.{ReaderOf};
+ghost use Rattle.tmw_pump.specs.Pump.{pump_in, reader_of};
+ghost use Rattle.tmw_bench.specs.Lead.{HasHeard, HaveHeardUpTo, HaveToldUpTo, SomeToldStop};
+ghost use Rattle.tmw_bench.specs.CarryOut.{HasGoneOn};
+ghost use Rattle.tmw_ring.specs.RingEnds.{ReaderOf};
 
-use crate::ended::Ended;
+use crate::bench_keep::BenchKeep;
 use crate::orders::Orders;
-use crate::tell::Tell;
+use crate::round_end::RoundEnd;
 use crate::waits::{tell_bound, wait};
 use rtrb::{Consumer, Producer};
 use std::alloc::AllocError;
@@ -21,18 +21,18 @@ const TURN: u64 = 64;
 /// The leader's ends of the line to one worker.
 #[derive(Drop)]
 pub struct Line {
-    pub up: Consumer<Ended>,
+    pub up: Consumer<RoundEnd>,
     pub down: Producer<u64>,
 }
 
 /// Waits until a worker has told that its round has ended, and judges meanwhile what is recorded.
-fn hear<R: Wait, K: Tell>(
+fn hear<R: Wait, K: BenchKeep>(
     rt: &R,
     ring: &Ring,
     pump: &mut Pump<K>,
     line: &mut Line,
     orders: &Orders,
-) -> Result<Ended, AllocError>
+) -> Result<RoundEnd, AllocError>
     requires reader { ReaderOf ring.now (reader_of (pump_in pump.old)) }
     ensures reader { OnOk result (ReaderOf ring.now (reader_of (pump_in pump.new))) }
     ensures goes_on { OnOk result (HasGoneOn pump.old pump.new) }
@@ -56,7 +56,7 @@ fn hear<R: Wait, K: Tell>(
 }
 
 /// Whether the worker was stopped.
-fn is_stopped(ended: &Ended) -> bool
+fn is_stopped(ended: &RoundEnd) -> bool
     ensures { IsTrue result → IsSome ended.now.stop }
 {
     ended.stop.is_some()
@@ -64,7 +64,7 @@ fn is_stopped(ended: &Ended) -> bool
 
 /// Waits until all workers have told that their round has ended. Returns the most places that one of them has found
 /// claimed, and whether a worker was stopped.
-pub fn hear_all<R: Wait, K: Tell>(
+pub fn hear_all<R: Wait, K: BenchKeep>(
     rt: &R,
     ring: &Ring,
     pump: &mut Pump<K>,

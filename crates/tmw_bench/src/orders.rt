@@ -1,4 +1,4 @@
-use crate::count::Count;
+use crate::rising_count::Count;
 use std::sync::atomic::{AtomicBool, Ordering};
 
 /// What a leader and its workers tell all, beside what goes by their lines. Only that a run ends rests on it, which no

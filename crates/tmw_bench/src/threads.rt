@@ -1,14 +1,14 @@
 //! A thread for each worker, which gives the worker back.
 ghost use Rattle.std.specs.Prelude.{◌≡◌, ◌<◌, ℕ, length, get_or, IfOk, IfErr, IsTrue};
-ghost use Rattle.tmw_bench.specs.Playing.{AreTransactions, GivesWithin, IsOfThreads};
-ghost use Rattle.tmw_drive.specs.Playing.{calls_of};
-ghost use Rattle.tmw_bench.specs.Lines.{AreNewWorkers, IsNewWorker, IsPromised, promised_ring, promised_script, promised_worker};
+ghost use Rattle.tmw_bench.specs.PlayWithin.{AreTransactions, GivesWithin, IsOfThreads};
+ghost use Rattle.tmw_drive.specs.Player.{calls_of};
+ghost use Rattle.tmw_bench.specs.LeaderLines.{AreNewWorkers, IsNewWorker, IsPromised, promised_ring, promised_script, promised_worker};
 ghost use Rattle.tmw_bench.specs.Workers.{HasPlayedOn};
 ghost use Rattle.tmw_runs.specs.Scripts.{are_transactions, scripts_of};
 
+use crate::bench_stage::BenchStage;
 use crate::fault::BenchFault;
-use crate::giving::Giving;
-use crate::stage::Stage;
+use crate::memory_answers::MemoryAnswers;
 use crate::worker::{Worker, play_on};
 use std::alloc::Global;
 use std::marker::PhantomData;
@@ -28,7 +28,7 @@ pub struct Playing<'a, J> {
     of: PhantomData<J>,
 }
 
-impl<'a, J: Giving> Promise<(Worker, Option<Refused>)> for Playing<'a, J> {
+impl<'a, J: MemoryAnswers> Promise<(Worker, Option<Refused>)> for Playing<'a, J> {
     ghost use Rattle.tmw_bench.specs.Workers.{HasPlayedOn};
 
     ghost kept_by = { λ promise back. HasPlayedOn J.gave (promised_ring promise)
@@ -36,10 +36,10 @@ impl<'a, J: Giving> Promise<(Worker, Option<Refused>)> for Playing<'a, J> {
 }
 
 /// Plays, and gives the worker back with the refusal at which it was stopped, if any.
-fn play<R: Wait, J: Giving>(
+fn play<R: Wait, J: MemoryAnswers>(
     rt: &R,
     memory: &(dyn Tm + Sync),
-    stage: Stage<'_>,
+    stage: BenchStage<'_>,
     mut worker: Worker,
     script: &[Vec<Kind>],
 ) -> (Worker, Option<Refused>)
@@ -54,12 +54,12 @@ fn play<R: Wait, J: Giving>(
 }
 
 /// Starts a thread for each worker, in which the script at its place runs, if there are threads for all.
-pub fn start_all<'s, E, R: Wait + Sync, J: Giving + Send + 's>(
+pub fn start_all<'s, E, R: Wait + Sync, J: MemoryAnswers + Send + 's>(
     rt: &'s R,
     scope: &Scope<'s, E>,
     alloc: Global,
     memory: &'s (dyn Tm + Sync),
-    stage: Stage<'s>,
+    stage: BenchStage<'s>,
     workers: Vec<Worker>,
 ) -> Result<Vec<PromisedHandle<(Worker, Option<Refused>), Playing<'s, J>>>, BenchFault>
     requires gives { GivesWithin (gives memory.now) J.gave }

@@ -1,12 +1,12 @@
 //! What a worker waits for between two rounds, and its leader.
 ghost use Rattle.std.specs.Prelude.{◌≡◌, ◌≤◌, [], ◌∷◌, ◌++◌, IfSome, IfNone};
 ghost use Rattle.rtrb.specs.Ring.{received, sent, SameConsumer, SameProducer};
-ghost use Rattle.tmw_ring.specs.Ends.{WriterOf};
+ghost use Rattle.tmw_ring.specs.RingEnds.{WriterOf};
 ghost use Rattle.tmw_bench.specs.Workers.{HasSeen};
 
-use crate::count::Count;
-use crate::ended::Ended;
 use crate::orders::Orders;
+use crate::rising_count::Count;
+use crate::round_end::RoundEnd;
 use rtrb::{Consumer, Producer, PushError};
 use std::sync::Wait;
 use std::time::Duration;
@@ -103,7 +103,7 @@ pub fn see<R: Wait>(rt: &R, ring: &Ring, writer: &mut Writer, bound: u64)
 }
 
 /// Tells the leader that the round has ended.
-pub fn tell<R: Wait>(rt: &R, up: &mut Producer<Ended>, ended: Ended)
+pub fn tell<R: Wait>(rt: &R, up: &mut Producer<RoundEnd>, ended: RoundEnd)
     ensures ring { SameProducer up.old up.new }
     ensures sent { sent up.new ≡ sent up.old ++ ended ∷ [] }
 {

@@ -1,15 +1,15 @@
 //! A worker, which plays its script round after round.
 ghost use Rattle.std.specs.Prelude.{◌≡◌, ℕ, [], IsTrue};
 ghost use Rattle.rtrb.specs.Ring.{received, sent};
-ghost use Rattle.tmw_drive.specs.Playing.{calls_of};
-ghost use Rattle.tmw_ring.specs.Ends.{WriterOf};
+ghost use Rattle.tmw_drive.specs.Player.{calls_of};
+ghost use Rattle.tmw_ring.specs.RingEnds.{WriterOf};
 ghost use Rattle.tmw_runs.specs.Scripts.{are_transactions};
-ghost use Rattle.tmw_bench.specs.Playing.{GivesWithin};
+ghost use Rattle.tmw_bench.specs.PlayWithin.{GivesWithin};
 ghost use Rattle.tmw_bench.specs.Workers.{HasPlayedOn};
 
-use crate::ended::Ended;
-use crate::giving::Giving;
-use crate::stage::Stage;
+use crate::bench_stage::BenchStage;
+use crate::memory_answers::MemoryAnswers;
+use crate::round_end::RoundEnd;
 use crate::waits::{next_bound, see, tell, wait_for_all};
 use crate::work;
 use rtrb::{Consumer, Producer};
@@ -23,17 +23,17 @@ use tmw_tm::Tm;
 pub struct Worker {
     pub writer: Writer,
     /// By this it tells that a round has ended.
-    pub up: Producer<Ended>,
+    pub up: Producer<RoundEnd>,
     /// By this it is told where the round has ended, so that the next begins.
     pub down: Consumer<u64>,
 }
 
 /// Runs the script, and again each time that it is told where the last round has ended, until it is stopped or no
 /// further round begins. Returns the refusal at which it was stopped, if any.
-pub fn play_on<R: Wait, J: Giving>(
+pub fn play_on<R: Wait, J: MemoryAnswers>(
     rt: &R,
     memory: &(dyn Tm + Sync),
-    stage: Stage<'_>,
+    stage: BenchStage<'_>,
     worker: &mut Worker,
     script: &[Vec<Kind>],
 ) -> Option<Refused>
@@ -61,12 +61,12 @@ pub fn play_on<R: Wait, J: Giving>(
             stage.signals,
         );
         if let Some(_) = stop {
-            tell(rt, &mut worker.up, Ended { tail: 0, stop });
+            tell(rt, &mut worker.up, RoundEnd { tail: 0, stop });
             stage.orders.ended.rise(1);
             return stop;
         }
         let tail = stage.ring.find_tail(&mut worker.writer);
-        tell(rt, &mut worker.up, Ended { tail, stop });
+        tell(rt, &mut worker.up, RoundEnd { tail, stop });
         stage.orders.ended.rise(1);
         let Some(bound) = next_bound(rt, &mut worker.down, tail, stage.orders) else {
             return stop;

@@ -1,8 +1,8 @@
 pub mod OneKind
 pub mod Places
+pub mod RecordersInHandles
 pub mod Refusals
 mod Shared
-pub mod Telling
-pub mod Taken
+pub mod StatusNumbers
 pub mod Turns
-pub mod TurnsClosed
+pub mod TurnsMalformed

@@ -1,10 +1,10 @@
 -- The numbers by which a C program is answered.
 use Rattle.std.specs.Prelude.{◌≡◌, ℕ}
-use Rattle.tmw_c.specs.declared.status.Status.{Status}
-use Rattle.tmw_c.specs.declared.status.Status.TheVariants.{Done, NoHandle, FullHandle, BadRegisters, BadStart, BadBounds, BadSize, BadLimit, Memory, Full, Spent, BadKind, BadRegister, Missing, Closing, OutOfTurn, NotCall, Misfit}
+use Rattle.tmw_c.specs.declared.call_status.CallStatus.{CallStatus}
+use Rattle.tmw_c.specs.declared.call_status.CallStatus.TheVariants.{Done, NoHandle, FullHandle, BadRegisters, BadStart, BadBounds, BadSize, BadLimit, Memory, Full, Spent, BadKind, BadRegister, Missing, Closing, OutOfTurn, NotCall, Misfit}
 
 -- the number of a status
-abbrev pub number_of : Status → ℕ
+abbrev pub number_of : CallStatus → ℕ
 number_of Done = 0
 number_of NoHandle = 1
 number_of FullHandle = 2
@@ -25,5 +25,5 @@ number_of NotCall = 16
 number_of Misfit = 17
 
 -- The number is a status's, of which this holds.
-abbrev pub Tells : ℕ → (Status → Type 0) → Type 0
-Tells number Holds = (status : Status) × (number ≡ number_of status) × Holds status
+abbrev pub Tells : ℕ → (CallStatus → Type 0) → Type 0
+Tells number Holds = (status : CallStatus) × (number ≡ number_of status) × Holds status

@@ -1,18 +1,18 @@
 //! What a C program calls. Each function's number says how it was answered.
 ghost use Rattle.std.specs.Prelude.{◌≡◌, None};
-ghost use Rattle.tmw_c.specs.Closing.{AreOfWatch, IsClosing};
-ghost use Rattle.tmw_c.specs.Judging.{IsPumping, IsReporting};
-ghost use Rattle.tmw_c.specs.Opening.{IsOpening};
-ghost use Rattle.tmw_c.specs.Recording.{IsRecording};
-ghost use Rattle.tmw_c.specs.Rooms.{IsAsking};
+ghost use Rattle.tmw_c.specs.Close.{AreOfWatch, IsClosing};
+ghost use Rattle.tmw_c.specs.Judge.{IsPumping, IsReporting};
+ghost use Rattle.tmw_c.specs.Open.{IsOpening};
+ghost use Rattle.tmw_c.specs.Record.{IsRecording};
+ghost use Rattle.tmw_c.specs.Room.{IsAsking};
 ghost use Rattle.tmw_c.specs.Statuses.{Tells};
-ghost use Rattle.tmw_c.specs.Summing.{IsSumming};
-ghost use Rattle.tmw_handles.specs.Held.{recorder_in, watch_in};
+ghost use Rattle.tmw_c.specs.Summary.{IsSumming};
+ghost use Rattle.tmw_handles.specs.HandleContent.{recorder_in, watch_in};
 
-use crate::counted::Counted;
-use crate::told::Told;
-use crate::wanted::Wanted;
-use crate::{closing, judge, opening, record, room};
+use crate::c_counts::CCounts;
+use crate::c_settings::CSettings;
+use crate::c_verdict::CVerdict;
+use crate::{close, judge, open, record, room};
 use std::alloc::Global;
 use tmw_handles::{RecorderHandle, WatchHandle};
 
@@ -22,11 +22,11 @@ pub extern "C" fn tmwatch_open(
     alloc: Global,
     watch: &mut WatchHandle,
     recorders: &mut [RecorderHandle],
-    wanted: &Wanted,
+    wanted: &CSettings,
 ) -> u32
     ensures { Tells result (IsOpening wanted.now watch.old watch.new recorders.old recorders.new) }
 {
-    opening::open(alloc, watch, recorders, wanted).number()
+    open::open(alloc, watch, recorders, wanted).number()
 }
 
 /// Closes a watch with all its recorders, each in the handle at the place of its number, and tells the verdict on all
@@ -36,13 +36,13 @@ pub extern "C" fn tmwatch_close(
     alloc: Global,
     watch: &mut WatchHandle,
     recorders: &mut [RecorderHandle],
-    told: &mut Told,
+    told: &mut CVerdict,
 ) -> u32
     requires { AreOfWatch (watch_in watch.old) recorders.old }
     ensures { Tells result (IsClosing (watch_in watch.old) (watch_in watch.new) recorders.old
         recorders.new told.old told.new) }
 {
-    closing::close(alloc, watch, recorders, told).number()
+    close::close(alloc, watch, recorders, told).number()
 }
 
 /// Records the event of this letter.
@@ -85,7 +85,7 @@ pub extern "C" fn tmwatch_pump(
 
 /// Tells the verdict on what was judged so far.
 #[unsafe(no_mangle)]
-pub extern "C" fn tmwatch_report(alloc: Global, watch: &mut WatchHandle, out: &mut Told) -> u32
+pub extern "C" fn tmwatch_report(alloc: Global, watch: &mut WatchHandle, out: &mut CVerdict) -> u32
     ensures { Tells result (IsReporting (watch_in watch.old) (watch_in watch.new) out.old out.new) }
 {
     judge::report(alloc, watch, out).number()
@@ -93,7 +93,7 @@ pub extern "C" fn tmwatch_report(alloc: Global, watch: &mut WatchHandle, out: &m
 
 /// Tells the counts of what was judged so far.
 #[unsafe(no_mangle)]
-pub extern "C" fn tmwatch_summary(alloc: Global, watch: &mut WatchHandle, out: &mut Counted) -> u32
+pub extern "C" fn tmwatch_summary(alloc: Global, watch: &mut WatchHandle, out: &mut CCounts) -> u32
     ensures { Tells result (IsSumming (watch_in watch.old) (watch_in watch.new) out.old out.new) }
 {
     judge::summary(alloc, watch, out).number()

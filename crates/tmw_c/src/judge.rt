@@ -1,103 +1,103 @@
 //! Judging what was recorded, by a watch's handle.
 ghost use Rattle.std.specs.Prelude.{IfOk, IfErr, IfSome, IfNone};
-ghost use Rattle.tmw_c.specs.Judging.{IsNotOpen, IsPumping, IsReporting, WasNotPumped, WasPumped, WasReported};
-ghost use Rattle.tmw_c.specs.Summing.{IsSumming, WasSummed};
-ghost use Rattle.tmw_handles.specs.Held.{watch_in};
+ghost use Rattle.tmw_c.specs.Judge.{IsNotOpen, IsPumping, IsReporting, WasNotPumped, WasPumped, WasReported};
+ghost use Rattle.tmw_c.specs.Summary.{IsSumming, WasSummed};
+ghost use Rattle.tmw_handles.specs.HandleContent.{watch_in};
 
-use crate::counted::Counted;
-use crate::status::Status;
-use crate::told::Told;
+use crate::c_counts::CCounts;
+use crate::c_verdict::CVerdict;
+use crate::call_status::CallStatus;
 use std::alloc::Global;
 use tmw_handles::{HeldWatch, WatchHandle};
 
 /// Judges up to `most` events, and returns how many it has judged, or why not so many.
-fn pump_held(held: &mut HeldWatch, most: u64) -> Result<u64, Status>
+fn pump_held(held: &mut HeldWatch, most: u64) -> Result<u64, CallStatus>
     ensures ok { IfOk result (λ judged. WasPumped most judged held.old held.new) }
     ensures err { IfErr result (WasNotPumped most held.old held.new) }
 {
     let HeldWatch::Open(watch) = held else {
-        return Err(Status::Closing);
+        return Err(CallStatus::Closing);
     };
     match watch.pump(most) {
         Ok(pumped) => Ok(pumped.judged),
-        Err(_) => Err(Status::Memory),
+        Err(_) => Err(CallStatus::Memory),
     }
 }
 
 /// Judges up to `most` events by what the handle holds, which it holds again afterwards. `judged` changes only if the
 /// call succeeds.
-pub fn pump(alloc: Global, watch: &mut WatchHandle, most: u64, judged: &mut u64) -> Status
+pub fn pump(alloc: Global, watch: &mut WatchHandle, most: u64, judged: &mut u64) -> CallStatus
     ensures { IsPumping most (watch_in watch.old) (watch_in watch.new) judged.old judged.new
         result }
 {
     let Some(mut held) = watch.take(alloc) else {
-        return Status::NoHandle;
+        return CallStatus::NoHandle;
     };
     let answer = pump_held(&mut held, most);
     *watch = WatchHandle::of(held);
     match answer {
         Ok(count) => {
             *judged = count;
-            Status::Done
+            CallStatus::Done
         }
         Err(status) => status,
     }
 }
 
 /// Returns the verdict on what an open watch has judged.
-fn report_held(held: &HeldWatch) -> Option<Told>
+fn report_held(held: &HeldWatch) -> Option<CVerdict>
     ensures some { IfSome result (WasReported held.now) }
     ensures none { IfNone result (IsNotOpen held.now) }
 {
     let HeldWatch::Open(watch) = held else {
         return None;
     };
-    Some(Told::of(watch.report()))
+    Some(CVerdict::of(watch.report()))
 }
 
 /// Reports on what the handle holds, which it holds again afterwards.
-pub fn report(alloc: Global, watch: &mut WatchHandle, out: &mut Told) -> Status
+pub fn report(alloc: Global, watch: &mut WatchHandle, out: &mut CVerdict) -> CallStatus
     ensures { IsReporting (watch_in watch.old) (watch_in watch.new) out.old out.new result }
 {
     let Some(held) = watch.take(alloc) else {
-        return Status::NoHandle;
+        return CallStatus::NoHandle;
     };
     let told = report_held(&held);
     *watch = WatchHandle::of(held);
     match told {
         Some(told) => {
             *out = told;
-            Status::Done
+            CallStatus::Done
         }
-        None => Status::Closing,
+        None => CallStatus::Closing,
     }
 }
 
 /// Returns what an open watch's judged events have shown.
-fn summary_held(held: &HeldWatch) -> Option<Counted>
+fn summary_held(held: &HeldWatch) -> Option<CCounts>
     ensures some { IfSome result (WasSummed held.now) }
     ensures none { IfNone result (IsNotOpen held.now) }
 {
     let HeldWatch::Open(watch) = held else {
         return None;
     };
-    Some(Counted::of(watch.summary()))
+    Some(CCounts::of(watch.summary()))
 }
 
 /// Counts what was judged by what the handle holds, which it holds again afterwards.
-pub fn summary(alloc: Global, watch: &mut WatchHandle, out: &mut Counted) -> Status
+pub fn summary(alloc: Global, watch: &mut WatchHandle, out: &mut CCounts) -> CallStatus
     ensures { IsSumming (watch_in watch.old) (watch_in watch.new) out.old out.new result }
 {
     let Some(held) = watch.take(alloc) else {
-        return Status::NoHandle;
+        return CallStatus::NoHandle;
     };
     let counted = summary_held(&held);
     *watch = WatchHandle::of(held);
     match counted {
         Some(counted) => {
             *out = counted;
-            Status::Done
+            CallStatus::Done
         }
-        None => Status::Closing,
+        None => CallStatus::Closing,
     }
 }

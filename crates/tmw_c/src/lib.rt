@@ -1,19 +1,19 @@
 //! The watch for C programs: functions by handles that the program keeps.
 #![tactic(auto)]
 
-mod closing;
-mod counted;
+mod c_counts;
+mod c_settings;
+mod c_turn;
+mod c_verdict;
+mod call_status;
+mod close;
+mod event_letters;
 mod exports;
 mod judge;
 mod kind_exports;
-mod kinds;
-mod law;
-mod opening;
+mod laws;
+mod open;
 mod record;
 mod room;
-mod status;
-mod told;
-mod turn;
+mod turn_calls;
 mod turn_exports;
-mod turning;
-mod wanted;

@@ -1,10 +1,10 @@
 //! Recording by a handle.
 ghost use Rattle.std.specs.Prelude.{IfOk, IfErr};
-ghost use Rattle.tmw_c.specs.Recording.{HasRecordedAsked, HasRefused, IsRecording, IsRecordingUntold, IsSameEnd};
-ghost use Rattle.tmw_handles.specs.Held.{recorder_in};
+ghost use Rattle.tmw_c.specs.Record.{HasRecordedAsked, HasRefused, IsRecording, IsRecordingUntold, IsSameEnd};
+ghost use Rattle.tmw_handles.specs.HandleContent.{recorder_in};
 
-use crate::kinds::asked;
-use crate::status::Status;
+use crate::call_status::CallStatus;
+use crate::event_letters::asked;
 use tmw_handles::{HeldRecorder, RecorderHandle};
 use tmw_ring::Refused;
 
@@ -15,7 +15,7 @@ fn record_held(
     letter: u32,
     register: u64,
     value: u64,
-) -> Result<u64, Status>
+) -> Result<u64, CallStatus>
     ensures same { IsSameEnd held.old held.new }
     ensures ok { IfOk result (λ place. HasRecordedAsked letter register value held.old place
         held.new) }
@@ -27,8 +27,8 @@ fn record_held(
     };
     match held.recorder.record(kind) {
         Ok(place) => Ok(place),
-        Err(Refused::Full { .. }) => Err(Status::Full),
-        Err(Refused::Spent { .. }) => Err(Status::Spent),
+        Err(Refused::Full { .. }) => Err(CallStatus::Full),
+        Err(Refused::Spent { .. }) => Err(CallStatus::Spent),
     }
 }
 
@@ -40,17 +40,17 @@ pub fn record(
     register: u64,
     value: u64,
     place: &mut u64,
-) -> Status
+) -> CallStatus
     ensures { IsRecording letter register value (recorder_in recorder.old)
         (recorder_in recorder.new) place.old place.new result }
 {
     if !recorder.is_full() {
-        return Status::NoHandle;
+        return CallStatus::NoHandle;
     }
     match record_held(recorder.slot.held_mut(), letter, register, value) {
         Ok(at) => {
             *place = at;
-            Status::Done
+            CallStatus::Done
         }
         Err(status) => status,
     }
@@ -63,7 +63,7 @@ pub fn record_untold(
     letter: u32,
     register: u64,
     value: u64,
-) -> Status
+) -> CallStatus
     ensures { IsRecordingUntold letter register value (recorder_in recorder.old)
         (recorder_in recorder.new) result }
 {

@@ -1,10 +1,10 @@
 //! Functions by which a C program carries a transaction out: it makes each call itself, and tells the answer.
 ghost use Rattle.tmw_c.specs.Statuses.{Tells};
-ghost use Rattle.tmw_c.specs.Turning.{IsAnswering, IsCalling};
-ghost use Rattle.tmw_handles.specs.Held.{recorder_in};
+ghost use Rattle.tmw_c.specs.TurnCalls.{IsAnswering, IsCalling};
+ghost use Rattle.tmw_handles.specs.HandleContent.{recorder_in};
 
-use crate::turn::{Call, Turn};
-use crate::turning;
+use crate::c_turn::{CTurn, Call};
+use crate::turn_calls;
 use tmw_handles::RecorderHandle;
 
 /// Records the next call of the transaction that makes these calls. Its place in the log is counted from 0.
@@ -12,13 +12,13 @@ use tmw_handles::RecorderHandle;
 pub extern "C" fn tmwatch_next(
     recorder: &mut RecorderHandle,
     calls: &[Call],
-    turn: &mut Turn,
+    turn: &mut CTurn,
     place: &mut u64,
 ) -> u32
     ensures { Tells result (IsCalling calls.now (recorder_in recorder.old)
         (recorder_in recorder.new) turn.old turn.new place.old place.new) }
 {
-    turning::next(recorder, calls, turn, place).number()
+    turn_calls::next(recorder, calls, turn, place).number()
 }
 
 /// Records the answer that the memory gave to the call that waits for it, if it fits, and turns to the next call.
@@ -26,7 +26,7 @@ pub extern "C" fn tmwatch_next(
 pub extern "C" fn tmwatch_answered(
     recorder: &mut RecorderHandle,
     calls: &[Call],
-    turn: &mut Turn,
+    turn: &mut CTurn,
     letter: u32,
     value: u64,
     place: &mut u64,
@@ -34,5 +34,5 @@ pub extern "C" fn tmwatch_answered(
     ensures { Tells result (IsAnswering calls.now letter value (recorder_in recorder.old)
         (recorder_in recorder.new) turn.old turn.new place.old place.new) }
 {
-    turning::answered(recorder, calls, turn, letter, value, place).number()
+    turn_calls::answered(recorder, calls, turn, letter, value, place).number()
 }

@@ -2,18 +2,18 @@
 use Rattle.std.proofs.Common.{◌≡◌, ◌≤◌, ℕ, List, Result, Ok, Err, IsTrue, length, subst, sym}
 use Rattle.std.specs.Prelude.{IfErr, IfOk}
 use Rattle.std.proofs.lemmas.List.{length-map}
-use Rattle.tmw_bench.specs.Benched.{IsHunted, IsNoBench}
+use Rattle.tmw_bench.specs.BenchHeadline.{IsHunted, IsNoBench}
 use Rattle.tmw_command.specs.BenchRun.{hunted_of}
 use Rattle.tmw_args.specs.declared.bench_options.BenchOptions.{BenchOptions}
 use Rattle.tmw_defs.specs.declared.criterion.Criterion.TheVariants.{Opacity}
 use Rattle.tmw_report.specs.declared.fault.Fault.{Fault}
 use Rattle.tmw_report.specs.declared.fault.Fault.TheVariants.{Memory}
-use Rattle.tmw_show.specs.Explaining.{IsNeededOf}
-use Rattle.tmw_command.specs.Benching.{AnswersHunt, IsHuntedFrom, IsNoBenchFrom, IsRightFault, fault_of}
+use Rattle.tmw_show.specs.NeededEvents.{IsNeededOf}
+use Rattle.tmw_command.specs.RunBench.{AnswersHunt, IsHuntedFrom, IsNoBenchFrom, IsRightFault, fault_of}
 use Rattle.tmw_command.specs.declared.bench.hunt_run.HuntRun.{HuntRun}
 use Rattle.tmw_bench.specs.declared.fault.BenchFault.{BenchFault}
 use Rattle.tmw_bench.specs.declared.fault.BenchFault.TheVariants.{Memory as LacksMemory, Registers as LacksRegisters, Ring as HasNoRing, Spawn as LacksThreads}
-use Rattle.tmw_bench.specs.declared.hunted.Hunted.{Hunted}
+use Rattle.tmw_bench.specs.declared.hunt_result.HuntResult.{HuntResult}
 use Rattle.tmw_bench.specs.declared.settings.Settings.{Settings}
 use Rattle.tmw_command.proofs.DriveAnswers.{text_over}
 use Rattle.tmw_events.specs.declared.registers.Registers.{Registers as Width}
@@ -42,7 +42,7 @@ module _ (has : ℕ) (Ended : Type 0) (settings : Settings) (bytes : List ℕ) w
   })
 
 -- what threads have made of the text of a workload
-hunted-from : (memory : MemoryIs) (workload : Workload) (options : BenchOptions) (bytes : List ℕ) (hunted : Hunted) (run : HuntRun)
+hunted-from : (memory : MemoryIs) (workload : Workload) (options : BenchOptions) (bytes : List ℕ) (hunted : HuntResult) (run : HuntRun)
     → IsWorkloadText workload.registers.number (scripts_of workload.scripts.items) workload.order.items bytes
     → workload.registers.number ≤ memory.registers → run.shown.registers ≡ workload.registers → hunted_of run ≡ hunted
     → IsNeededOf Opacity options.why run.shown.registers run.shown.showing run.shown.needed
@@ -62,7 +62,7 @@ hunted-from memory workload options bytes hunted run text enough registers same 
 }
 
 -- They answer it, and so does the want of memory for the part of the last window.
-pub hunted-answers : (memory : MemoryIs) (workload : Workload) (options : BenchOptions) (Ended : Type 0) (bytes : List ℕ) (hunted : Hunted)
+pub hunted-answers : (memory : MemoryIs) (workload : Workload) (options : BenchOptions) (Ended : Type 0) (bytes : List ℕ) (hunted : HuntResult)
     (result : Result HuntRun Fault) → Ended
     → IsWorkloadText workload.registers.number (scripts_of workload.scripts.items) workload.order.items bytes
     → workload.registers.number ≤ memory.registers

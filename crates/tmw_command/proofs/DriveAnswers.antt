@@ -1,7 +1,7 @@
 -- What a workload that was read says of its text.
 use Rattle.std.proofs.Common.{◌≡◌, ◌<◌, ℕ, List, refl}
-use Rattle.tmw_command.specs.Reading.{IsTextOver}
-use Rattle.tmw_command.specs.Driving.{IsRightFault, fault_of}
+use Rattle.tmw_command.specs.ReadSource.{IsTextOver}
+use Rattle.tmw_command.specs.RunDrive.{IsRightFault, fault_of}
 use Rattle.tmw_drive.specs.declared.fault.DriveFault.{DriveFault}
 use Rattle.tmw_drive.specs.declared.fault.DriveFault.TheVariants.{Memory as LacksMemory, Registers as LacksRegisters}
 use Rattle.tmw_runs.specs.Scripts.{scripts_of}

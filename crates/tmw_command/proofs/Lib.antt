@@ -1,5 +1,5 @@
 mod BenchAnswers
 mod DriveAnswers
 mod EndsLines
-mod Remarked
+mod Remarks
 mod Zeros

@@ -1,27 +1,27 @@
 -- The text of what threads have made of a memory.
 use Rattle.std.specs.Prelude.{ℕ, Bool, true, ◌&&◌, ◌||◌, not, List, [], ◌++◌, cond}
-use Rattle.tmw_bench.specs.declared.benched.Benched.{Benched}
-use Rattle.tmw_bench.specs.declared.hunted.Hunted.{Hunted}
+use Rattle.tmw_bench.specs.declared.bench_result.BenchResult.{BenchResult}
+use Rattle.tmw_bench.specs.declared.hunt_result.HuntResult.{HuntResult}
 use Rattle.tmw_defs.specs.declared.criterion.Criterion.TheVariants.{Opacity}
 use Rattle.tmw_report.specs.Lines.{report_text}
-use Rattle.tmw_show.specs.declared.command.form.Form.{Form}
-use Rattle.tmw_show.specs.declared.command.form.Form.TheVariants.{Drawing, Traces}
+use Rattle.tmw_show.specs.declared.form.Form.{Form}
+use Rattle.tmw_show.specs.declared.form.Form.TheVariants.{Drawing, Traces}
 use Rattle.tmw_command.specs.Ends.{ends_line}
 use Rattle.tmw_command.specs.declared.bench.bench_run.BenchRun.{BenchRun}
 use Rattle.tmw_args.specs.declared.bench_options.BenchOptions.{BenchOptions}
 use Rattle.tmw_command.specs.declared.bench.hunt_run.HuntRun.{HuntRun}
-use Rattle.tmw_counts.specs.Parts.{is_open}
+use Rattle.tmw_counts.specs.CountedPart.{is_open}
 use Rattle.tmw_counts.specs.declared.summary.Summary.{Summary}
-use Rattle.tmw_command.specs.Driven.{asked_line, driven_line, driven_status, log_text}
+use Rattle.tmw_command.specs.DriveRun.{asked_line, driven_line, driven_status, log_text}
 use Rattle.tmw_drive.specs.declared.ending.Ending.{Ending}
-use Rattle.tmw_show.specs.Running.{shown_status, shown_text}
+use Rattle.tmw_show.specs.RunShow.{shown_status, shown_text}
 
 -- The log's trace is asked for.
 abbrev pub asks_for_log : BenchOptions → Bool
 asks_for_log options = options.written.trace_only || options.written.trace && not options.show
 
 -- what threads have made, without the header of its log
-abbrev pub benched_of : BenchRun → Benched
+abbrev pub benched_of : BenchRun → BenchResult
 benched_of run = record { outcome = run.driven.outcome; summary = run.driven.summary; rounds = run.rounds }
 
 -- Behind the report's line: that of the ends, and where it is asked for that of the counts.
@@ -41,7 +41,7 @@ abbrev pub bench_status : BenchRun → ℕ
 bench_status run = driven_status run.driven
 
 -- what threads have made, without the workload's registers
-abbrev pub hunted_of : HuntRun → Hunted
+abbrev pub hunted_of : HuntRun → HuntResult
 hunted_of run = record { showing = run.shown.showing; summary = run.summary; ends = run.ends; rounds = run.rounds }
 
 -- The form in which `show` writes the log's last window.

@@ -1,10 +1,10 @@
 pub mod BenchRun
-pub mod Benching
-pub mod Driven
-pub mod Driving
+pub mod DriveRun
 pub mod Ends
 pub mod EndsObject
 pub mod Memories
-pub mod Reading
-pub mod Running
+pub mod ReadSource
+pub mod RunBench
+pub mod RunCommand
+pub mod RunDrive
 pub mod Version

@@ -1,10 +1,10 @@
 //! The command `drive`: a workload, read from its text and driven on a memory, and the trace and the line that answer it.
 
-mod answer;
-mod driven;
-mod driving;
-mod run;
+mod drive_command;
+mod drive_run;
+mod drive_source;
+mod drive_text;
 
-pub use answer::{add_summary, put_driven};
-pub use driven::{Driven, header_of};
-pub use run::run_drive;
+pub use drive_command::run_drive;
+pub use drive_run::{DriveRun, header_of};
+pub use drive_text::{add_summary, put_driven};

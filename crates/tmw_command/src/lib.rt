@@ -2,13 +2,13 @@
 #![tactic(auto)]
 
 mod bench;
+mod command_run;
 mod drive;
 mod memories;
-mod reading;
-mod run;
+mod read_source;
 
 pub use bench::{BenchRun, HuntRun, ends_text, run_bench_cmd};
-pub use drive::{Driven, run_drive};
+pub use command_run::run_command;
+pub use drive::{DriveRun, run_drive};
 pub use memories::Memories;
-pub use run::run_command;
 pub use tmw_args::{BenchOptions, Order, Refusal, RunOptions, Which, read_words};

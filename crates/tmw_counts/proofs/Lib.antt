@@ -1,9 +1,9 @@
-mod Counting
-pub mod Covered
-mod Ended
+pub mod CountedPart
+mod CounterSteps
+mod Outcomes
 mod Overlaps
 mod Shared
 mod Sums
-pub mod Taking
+pub mod TakeEvent
 pub mod Widest
 mod Windows

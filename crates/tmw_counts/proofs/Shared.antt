@@ -21,7 +21,7 @@ pub use Rattle.tmw_events.specs.declared.event.Kind.TheVariants.{A, C, T, X}
 pub use Rattle.tmw_wellformed.proofs.HistorySteps.{length-add, live_count-add, still, text_of}
 pub use Rattle.tmw_wellformed.proofs.TextSteps.{goes_on, is_ended-push}
 pub use Rattle.tmw_wellformed.specs.Notes.{Notes, end_of}
-pub use Rattle.tmw_wellformed.specs.Pending.{call_of, live_count, live_of, pending_call}
-pub use Rattle.tmw_counts.specs.Counting.{AreCounted, CountsSo, IsStep, aborts, commits, meets, one_if}
-pub use Rattle.tmw_counts.specs.Parts.{counted_by, is_open, part_by}
+pub use Rattle.tmw_wellformed.specs.PendingCalls.{call_of, live_count, live_of, pending_call}
+pub use Rattle.tmw_counts.specs.Counter.{AreCounted, CountsSo, IsStep, aborts, commits, meets, one_if}
+pub use Rattle.tmw_counts.specs.CountedPart.{counted_by, is_open, part_by}
 pub use Rattle.tmw_counts.specs.declared.counter.Counter.{Counter}

@@ -4,7 +4,7 @@ use Rattle.std.proofs.Math.Bridge.{le_prop}
 use Rattle.std.proofs.Math.Bool.{Bool-set}
 use Rattle.std.proofs.Math.Nat.{ℕ_set}
 use Rattle.std.proofs.Math.Logic.{∥∥₁_elim, ∥∥₁_map}
-use Rattle.tmw_counts.specs.Summaries.{IsSummary}
+use Rattle.tmw_counts.specs.Summary.{IsSummary}
 use Rattle.tmw_counts.specs.declared.summary.Summary.{Summary}
 use Rattle.tmw_counts.proofs.Windows.{last-cut, last-uncut, widest-push}
 

@@ -1,14 +1,14 @@
 //! What a history has shown beside its verdict, counted as its events come.
 #![tactic(auto)]
 
+mod counted_part;
 mod counter;
-mod parts;
+mod part_summary;
 mod summary;
 mod threads;
-mod whole;
 
+pub use counted_part::{counted_by, is_open};
 pub use counter::Counter;
-pub use parts::{counted_by, is_open};
+pub use part_summary::count_part;
 pub use summary::Summary;
 pub use threads::Threads;
-pub use whole::count_part;

@@ -2,7 +2,7 @@
 use Rattle.tmw_cuts.proofs.Shared.{Add, Effect, IsEffectOf, IsMaskOf, Ix, List, Op, Read, SumsUp, Write, [], and-true, bit_at, cases_Bool, eq-eqb, false, if◌then◌else◌, inl, inr, length, refl, slice_index, set-get_or, slice_set, sym, true, writes, ℕ, ◌%◌, ◌&&◌, ◌++◌, ◌+◌, ◌==◌, ◌^◌, ◌∙◌, ◌∷◌, ◌≡◌}
 use Rattle.tmw_cuts.proofs.Chosen.{with_bit, with_new, with_bit-has}
 use Rattle.tmw_cuts.proofs.Effects.{add-split, read-left, read-needed, read-first}
-use Rattle.tmw_cuts.proofs.WrittenMore.{with-write, needs-write, writes-read, with-read, writes-add, needs-add}
+use Rattle.tmw_cuts.proofs.RegisterUse.{with-write, needs-write, writes-read, with-read, writes-add, needs-add}
 
 pub with_read : (e f : Effect) (ops : List Op) (r : Ix) (v : ℕ) → IsEffectOf e ops → f.left ≡ e.left
     → f.needed ≡ with_new e.left e.needed r.number → SumsUp f (ops ++ Read r v ∷ []) → IsEffectOf f (ops ++ Read r v ∷ [])

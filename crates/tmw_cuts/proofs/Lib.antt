@@ -2,15 +2,15 @@ pub mod AcrossCuts
 pub mod Bits
 pub mod Changes
 pub mod Chosen
-pub mod Effects
 mod EffectSteps
+pub mod Effects
 pub mod FirstMembers
-pub mod Following
+pub mod Follows
 pub mod Masks
 pub mod Moves
-mod Shared
+pub mod OneEventMore
 pub mod Pushes
-pub mod Rising
-pub mod Standings
+mod RegisterUse
+mod Shared
+pub mod StrictOrder
 pub mod TurnSteps
-mod WrittenMore

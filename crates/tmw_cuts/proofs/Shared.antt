@@ -25,20 +25,20 @@ pub use Rattle.tmw_events.specs.declared.event.Event.{Event}
 pub use Rattle.tmw_events.specs.declared.event.Kind.{Kind}
 pub use Rattle.tmw_events.specs.declared.ix.Ix.{Ix}
 pub use Rattle.tmw_events.specs.declared.registers.Registers.{Registers}
-pub use Rattle.tmw_wellformed.proofs.Deciding.{Rejects, answers_asked, is_call_answer, is_call_asked, rejects_lacking}
+pub use Rattle.tmw_wellformed.proofs.PhaseTexts.{Rejects, answers_asked, is_call_answer, is_call_asked, rejects_lacking}
 pub use Rattle.tmw_wellformed.proofs.TextSteps.{call_of-push, goes_on}
-pub use Rattle.tmw_wellformed.proofs.Tracking.{is_well_formed-push, refuses-from}
+pub use Rattle.tmw_wellformed.proofs.TrackerSteps.{is_well_formed-push, refuses-from}
 pub use Rattle.tmw_wellformed.specs.Faults.{Refuses, asks, lacks_register}
-pub use Rattle.tmw_wellformed.specs.Pending.{call_of, live_of, next_call, pending_call}
+pub use Rattle.tmw_wellformed.specs.PendingCalls.{call_of, live_of, next_call, pending_call}
 pub use Rattle.tmw_wellformed.specs.declared.malformed.Malformed.{Malformed}
 pub use Rattle.tmw_wellformed.specs.declared.malformed.Malformed.TheVariants.{Busy, Idle, Mismatch, Register}
 pub use Rattle.tmw_cuts.specs.Effects.{IsEffectOf, SumsUp}
 pub use Rattle.tmw_cuts.specs.Registers.{IsMaskOf, have, put}
 unfoldable pub use Rattle.tmw_cuts.specs.Registers.{chosen}
-pub use Rattle.tmw_cuts.specs.Standing.{Follows, IsNext, StandsFor, before_of, begun_by, calls_in, count_of, is_end, turn_at, txns_of, view_of, views, views_of}
+pub use Rattle.tmw_cuts.specs.StandsFor.{Follows, IsNext, StandsFor, before_of, begun_by, calls_in, count_of, is_end, turn_at, txns_of, view_of, views, views_of}
 pub use Rattle.tmw_cuts.specs.Turns.{Found, Turns, after_call, answered_ops, between, call_in, change, find_open, found_after, found_in, further, is_open_for, kept_in, move_of, numbered, ops_of, place_of, views_after}
 pub use Rattle.tmw_cuts.specs.Views.{View, bit, completed_mask, new_view, next_view, view, with_op, with_status}
-pub use Rattle.tmw_cuts.specs.Written.{needs, writes}
+pub use Rattle.tmw_cuts.specs.RegisterUse.{needs, writes}
 pub use Rattle.tmw_cuts.specs.declared.effect.Effect.{Effect}
 pub use Rattle.tmw_cuts.specs.declared.turn.Move.{Move}
 pub use Rattle.tmw_cuts.specs.declared.turn.Move.TheVariants.{Answer, Ask, Begin, End}

@@ -5,7 +5,7 @@ use Rattle.tmw_defs.specs.declared.op.Op.{Op}
 use Rattle.tmw_defs.specs.Opaque.{State, reads_hold, after_writes}
 use Rattle.tmw_cuts.specs.declared.effect.Effect.{Effect}
 use Rattle.tmw_cuts.specs.Registers.{IsMaskOf, chosen, have, put}
-use Rattle.tmw_cuts.specs.Written.{writes, needs}
+use Rattle.tmw_cuts.specs.RegisterUse.{writes, needs}
 
 -- The operations are answered what the registers hold exactly where they agree with one another and the registers that they
 -- need have the values needed, and they leave the values left in the registers left.

@@ -1,8 +1,8 @@
 pub mod Effects
 pub mod Members
+pub mod RegisterUse
 pub mod Registers
-pub mod Replaying
-pub mod Standing
+pub mod Replays
+pub mod StandsFor
 pub mod Turns
 pub mod Views
-pub mod Written

@@ -3,13 +3,13 @@ use Rattle.std.specs.Prelude.{◌≡◌, slice_index_or, slice_set, ◌==◌, �
 use Rattle.tmw_events.specs.declared.event.Kind.{Kind}
 use Rattle.tmw_events.specs.declared.event.Kind.TheVariants.{A, R, W, T, X, N}
 use Rattle.tmw_events.specs.declared.ix.Ix.{Ix}
-use Rattle.tmw_events.specs.Unpacking.{ix_of}
+use Rattle.tmw_events.specs.EventOfWords.{ix_of}
 use Rattle.tmw_defs.specs.declared.op.Op.{Op}
 use Rattle.tmw_defs.specs.History.{Txn, answers, is_ended, is_over, status_after, operation}
 use Rattle.tmw_wellformed.specs.declared.malformed.Malformed.{Malformed}
 use Rattle.tmw_wellformed.specs.declared.malformed.Malformed.TheVariants.{Busy, Idle, Mismatch}
 use Rattle.tmw_wellformed.specs.Faults.{asks}
-use Rattle.tmw_wellformed.specs.Pending.{call_of, next_call}
+use Rattle.tmw_wellformed.specs.PendingCalls.{call_of, next_call}
 use Rattle.tmw_cuts.specs.Views.{View, new_view, next_view}
 use Rattle.tmw_cuts.specs.declared.turn.Turn.{Turn}
 use Rattle.tmw_cuts.specs.declared.turn.Stage.{Stage}

@@ -4,8 +4,8 @@ ghost use Rattle.tmw_defs.specs.declared.op.Op.{Op};
 ghost use Rattle.tmw_defs.specs.declared.op.Op.TheVariants.{Read, Write, Add};
 ghost use Rattle.tmw_defs.specs.Opaque.{State, reads_hold, after_writes};
 ghost use Rattle.tmw_cuts.specs.Registers.{IsMaskOf, chosen, have};
-ghost use Rattle.tmw_cuts.specs.Replaying.{Replays};
-ghost use Rattle.tmw_cuts.specs.Written.{writes, needs};
+ghost use Rattle.tmw_cuts.specs.Replays.{Replays};
+ghost use Rattle.tmw_cuts.specs.RegisterUse.{writes, needs};
 
 use crate::mask::lowest;
 use crate::states::State;

@@ -2,9 +2,9 @@
 #![tactic(auto)]
 
 mod effect;
-mod kinds;
 mod mark;
 mod mask;
+mod operation_of;
 mod operations;
 mod states;
 mod turn;
@@ -12,9 +12,9 @@ mod txn;
 mod window;
 
 pub use effect::Effect;
-pub use kinds::{operation, status_after};
 pub use mark::Mark;
 pub use mask::lowest;
+pub use operation_of::{operation, status_after};
 pub use operations::Operations;
 pub use states::{State, States};
 pub use turn::{Move, Stage, Turn};

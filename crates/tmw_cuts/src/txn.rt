@@ -2,11 +2,11 @@ ghost use Rattle.std.specs.Prelude.{◌≡◌, ◌<◌, [], ◌∷◌, ◌++◌,
 ghost use Rattle.tmw_defs.specs.Opaque.{State, reads_hold, after_writes};
 ghost use Rattle.tmw_cuts.specs.Effects.{IsEffectOf, IsEffectOf-prop, leaves_none};
 ghost use Rattle.tmw_cuts.specs.Registers.{IsMaskOf};
-ghost use Rattle.tmw_cuts.specs.Replaying.{Replays};
-ghost use Rattle.tmw_cuts.specs.Written.{writes, needs};
+ghost use Rattle.tmw_cuts.specs.Replays.{Replays};
+ghost use Rattle.tmw_cuts.specs.RegisterUse.{writes, needs};
 
 use crate::effect::Effect;
-use crate::kinds::status_after;
+use crate::operation_of::status_after;
 use crate::operations::Operations;
 use crate::states::State;
 use tmw_defs::{Op, Status};

@@ -3,8 +3,8 @@ ghost use Rattle.tmw_wellformed.specs.Faults.{lacks_register};
 ghost use Rattle.tmw_cuts.specs.Turns.{change};
 ghost use Rattle.tmw_cuts.specs.Views.{view, with_op, with_status};
 
-use crate::kinds::status_after;
 use crate::mark::Mark;
+use crate::operation_of::status_after;
 use crate::turn::{self, Move, Turn};
 use crate::txn::Txn;
 use tmw_defs::{Op, Status};
@@ -104,7 +104,7 @@ impl Window {
     ghost use Rattle.tmw_wellformed.specs.Faults.{Refuses};
     ghost use Rattle.tmw_wellformed.specs.Notes.{Notes};
     ghost use Rattle.tmw_cuts.specs.declared.turn.Move.TheVariants.{Answer, Ask, Begin, End};
-    ghost use Rattle.tmw_cuts.specs.Standing.{Follows, HasEnded, IsNext, Marks, StandsFor, begun_by, completed_of, count_of, turn_at, views, views_of};
+    ghost use Rattle.tmw_cuts.specs.StandsFor.{Follows, HasEnded, IsNext, Marks, StandsFor, begun_by, completed_of, count_of, turn_at, views, views_of};
 
     /// Makes the window of no event.
     pub fn open(registers: Registers) -> Window

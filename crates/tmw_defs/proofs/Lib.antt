@@ -1,12 +1,13 @@
 pub mod Along
 pub mod Apart
 pub mod Before
-pub mod CutLaws
-pub mod CutsProof
+pub mod Completions
 pub mod Criteria
 pub mod CriteriaLawProof
+pub mod CutLaws
+pub mod CutsProof
 pub mod DecisionProof
-pub mod Held
+mod Examples
 pub mod OneMore
 pub mod Places
 pub mod QuietLaws
@@ -18,6 +19,5 @@ pub mod StrictCuts
 pub mod StrictQuiet
 pub mod TextsProof
 pub mod VerdictProof
-pub mod WindowsProof
 pub mod Weaker
-mod Worked
+pub mod WindowsProof

@@ -4,7 +4,7 @@ use Rattle.tmw_defs.proofs.Along.{Pairs, Keeps, explains-along}
 use Rattle.tmw_defs.proofs.Apart.{explains_split}
 use Rattle.tmw_defs.proofs.Before.{is_before, explains-append, end_state-append}
 use Rattle.tmw_defs.proofs.CutsProof.{keeps-later, keeps-earlier, pairs-flip, behind, behind-later, comes_apart, transactions-cut}
-use Rattle.tmw_defs.proofs.Held.{held-append, held_split, held-along, is_before-held, all_held-along}
+use Rattle.tmw_defs.proofs.Completions.{held-append, held_split, held-along, is_before-held, all_held-along}
 use Rattle.tmw_defs.proofs.Places.{IsLater}
 
 pub strict_leads-append : (s m r : State) (ts us : List Txn) → IsTrue (is_before ts us) → LeadsBy Strict s ts m → LeadsBy Strict m us r

@@ -2,22 +2,22 @@
 //! opacity and to the verdict, and the laws about them.
 #![tactic(auto)]
 
-mod both_criteria;
 mod counts;
+mod criteria_law;
 mod criterion;
-mod cuts;
+mod cut_law;
 mod op;
-mod quiet;
+mod quiet_law;
 mod status;
-mod texts;
+mod texts_law;
 mod verdict;
 
-pub use both_criteria::law_criteria;
 pub use counts::Counts;
+pub use criteria_law::law_criteria;
 pub use criterion::{Asked, Criterion};
-pub use cuts::law_1;
+pub use cut_law::law_1;
 pub use op::Op;
-pub use quiet::law_2;
+pub use quiet_law::law_2;
 pub use status::Status;
-pub use texts::law_texts;
+pub use texts_law::law_texts;
 pub use verdict::{Verdict, Why};

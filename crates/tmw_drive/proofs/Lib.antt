@@ -1,7 +1,7 @@
-mod AllPlaying
+mod AllPlayers
 pub mod Drives
 mod Entries
-pub mod Going
+pub mod NextCall
 pub mod Players
 mod Positions
 mod Shared

@@ -10,16 +10,16 @@ pub use Rattle.tmw_defs.specs.Verdict.{IsVerdict, Rules}
 pub use Rattle.tmw_events.specs.declared.event.Event.{Event}
 pub use Rattle.tmw_events.specs.declared.event.Kind.{Kind}
 pub use Rattle.tmw_events.specs.declared.event.Kind.TheVariants.{A, C, K, N, R, T, V, W, X}
-pub use Rattle.tmw_runs.proofs.LeavingSteps.{beginning, leaves_aborted, leaves_all, leaves_answered, leaves_next, not_whole, whole_run}
-pub use Rattle.tmw_runs.proofs.StandingSteps.{so_far_all, so_far_answered, so_far_none}
+pub use Rattle.tmw_runs.proofs.Leaves.{beginning, leaves_aborted, leaves_all, leaves_answered, leaves_next, not_whole, whole_run}
+pub use Rattle.tmw_runs.proofs.Stands.{so_far_all, so_far_answered, so_far_none}
 pub use Rattle.tmw_runs.proofs.WellFormed.{kinds_of-append, no_kinds}
-pub use Rattle.tmw_runs.specs.Leaving.{Leaves}
+pub use Rattle.tmw_runs.specs.Leaves.{Leaves}
 pub use Rattle.tmw_runs.specs.Runs.{IsBeginning, IsWholeRun}
 pub use Rattle.tmw_runs.specs.Scripts.{are_transactions, is_operation, is_request, is_transaction, script_of, scripts_of}
-pub use Rattle.tmw_runs.specs.Standing.{AllStand, Stands, StandsSoFar}
+pub use Rattle.tmw_runs.specs.Stands.{AllStand, Stands, StandsSoFar}
 pub use Rattle.tmw_tm.specs.Answers.{Answer, Call}
 pub use Rattle.tmw_workloads.specs.Workload.{are_scripts, is_short_script, is_short_transaction, is_workload}
-pub use Rattle.tmw_drive.specs.Driving.{DoesEntry, Drives, EndsAs, IsDriven, script_at}
-pub use Rattle.tmw_drive.specs.Playing.{AllEnd, AllNew, AllPlay, BeginsNext, GoesOn, IsEnding, IsNew, MakesNext, Plays, calls_of, from_call, left_of, next_of}
+pub use Rattle.tmw_drive.specs.Drive.{DoesEntry, Drives, EndsAs, IsDriven, script_at}
+pub use Rattle.tmw_drive.specs.Player.{AllEnd, AllNew, AllPlay, BeginsNext, GoesOn, IsEnding, IsNew, MakesNext, Plays, calls_of, from_call, left_of, next_of}
 pub use Rattle.tmw_drive.specs.declared.ending.Ending.{Ending}
 pub use Rattle.tmw_drive.specs.declared.player.Player.{Player}

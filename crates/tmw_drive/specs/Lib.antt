@@ -1,3 +1,3 @@
-pub mod Driving
+pub mod Drive
 pub mod Fresh
-pub mod Playing
+pub mod Player

@@ -1,16 +1,16 @@
 //! One thread makes the calls of all scripts of a workload, in the workload's order, and what it records is judged.
 #![tactic(auto)]
 
-mod asking;
-mod driving;
+mod ask;
+mod drive_workload;
 mod ending;
 mod fault;
 mod outcome;
+mod play;
 mod player;
-mod playing;
 
-pub use asking::ends;
-pub use driving::drive;
+pub use ask::ends;
+pub use drive_workload::drive;
 pub use ending::Ending;
 pub use fault::DriveFault;
 pub use outcome::Outcome;

@@ -1,9 +1,9 @@
 ghost use Rattle.std.specs.Prelude.{◌≡◌, ◌==◌, ◌+◌, ◌<◌, ◌^◌, false, IsTrue, OnSome};
 ghost use Rattle.tmw_defs.specs.History.{answers, ends};
 ghost use Rattle.tmw_events.specs.declared.event.Kind.TheVariants.{A};
-ghost use Rattle.tmw_runs.specs.Standing.{Stands};
+ghost use Rattle.tmw_runs.specs.Stands.{Stands};
 
-use crate::asking::{ask, ends};
+use crate::ask::{ask, ends};
 use crate::ending::Ending;
 use tmw_events::{Ix, Kind};
 use tmw_tm::{Tm, Tx};
@@ -22,7 +22,7 @@ pub struct Player {
 
 impl Player {
     ghost use Rattle.tmw_drive.specs.Fresh.{IsFresh};
-    ghost use Rattle.tmw_drive.specs.Playing.{calls_of, left_of, next_of, GoesOn, IsEnding, IsNew};
+    ghost use Rattle.tmw_drive.specs.Player.{calls_of, left_of, next_of, GoesOn, IsEnding, IsNew};
 
     /// Returns a player of this thread that has made no call.
     pub fn new(thread: Ix) -> Player

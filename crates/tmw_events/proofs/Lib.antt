@@ -1,5 +1,5 @@
+pub mod EventWords
 pub mod KindTexts
 mod Numbers
-pub mod PackedWords
 pub mod Same
 pub mod Unpacks

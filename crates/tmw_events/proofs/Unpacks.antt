@@ -1,8 +1,8 @@
 -- The words of an event tell that event.
 use Rattle.std.proofs.Common.{◌≡◌, ◌+◌, ◌*◌, ◌/◌, ◌%◌, ◌<◌, ℕ, refl, sym, ap, ◌∙◌, arith, get_or}
 use Rattle.tmw_events.proofs.Same.{same_ix}
-use Rattle.tmw_events.specs.Packing.{packed_header, kind_code, kind_register, kind_value, pack}
-use Rattle.tmw_events.specs.Unpacking.{unpacked, ix_of, kinds}
+use Rattle.tmw_events.specs.EventWords.{packed_header, kind_code, kind_register, kind_value, pack}
+use Rattle.tmw_events.specs.EventOfWords.{unpacked, ix_of, kinds}
 use Rattle.tmw_events.specs.declared.event.Event.{Event}
 use Rattle.tmw_events.specs.declared.event.Kind.{Kind}
 use Rattle.tmw_events.specs.declared.event.Kind.TheVariants.{R, V, W, K, T, C, X, A, N}

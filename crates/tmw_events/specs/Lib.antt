@@ -1,3 +1,3 @@
-pub mod Packing
+pub mod EventOfWords
+pub mod EventWords
 pub mod Text
-pub mod Unpacking

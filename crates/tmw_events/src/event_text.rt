@@ -1,6 +1,6 @@
 ghost use Rattle.std.specs.Prelude.{◌≡◌};
 ghost use Rattle.tmw_events.specs.Text.{digit, kind_text, event_text};
-ghost use Rattle.tmw_streams.specs.Told.{Puts};
+ghost use Rattle.tmw_streams.specs.Transfers.{Puts};
 
 use crate::event::{Event, Kind};
 use crate::ix::Ix;

@@ -3,18 +3,18 @@
 
 mod event;
 mod event_text;
+mod event_words;
 mod ix;
 mod kind_line;
 mod number;
-mod packing;
 mod registers;
 
 pub use event::{Event, Kind};
 pub use event_text::{EventTexts, put_event};
+pub use event_words::{join, pack, split, unpack};
 pub use ix::Ix;
 pub use kind_line::{ix_of, kind_of};
 pub use number::number_of;
-pub use packing::{join, pack, split, unpack};
 pub use registers::Registers;
 pub use tmw_streams::{
     IoFault, MemorySink, MemorySource, Sink, Source, StdSink, StdSource, put_all,

@@ -19,7 +19,7 @@ use Rattle.tmw_handles.specs.contracts.held_recorder.HeldRecorder as HeldRecorde
 use Rattle.tmw_handles.proofs.held_recorder.HeldRecorder.TheLaws as held_recorder
 use Rattle.tmw_handles.specs.contracts.held_watch.HeldWatch as HeldWatch
 use Rattle.tmw_handles.proofs.held_watch.HeldWatch.TheLaws as held_watch
-use Rattle.tmw_handles.specs.contracts.parts.Parts as Parts
+use Rattle.tmw_handles.specs.contracts.box_parts.Parts as Parts
 use Rattle.tmw_handles.specs.contracts.recorder_slot.RecorderSlot as RecorderSlot
 use Rattle.tmw_handles.specs.contracts.watch_slot.WatchSlot as WatchSlot
 

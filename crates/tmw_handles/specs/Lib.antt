@@ -1,3 +1,3 @@
-pub mod Held
-pub mod Lending
+pub mod HandleContent
+pub mod SlotLoan
 pub mod Slots

@@ -1,5 +1,5 @@
 use tmw_ring::Writer;
-use tmw_watch::{Closing, Watch};
+use tmw_watch::{Leftover, Watch};
 
 /// What a watch's handle holds.
 #[derive(Drop)]
@@ -7,7 +7,7 @@ pub enum HeldWatch {
     /// A watch that is open.
     Open(Watch),
     /// What a watch has still to judge whose ring has ended, after a failed allocation.
-    Left(Closing),
+    Left(Leftover),
     /// A watch whose ring has an owner beside it and its recorders, which no call makes, with what the recorders
     /// recorded by.
     Shared(Watch, Vec<Writer>),

@@ -1,9 +1,9 @@
 //! Handles that a C program keeps: of a recorder, and of a watch.
 #![tactic(auto)]
 
+mod box_parts;
 mod held_recorder;
 mod held_watch;
-mod parts;
 mod recorder_handle;
 mod recorder_slot;
 mod watch_handle;

@@ -2,8 +2,8 @@ ghost use Rattle.std.specs.Prelude.{◌≡◌, ◌↔◌, Option, None, Some, Is
 ghost use Rattle.std.specs.Option.{ForSome};
 ghost use Rattle.tmw_watch.specs.WatchParts.{writer_of};
 
+use crate::box_parts::Parts;
 use crate::held_recorder::HeldRecorder;
-use crate::parts::Parts;
 use crate::recorder_slot::RecorderSlot;
 use std::alloc::Global;
 use std::mem;
@@ -23,7 +23,7 @@ pub struct RecorderHandle {
 }
 
 impl RecorderHandle {
-    ghost use Rattle.tmw_handles.specs.Held.{HasNumber, recorder_in};
+    ghost use Rattle.tmw_handles.specs.HandleContent.{HasNumber, recorder_in};
 
     /// Makes a handle that holds nothing.
     pub fn empty(alloc: Global) -> RecorderHandle

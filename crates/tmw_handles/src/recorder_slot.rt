@@ -2,8 +2,8 @@ ghost use Rattle.std.specs.Prelude.{◌≡◌, Option, None, Some, IsSome};
 ghost use Rattle.tmw_handles.specs.Slots.{recorder_coded, recorder_owned};
 ghost use Rattle.tmw_handles.specs.declared.held_recorder.HeldRecorder.{HeldRecorder};
 
+use crate::box_parts::{Parts, nowhere};
 use crate::held_recorder::HeldRecorder;
-use crate::parts::{Parts, nowhere};
 use std::alloc::Global;
 use std::marker::Model;
 
@@ -22,7 +22,7 @@ impl Model for RecorderSlot {
 
 impl RecorderSlot {
     ghost use Rattle.std.specs.Borrow.{sem};
-    ghost use Rattle.tmw_handles.specs.Lending.{lends_held};
+    ghost use Rattle.tmw_handles.specs.SlotLoan.{lends_held};
 
     /// Makes a slot of a pointer at which nothing is held.
     fn empty_at(at: *mut u8, alloc: Global) -> RecorderSlot

@@ -1,7 +1,7 @@
 ghost use Rattle.std.specs.Prelude.{◌≡◌, ◌↔◌, Option, None, Some, IsSome, IsTrue, IfSome, IfNone};
 
+use crate::box_parts::Parts;
 use crate::held_watch::HeldWatch;
-use crate::parts::Parts;
 use crate::watch_slot::WatchSlot;
 use std::alloc::Global;
 use std::mem;
@@ -16,7 +16,7 @@ pub struct WatchHandle {
 }
 
 impl WatchHandle {
-    ghost use Rattle.tmw_handles.specs.Held.{watch_in};
+    ghost use Rattle.tmw_handles.specs.HandleContent.{watch_in};
 
     /// Makes a handle that holds nothing.
     pub fn empty(alloc: Global) -> WatchHandle

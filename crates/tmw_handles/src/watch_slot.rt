@@ -2,8 +2,8 @@ ghost use Rattle.std.specs.Prelude.{◌≡◌, Option, None, Some, IsSome};
 ghost use Rattle.tmw_handles.specs.Slots.{watch_coded, watch_owned};
 ghost use Rattle.tmw_handles.specs.declared.held_watch.HeldWatch.{HeldWatch};
 
+use crate::box_parts::{Parts, nowhere};
 use crate::held_watch::HeldWatch;
-use crate::parts::{Parts, nowhere};
 use std::alloc::Global;
 use std::marker::Model;
 

@@ -1,9 +1,9 @@
 -- A run of `judge` that ends at no verdict and counts nothing answers by its reports alone.
-use Rattle.tmw_judge.proofs.Shared.{Answer, AnswersBy, AnswersTrace, Asked, Bounds, ByCriterion, Err, Event, FromSource, HasSummary, IsPut, JudgesBytes, JudgesWith, List, Ok, Option, Report, Result, Summary, ToSink, append-nil, counted_part, false, judged_lines, judged_status, plain, refl, report_lines, report_status, subst, summary_lines, told_verdicts, ℕ, ◌++◌, ◌∙◌, ◌≡◌, arith}
+use Rattle.tmw_judge.proofs.Shared.{JudgeResult, AnswersBy, AnswersTrace, Asked, Bounds, ByCriterion, Err, Event, FromSource, HasSummary, IsPut, JudgesBytes, JudgesWith, List, Ok, Option, Report, Result, Summary, ToSink, append-nil, counted_part, false, judged_lines, judged_status, plain, refl, report_lines, report_status, subst, summary_lines, told_verdicts, ℕ, ◌++◌, ◌∙◌, ◌≡◌, arith}
 use Rattle.tmw_report.specs.declared.fault.Fault.{Fault}
 use Rattle.tmw_report.specs.CommandRun.{answer_status, answer_text, failures_after_answer}
 
-abbrev reports_in : Result Answer Fault → Result (ByCriterion Report) Fault
+abbrev reports_in : Result JudgeResult Fault → Result (ByCriterion Report) Fault
 reports_in (Ok answer) = Ok answer.reports
 reports_in (Err fault) = Err fault
 
@@ -11,14 +11,14 @@ no_counts : (part : List Event) (summary : Option Summary) (lines : List ℕ) �
     → lines ++ summary_lines summary ≡ lines
 no_counts part summary lines is = grind (arith, append-nil)
 
-same_failures : (answer : Result Answer Fault) (count : ℕ) → failures_after_answer answer count ≡ failures_after_answer (reports_in answer) count
+same_failures : (answer : Result JudgeResult Fault) (count : ℕ) → failures_after_answer answer count ≡ failures_after_answer (reports_in answer) count
 same_failures answer count = grind arith
 
-same_status : (answer : Result Answer Fault) → answer_status judged_status answer ≡ answer_status report_status (reports_in answer)
+same_status : (answer : Result JudgeResult Fault) → answer_status judged_status answer ≡ answer_status report_status (reports_in answer)
 same_status answer = grind arith
 
 module _ (bounds : Bounds) (asked : Asked) (Ended : Type 0) (bytes : List ℕ) where
-  right : (answer : Result Answer Fault) → AnswersBy false false bounds asked Ended bytes answer
+  right : (answer : Result JudgeResult Fault) → AnswersBy false false bounds asked Ended bytes answer
       → AnswersTrace bounds asked Ended bytes (reports_in answer)
   right (Ok answer) is = (
     is.read.ended,
@@ -26,7 +26,7 @@ module _ (bounds : Bounds) (asked : Asked) (Ended : Type 0) (bytes : List ℕ) w
   )
   right (Err fault) is = is
 
-  same_text : (answer : Result Answer Fault) → AnswersBy false false bounds asked Ended bytes answer
+  same_text : (answer : Result JudgeResult Fault) → AnswersBy false false bounds asked Ended bytes answer
       → answer_text judged_lines answer ≡ answer_text report_lines (reports_in answer)
   same_text (Ok answer) is = no_counts (counted_part (told_verdicts answer.reports) is.history) answer.summary (report_lines answer.reports) is.counts
   same_text (Err fault) is = refl

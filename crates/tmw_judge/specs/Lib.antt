@@ -1,6 +1,6 @@
-pub mod Answering
+pub mod Answer
 pub mod ByCriterion
-pub mod Counted
-pub mod Feeding
-pub mod FeedingFirst
-pub mod Judging
+pub mod FeedEvents
+pub mod FeedFirst
+pub mod Judge
+pub mod Tally

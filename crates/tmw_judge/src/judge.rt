@@ -1,20 +1,20 @@
 ghost use Rattle.std.specs.Prelude.{◌≡◌, ℕ, List};
-ghost use Rattle.tmw_streams.specs.Told.{Tells};
+ghost use Rattle.tmw_streams.specs.Transfers.{Tells};
 ghost use Rattle.tmw_lines.specs.Lines.{IsNew};
 ghost use Rattle.tmw_lines.specs.TextFault.{reading_failures};
-ghost use Rattle.tmw_judge.specs.Answering.{Answers, AnswersBy};
-ghost use Rattle.tmw_judge.specs.Feeding.{AreFedAllRead, ReadsBeginning};
-ghost use Rattle.tmw_judge.specs.FeedingFirst.{AnswersFed, FeedsFor};
+ghost use Rattle.tmw_judge.specs.Answer.{Answers, AnswersBy};
+ghost use Rattle.tmw_judge.specs.FeedEvents.{AreFedAllRead, ReadsBeginning};
+ghost use Rattle.tmw_judge.specs.FeedFirst.{AnswersFed, FeedsFor};
 ghost use Rattle.tmw_report.specs.CommandRun.{failures_after_answer};
 ghost use Rattle.tmw_report.specs.Quote.{RemarksFault};
 
-use crate::answer::Answer;
-use crate::counting::{Counting, StrictUncounted, Uncounted};
-use crate::feeding::feed_events;
-use crate::feeding_first::feed_first;
+use crate::feed_events::feed_events;
+use crate::feed_first::feed_first;
+use crate::judge_result::JudgeResult;
 use crate::judges::Judges;
 use crate::monitors::{broken_of, monitors_for, reports_of};
 use crate::options::Options;
+use crate::tally::{NoTally, StrictNoTally, Tally};
 use std::alloc::Global;
 use tmw_counts::Counter;
 use tmw_defs::Asked;
@@ -34,7 +34,7 @@ pub fn judge<S: Source, E: Sink>(
     source: &mut S,
     errors: &mut E,
     options: Options,
-) -> Result<Answer, Fault>
+) -> Result<JudgeResult, Fault>
     ensures right { (bytes : List ℕ) × Tells S.from source.old bytes source.new
         × Answers options (S.from.ended source.new) bytes result
         × RemarksFault E.to bytes result errors.old errors.new }
@@ -44,19 +44,19 @@ pub fn judge<S: Source, E: Sink>(
     match (options.summary, options.asked) {
         (true, _) => judge_by::<S, E, Counter>(alloc, source, errors, options),
         (false, Asked::Strict) => {
-            judge_by::<S, E, StrictUncounted>(alloc, source, errors, options)
+            judge_by::<S, E, StrictNoTally>(alloc, source, errors, options)
         }
-        (false, _) => judge_by::<S, E, Uncounted>(alloc, source, errors, options),
+        (false, _) => judge_by::<S, E, NoTally>(alloc, source, errors, options),
     }
 }
 
 /// Judges a trace, and counts by `C` the events of the longest part that a verdict covers.
-fn judge_by<S: Source, E: Sink, C: Counting>(
+fn judge_by<S: Source, E: Sink, C: Tally>(
     alloc: Global,
     source: &mut S,
     errors: &mut E,
     options: Options,
-) -> Result<Answer, Fault>
+) -> Result<JudgeResult, Fault>
     ensures right { (bytes : List ℕ) × Tells S.from source.old bytes source.new
         × AnswersBy options.first C.counted options.bounds options.asked (S.from.ended source.new)
         bytes result
@@ -65,7 +65,7 @@ fn judge_by<S: Source, E: Sink, C: Counting>(
         (S.from.failures source.old) }
 {
     let judges = feed_judges::<S, E, C>(alloc, source, errors, options)?;
-    Ok(Answer {
+    Ok(JudgeResult {
         reports: reports_of(&judges.monitors),
         summary: judges.counting.summary(),
         broken: broken_of(&judges.monitors),
@@ -74,7 +74,7 @@ fn judge_by<S: Source, E: Sink, C: Counting>(
 
 /// Reads a trace, and feeds its events to the judges that are made for it. The sink for errors is told which line has a
 /// fault.
-fn feed_judges<S: Source, E: Sink, C: Counting>(
+fn feed_judges<S: Source, E: Sink, C: Tally>(
     alloc: Global,
     source: &mut S,
     errors: &mut E,
@@ -99,7 +99,7 @@ fn feed_judges<S: Source, E: Sink, C: Counting>(
 }
 
 /// Reads on, by `first` up to the event at which all verdicts are final, and else to the end.
-fn feed_for<S: Source, C: Counting>(
+fn feed_for<S: Source, C: Tally>(
     lines: &mut TraceLines,
     source: &mut S,
     judges: &mut Judges<C>,
@@ -120,7 +120,7 @@ fn feed_for<S: Source, C: Counting>(
 
 /// Reads a trace's first line, and makes the judges for its history. `Memory` follows a failed allocation for them:
 /// at most 4,096 bytes were read after that line.
-fn begin<S: Source, C: Counting>(
+fn begin<S: Source, C: Tally>(
     alloc: Global,
     lines: &mut TraceLines,
     source: &mut S,

@@ -2,20 +2,20 @@
 //! writes a report line for each.
 #![tactic(auto)]
 
-mod answer;
+mod answer_lines;
 mod by_criterion;
-mod counting;
-mod feeding;
-mod feeding_first;
+mod feed_events;
+mod feed_first;
 mod judge;
+mod judge_result;
+mod judge_run;
 mod judges;
-mod lines;
 mod monitors;
 mod options;
 mod report;
-mod run;
+mod tally;
 
 pub use by_criterion::ByCriterion;
+pub use judge_run::{run_judge, run_judge_with};
 pub use options::Options;
 pub use report::Report;
-pub use run::{run_judge, run_judge_with};

@@ -3,15 +3,15 @@ ghost use Rattle.std.specs.Prelude.{◌≡◌, ◌<◌, ◌^◌, List, [], ◌�
 ghost use Rattle.tmw_defs.specs.Verdict.{Rules};
 ghost use Rattle.tmw_defs.specs.declared.criterion.Asked.{Asked};
 ghost use Rattle.tmw_events.specs.declared.event.Event.{Event};
-ghost use Rattle.tmw_monitor.specs.Breaking.{TellsBroken};
-ghost use Rattle.tmw_monitor.specs.Fitting.{Fits};
+ghost use Rattle.tmw_monitor.specs.BrokenRule.{TellsBroken};
+ghost use Rattle.tmw_monitor.specs.Fits.{Fits};
 ghost use Rattle.tmw_monitor.specs.Monitor.{fed_of};
 ghost use Rattle.tmw_monitor.specs.declared.bounds.Bounds.{Bounds};
 ghost use Rattle.tmw_trace.specs.declared.header.Header.{Header};
 ghost use Rattle.tmw_judge.specs.ByCriterion.{Each};
-ghost use Rattle.tmw_judge.specs.Counted.{any_open, verdicts_of};
-ghost use Rattle.tmw_judge.specs.Feeding.{FeedsEach};
-ghost use Rattle.tmw_judge.specs.Judging.{AreFed, AreReports, IsReportOn, trace_rules};
+ghost use Rattle.tmw_judge.specs.Tally.{any_open, verdicts_of};
+ghost use Rattle.tmw_judge.specs.FeedEvents.{FeedsEach};
+ghost use Rattle.tmw_judge.specs.Judge.{AreFed, AreReports, IsReportOn, trace_rules};
 
 use crate::by_criterion::ByCriterion;
 use crate::report::Report;
@@ -19,7 +19,7 @@ use std::alloc::{AllocError, Global};
 use tmw_counts::is_open;
 use tmw_defs::{Asked, Criterion};
 use tmw_events::Event;
-use tmw_monitor::{Bounds, Broken, Monitor};
+use tmw_monitor::{Bounds, BrokenRule, Monitor};
 use tmw_trace::Header;
 
 /// Makes the monitors for the history of a trace with this header, before its first event.
@@ -124,7 +124,7 @@ pub fn reports_of(monitors: &ByCriterion<Monitor>) -> ByCriterion<Report>
 }
 
 /// Returns the first event that fits no run, if the monitors were fed one.
-pub fn broken_of(monitors: &ByCriterion<Monitor>) -> Option<Broken>
+pub fn broken_of(monitors: &ByCriterion<Monitor>) -> Option<BrokenRule>
     ensures { (header : Header) (bounds : Bounds) (asked : Asked) (history : List Event)
         → AreFed header bounds asked history monitors.now
         → TellsBroken header.registers.number history result }

@@ -1,5 +1,5 @@
 ghost use Rattle.std.specs.Prelude.{◌≡◌};
-ghost use Rattle.tmw_judge.specs.Answering.{plain};
+ghost use Rattle.tmw_judge.specs.Answer.{plain};
 
 use tmw_defs::Asked;
 use tmw_monitor::Bounds;

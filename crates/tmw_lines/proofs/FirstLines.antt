@@ -1,7 +1,7 @@
 -- The first line of a text: held whole, or longer than can be held.
 use Rattle.tmw_lines.proofs.Shared.{BadHeader, Cut, End, Err, Failed, Feed, FromSource, Grammar, HasBadHeader, Io, IsFree, IsNoHeader, List, Ok, Reads, ReadsHeader, Skips, Tells-more, ap, arith, drop, inl, inr, length, length-append, line, nil_from_length, refl, sym, take, ℕ, ◌++◌, ◌+◌, ◌<◌, ◌∙◌, ◌∷◌, ◌≡◌, ◌≤◌}
 use Rattle.tmw_lines.proofs.Fronts.{holds-long, holds-same}
-use Rattle.tmw_lines.proofs.HeldLines.{line-split, bytes-joined}
+use Rattle.tmw_lines.proofs.BufferLines.{line-split, bytes-joined}
 use Rattle.tmw_lines.proofs.LongLines.{long-bad}
 use Rattle.tmw_lines.proofs.Splits.{free-append}
 

@@ -1,11 +1,10 @@
-mod GivenLines
+mod BufferBytes
+pub mod BufferLines
 mod FirstLines
 pub mod Fronts
-mod HeldBytes
-pub mod HeldLines
-mod HeldGiven
-mod ItemsGiven
-mod ItemsHeld
+mod GiveHeld
+mod GiveItems
+mod GiveLines
 pub mod LinesRead
 mod LongLines
 mod NextLines
@@ -14,3 +13,4 @@ mod Shared
 pub mod Splits
 pub mod TextNames
 pub mod TextsRead
+mod VecTaker

@@ -1,9 +1,9 @@
 -- What a reader of lines has read, after one line more.
 use Rattle.tmw_lines.proofs.Shared.{All-push, AreLines, BadHeader, BadLine, Cut, FailsAtLine, FailsBehind, FailsHolding, Grammar, HasBegun, HasFailed, HasLineFault, HasRead, HasTextFault, Io, IsItemLine, IsNew, IsOver, IsReading, Lines, List, Memory, TextFault, TooLong, [], ap, append-nil, append_assoc, arith, bytes_of, flat_map-append, inr, items_text, length, length-append, length-take, line, lines_text, sym, ℕ, ◌++◌, ◌+◌, ◌<◌, ◌^◌, ◌∙◌, ◌∷◌, ◌≡◌, ◌≤◌}
-use Rattle.tmw_lines.specs.declared.held.Held.{Held}
-use Rattle.tmw_lines.specs.declared.lines.State.TheVariants.{Reading}
+use Rattle.tmw_lines.specs.declared.line_buffer.LineBuffer.{LineBuffer}
+use Rattle.tmw_lines.specs.declared.lines.ReaderState.TheVariants.{Reading}
 
-pub few-held : (held : Held) → length (bytes_of held) ≤ 4096
+pub few-held : (held : LineBuffer) → length (bytes_of held) ≤ 4096
 few-held held = simp length-take (omega (arith, held.within))
 
 -- a reader that has begun to read has neither ended nor failed

@@ -1,7 +1,7 @@
 -- One line of an item: held whole, or longer than can be held.
 use Rattle.tmw_lines.proofs.Shared.{BadLine, Cut, End, Err, Failed, Feed, FromSource, Grammar, Io, IsBadLine, IsFree, IsItemLine, IsNoItem, List, None, Ok, Reads, ReadsLine, Skips, Some, Tells, Tells-more, Tells-none, TooLong, [], ap, append-nil, arith, drop, length, length-append, nil_from_length, refl, sym, take, ℕ, ◌++◌, ◌+◌, ◌<◌, ◌^◌, ◌∙◌, ◌∷◌, ◌≡◌, ◌≤◌}
 use Rattle.tmw_lines.proofs.Fronts.{holds-long, holds-same}
-use Rattle.tmw_lines.proofs.HeldLines.{line-split, bytes-joined}
+use Rattle.tmw_lines.proofs.BufferLines.{line-split, bytes-joined}
 use Rattle.tmw_lines.proofs.LongLines.{long-bad}
 use Rattle.tmw_lines.proofs.Splits.{free-append}
 

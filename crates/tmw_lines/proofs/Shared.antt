@@ -6,21 +6,21 @@ pub use Rattle.std.proofs.lemmas.Grind.{flat_map-append}
 pub use Rattle.std.proofs.lemmas.List.{drop-drop, drop-set-lt, drop-take, drop_all, get_or-drop, length-take-le, nil_from_length, take-append-le, take_all, take_more, take_more_set, take_rest}
 pub use Rattle.std.proofs.lemmas.List.Elements.{All-append, All-push, recursion_from_All}
 pub use Rattle.std.specs.List.{AllByRecursion, position_or_len}
-pub use Rattle.tmw_streams.proofs.ToldBytes.{Tells-more, Tells-none}
+pub use Rattle.tmw_streams.proofs.Transfers.{Tells-more, Tells-none}
 pub use Rattle.tmw_streams.specs.Streams.{FromSource}
-pub use Rattle.tmw_streams.specs.Told.{Reads, Tells}
+pub use Rattle.tmw_streams.specs.Transfers.{Reads, Tells}
 pub use borrow.Rule.Slice.PartMut.{post_of, put_mid}
-pub use Rattle.tmw_lines.specs.Given.{AreFirst, GivesItems, LacksLast, ReadsHeld}
-pub use Rattle.tmw_lines.specs.GivenLines.{AreTaken, IsLastLacked}
+pub use Rattle.tmw_lines.specs.GiveFirst.{AreFirst, GivesItems, LacksLast, ReadsHeld}
+pub use Rattle.tmw_lines.specs.GiveLines.{AreTaken, IsLastLacked}
 pub use Rattle.tmw_lines.specs.Grammar.{AllFit, AreLines, Grammar, IsNaming, IsNoHeader, IsNoItem, items_text, lines_text}
-pub use Rattle.tmw_lines.specs.Held.{bytes_of}
-pub use Rattle.tmw_lines.specs.ItemsGiven.{AreGiven, GivesAll, ReadsToFault}
-pub use Rattle.tmw_lines.specs.ItemsRead.{AreReadFor, FailsBehind, FailsHolding, HasBegunToRead, ReadsItems}
-pub use Rattle.tmw_lines.specs.LineRead.{HasLineFault, IsItemLine, ReadsHeader, ReadsLine}
+pub use Rattle.tmw_lines.specs.LineBuffer.{bytes_of}
+pub use Rattle.tmw_lines.specs.GiveItems.{AreGiven, GivesAll, ReadsToFault}
+pub use Rattle.tmw_lines.specs.ReadItems.{AreReadFor, FailsBehind, FailsHolding, HasBegunToRead, ReadsItems}
+pub use Rattle.tmw_lines.specs.NextLine.{HasLineFault, IsItemLine, ReadsHeader, ReadsLine}
 pub use Rattle.tmw_lines.specs.Lines.{FailsAtLine, GivesEnd, GivesItem, HasFailed, HasRead, IsNew, IsOver, IsReading, unread}
 pub use Rattle.tmw_lines.specs.LongLine.{HasFeed, Skips}
-pub use Rattle.tmw_lines.specs.Parts.{IsFree, is_next}
-pub use Rattle.tmw_lines.specs.Piece.{IsSeen}
+pub use Rattle.tmw_lines.specs.FreeParts.{IsFree, is_next}
+pub use Rattle.tmw_lines.specs.LinePiece.{IsSeen}
 pub use Rattle.tmw_lines.specs.Text.{HoldsFront, behind_front, feed_at, front_of, line, line_at}
 pub use Rattle.tmw_lines.specs.TextFault.{BeginsWithBad, EndsSoon, HasBadHeader, HasBegun, HasFirstLineFault, HasTextFault, IsBadLine, failures_after}
 pub use Rattle.tmw_lines.specs.declared.lines.Lines.{Lines}

@@ -1,7 +1,7 @@
 -- The lines of a text: a header's line first, and then a line for each item.
 use Rattle.std.specs.Prelude.{◌≡◌, ℕ, ◌≤◌, ◌^◌, List, ◌++◌, length, All}
 use Rattle.std.specs.List.{flat_map}
-use Rattle.tmw_lines.specs.Parts.{IsFree}
+use Rattle.tmw_lines.specs.FreeParts.{IsFree}
 use Rattle.tmw_lines.specs.Text.{line}
 
 -- the texts of headers and items, without their line feeds, and which of them a text may have: the header tells the

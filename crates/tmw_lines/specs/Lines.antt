@@ -1,17 +1,17 @@
 -- What a reader of lines has read, and what each of its calls gives.
 use Rattle.std.specs.Prelude.{◌≡◌, ℕ, ◌≤◌, List, [], ◌∷◌, ◌++◌, length}
 use Rattle.tmw_lines.specs.Grammar.{Grammar, lines_text, AreLines}
-use Rattle.tmw_lines.specs.Held.{bytes_of}
-use Rattle.tmw_lines.specs.LineRead.{HasLineFault}
+use Rattle.tmw_lines.specs.LineBuffer.{bytes_of}
+use Rattle.tmw_lines.specs.NextLine.{HasLineFault}
 use Rattle.tmw_lines.specs.Text.{HoldsFront}
 use Rattle.tmw_lines.specs.TextFault.{HasTextFault}
 use Rattle.tmw_lines.specs.declared.lines.Lines.{Lines}
-use Rattle.tmw_lines.specs.declared.lines.State.{State}
-use Rattle.tmw_lines.specs.declared.lines.State.TheVariants.{New, Reading, Over, Failed}
+use Rattle.tmw_lines.specs.declared.lines.ReaderState.{ReaderState}
+use Rattle.tmw_lines.specs.declared.lines.ReaderState.TheVariants.{New, Reading, Over, Failed}
 use Rattle.tmw_lines.specs.declared.text_fault.TextFault.{TextFault}
 
 -- how far it has come
-abbrev pub state_of : {F : Type 0} → Lines F → State
+abbrev pub state_of : {F : Type 0} → Lines F → ReaderState
 state_of lines = lines.state
 
 -- the format by which it reads its items

@@ -1,19 +1,19 @@
 ghost use Rattle.std.specs.Prelude.{◌≡◌, ◌+◌, ◌∷◌, ◌++◌, take, drop, IfSome, IfNone};
-ghost use Rattle.tmw_lines.specs.Held.{bytes_of};
-ghost use Rattle.tmw_lines.specs.LineRead.{ReadsHeader};
+ghost use Rattle.tmw_lines.specs.LineBuffer.{bytes_of};
+ghost use Rattle.tmw_lines.specs.NextLine.{ReadsHeader};
 ghost use Rattle.tmw_lines.specs.Text.{line};
 ghost use Rattle.tmw_lines.specs.TextFault.{IsUnbroken, HasBadHeader, reading_failures};
 
-use crate::held::Held;
+use crate::line_buffer::LineBuffer;
 use crate::line_format::LineFormat;
+use crate::line_piece::{LinePiece, next_piece};
 use crate::long_line::{LineEnd, skip_line};
-use crate::piece::{Piece, next_piece};
 use crate::text_fault::TextFault;
 use tmw_streams::Source;
 
 /// Reads the first line of a text and returns its header, or its fault.
 pub fn first_line<F: LineFormat, S: Source>(
-    held: &mut Held,
+    held: &mut LineBuffer,
     source: &mut S,
 ) -> Result<F::Header, TextFault>
     ensures reads { ReadsHeader F.grammar S.from (S.from.ended source.new) source.old source.new
@@ -22,14 +22,14 @@ pub fn first_line<F: LineFormat, S: Source>(
         (S.from.failures source.old) }
 {
     match next_piece(held, source) {
-        Piece::Line(length) => match take_header::<F>(held, length) {
+        LinePiece::Line(length) => match take_header::<F>(held, length) {
             Some(header) => Ok(header),
             None => Err(TextFault::BadHeader),
         },
-        Piece::End if held.bytes().is_empty() => Err(TextFault::BadHeader),
-        Piece::End => Err(TextFault::Cut(1)),
-        Piece::Failed => Err(TextFault::Io),
-        Piece::Long => match skip_line(source) {
+        LinePiece::End if held.bytes().is_empty() => Err(TextFault::BadHeader),
+        LinePiece::End => Err(TextFault::Cut(1)),
+        LinePiece::Failed => Err(TextFault::Io),
+        LinePiece::Long => match skip_line(source) {
             LineEnd::Feed => Err(TextFault::BadHeader),
             LineEnd::End => Err(TextFault::Cut(1)),
             LineEnd::Failed => Err(TextFault::Io),
@@ -38,7 +38,7 @@ pub fn first_line<F: LineFormat, S: Source>(
 }
 
 /// Takes the line of so many bytes, with its line feed: its header, where it has one. Any other line stays held.
-fn take_header<F: LineFormat>(held: &mut Held, count: usize) -> Option<F::Header>
+fn take_header<F: LineFormat>(held: &mut LineBuffer, count: usize) -> Option<F::Header>
     requires free { IsUnbroken (take count (bytes_of held.old)) }
     requires feed { drop count (bytes_of held.old) ≡ 10 ∷ drop (count + 1) (bytes_of held.old) }
     ensures some { IfSome result

@@ -1,6 +1,6 @@
 ghost use Rattle.std.specs.Prelude.{◌≡◌, ◌≢◌, ◌≤◌, length, vec_capacity, IfErr, OnOk};
-ghost use Rattle.tmw_lines.specs.ItemsGiven.{GivesAll};
-ghost use Rattle.tmw_lines.specs.ItemsRead.{HasBegunToRead, ReadsItems};
+ghost use Rattle.tmw_lines.specs.GiveItems.{GivesAll};
+ghost use Rattle.tmw_lines.specs.ReadItems.{HasBegunToRead, ReadsItems};
 ghost use Rattle.tmw_lines.specs.Lines.{IsOver, HasFailed, items_given};
 ghost use Rattle.tmw_lines.specs.TextFault.{reading_failures};
 ghost use Rattle.tmw_lines.specs.declared.text_fault.TextFault.TheVariants.{Memory};

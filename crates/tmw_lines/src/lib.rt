@@ -2,29 +2,29 @@
 #![tactic(auto)]
 
 mod first_line;
-mod given;
-mod given_lines;
-mod held;
-mod holding;
+mod give_lines;
+mod give_result;
 mod items;
+mod line_buffer;
 mod line_format;
+mod line_length;
+mod line_piece;
 mod lines;
 mod long_line;
 mod next_line;
-mod piece;
-mod reader;
-mod splitting;
 mod taker;
 mod text_fault;
+mod vec_taker;
+mod whole_text;
 
-pub use given::Given;
-pub use held::Held;
+pub use give_result::GiveResult;
 pub use items::{give_items, read_items};
+pub use line_buffer::LineBuffer;
 pub use line_format::LineFormat;
+pub use line_length::length_before;
+pub use line_piece::{LinePiece, next_piece};
 pub use lines::Lines;
 pub use long_line::{LineEnd, skip_line};
-pub use piece::{Piece, next_piece};
-pub use reader::read_lines;
-pub use splitting::length_before;
 pub use taker::Taker;
 pub use text_fault::TextFault;
+pub use whole_text::read_lines;

@@ -1,8 +1,8 @@
 ghost use Rattle.std.specs.Prelude.{◌≡◌, ℕ, ◌<◌, ◌≤◌, ◌^◌, List, length, IfSome, IfNone};
-ghost use Rattle.tmw_lines.specs.Given.{IsGiven};
+ghost use Rattle.tmw_lines.specs.GiveFirst.{IsGiven};
 ghost use Rattle.tmw_lines.specs.Grammar.{Grammar, IsNaming, IsNoHeader, IsNoItem};
 
-use crate::given::Given;
+use crate::give_result::GiveResult;
 use crate::taker::Taker;
 
 /// What the lines of a text are: the first a header, and each other an item. A value is the format of the lines after
@@ -40,7 +40,7 @@ pub trait LineFormat: Copy {
     /// Gives the taker the item of this format whose line, with its line feed, these bytes begin with. A format that
     /// can read the line in one pass does so here. `Nothing` says nothing about the bytes: the reader then looks for
     /// the line's end and calls `item_of`.
-    fn give_first<T: Taker<Self::Item>>(self, bytes: &[u8], taker: &mut T) -> Given
+    fn give_first<T: Taker<Self::Item>>(self, bytes: &[u8], taker: &mut T) -> GiveResult
         requires { (count : ℕ) × (count < 2 ^ 40) × T.counts taker.old count }
         ensures { IsGiven grammar T.takes T.lacks T.counts self bytes.now taker.old taker.new
             result }
@@ -48,7 +48,7 @@ pub trait LineFormat: Copy {
         // A format that does nothing here uses neither.
         let _bytes = bytes;
         let _taker = &mut *taker;
-        Given::Nothing
+        GiveResult::Nothing
     }
 
     /// No text of a header or an item has a line feed, and each names what it is the text of.

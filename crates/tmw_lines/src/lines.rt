@@ -1,14 +1,14 @@
 ghost use Rattle.std.specs.Prelude.{◌≡◌, ℕ, ◌+◌, ◌<◌, ◌≤◌, ◌^◌, List, [], IfOk, IfErr, IfSome, IfNone, OnOk, OnErr, OnSome, Ok, Err, None};
 ghost use Rattle.tmw_lines.specs.TextFault.{HasFirstLineFault, failures_after, reading_failures};
 ghost use Rattle.tmw_lines.specs.declared.text_fault.TextFault.{TextFault};
-ghost use Rattle.tmw_streams.specs.Told.{Tells};
+ghost use Rattle.tmw_streams.specs.Transfers.{Tells};
 
 use crate::first_line::first_line;
-use crate::given_lines::give_lines;
-use crate::held::Held;
+use crate::give_lines::give_lines;
+use crate::line_buffer::LineBuffer;
 use crate::line_format::LineFormat;
+use crate::line_length::length_before;
 use crate::next_line::next_line;
-use crate::splitting::length_before;
 use crate::taker::Taker;
 use crate::text_fault::TextFault;
 use std::alloc::AllocError;
@@ -16,7 +16,7 @@ use tmw_streams::Source;
 
 /// How far a reader has come.
 #[derive(Clone, Copy)]
-pub enum State {
+pub enum ReaderState {
     /// Nothing was read: the header comes first.
     New,
     /// The header was given, and a line may follow.
@@ -32,15 +32,15 @@ pub enum State {
 /// reader allocates nothing, so `Memory` is not among its faults.
 #[derive(Drop)]
 pub struct Lines<F> {
-    held: Held,
+    held: LineBuffer,
     format: F,
     count: u64,
-    state: State,
+    state: ReaderState,
     ghost few: { count ≤ 2 ^ 40 },
 }
 
 impl<F: LineFormat> Lines<F> {
-    ghost use Rattle.tmw_lines.specs.Given.{GivesItems, LacksLast};
+    ghost use Rattle.tmw_lines.specs.GiveFirst.{GivesItems, LacksLast};
     ghost use Rattle.tmw_lines.specs.Text.{HoldsFront, front_of};
     ghost use Rattle.tmw_lines.specs.Lines.{IsNew, IsReading, IsOver, HasFailed, HasRead, format_by, items_given, unread, unread_bytes, GivesItem, GivesEnd, FailsAtLine, GivesFault};
 
@@ -49,10 +49,10 @@ impl<F: LineFormat> Lines<F> {
         ensures { IsNew result }
     {
         Lines {
-            held: Held::new(),
+            held: LineBuffer::new(),
             format: F::UNREAD,
             count: 0,
-            state: State::New,
+            state: ReaderState::New,
         }
     }
 
@@ -73,11 +73,11 @@ impl<F: LineFormat> Lines<F> {
         match first_line::<F, S>(&mut self.held, source) {
             Ok(header) => {
                 self.format = F::behind(&header);
-                self.state = State::Reading;
+                self.state = ReaderState::Reading;
                 Ok(header)
             }
             Err(fault) => {
-                self.state = State::Failed(fault);
+                self.state = ReaderState::Failed(fault);
                 Err(fault)
             }
         }
@@ -103,8 +103,8 @@ impl<F: LineFormat> Lines<F> {
             → (result ≡ Ok tt) × (self.new ≡ self.old) × (taker.new ≡ taker.old) }
     {
         match self.state {
-            State::Reading => {}
-            State::New | State::Over | State::Failed(_) => return Ok(()),
+            ReaderState::Reading => {}
+            ReaderState::New | ReaderState::Over | ReaderState::Failed(_) => return Ok(()),
         }
         let run = give_lines(self.format, self.held.bytes(), self.count, taker);
         self.held.consume(run.length);
@@ -141,13 +141,13 @@ impl<F: LineFormat> Lines<F> {
             → (result ≡ Err fault) × (source.new ≡ source.old) × (self.new ≡ self.old) }
     {
         match self.state {
-            State::Failed(fault) => return Err(fault),
-            State::Over => return Ok(None),
-            State::New => {
-                self.state = State::Over;
+            ReaderState::Failed(fault) => return Err(fault),
+            ReaderState::Over => return Ok(None),
+            ReaderState::New => {
+                self.state = ReaderState::Over;
                 return Ok(None);
             }
-            State::Reading => {}
+            ReaderState::Reading => {}
         }
         match next_line(&mut self.held, source, self.format, self.count) {
             Ok(Some(item)) => {
@@ -155,11 +155,11 @@ impl<F: LineFormat> Lines<F> {
                 Ok(Some(item))
             }
             Ok(None) => {
-                self.state = State::Over;
+                self.state = ReaderState::Over;
                 Ok(None)
             }
             Err(fault) => {
-                self.state = State::Failed(fault);
+                self.state = ReaderState::Failed(fault);
                 Err(fault)
             }
         }

@@ -1,8 +1,8 @@
 ghost use Rattle.std.specs.Prelude.{◌≡◌};
 ghost use Rattle.tmw_lines.specs.LongLine.{Skips, line_end_failures};
 
-use crate::held::Held;
-use crate::splitting::length_before;
+use crate::line_buffer::LineBuffer;
+use crate::line_length::length_before;
 use tmw_streams::Source;
 
 /// How a line ends.
@@ -22,7 +22,7 @@ pub fn skip_line<S: Source>(source: &mut S) -> LineEnd
     ensures failures { S.from.failures source.new ≡ line_end_failures result
         (S.from.failures source.old) }
 {
-    let mut rest = Held::new();
+    let mut rest = LineBuffer::new();
     'parts: loop {
         rest.clear();
         match rest.read(source) {

@@ -1,12 +1,12 @@
 ghost use Rattle.std.specs.Prelude.{◌≡◌, ◌<◌, ◌≤◌, ◌+◌, ◌^◌, ◌∷◌, None, length, take, drop, IfSome, IfNone, IfOk, OnSome};
-ghost use Rattle.tmw_lines.specs.Held.{bytes_of};
-ghost use Rattle.tmw_lines.specs.LineRead.{ReadsLine, IsItemLine};
+ghost use Rattle.tmw_lines.specs.LineBuffer.{bytes_of};
+ghost use Rattle.tmw_lines.specs.NextLine.{ReadsLine, IsItemLine};
 ghost use Rattle.tmw_lines.specs.TextFault.{IsUnbroken, IsBadLine, reading_failures};
 
-use crate::held::Held;
+use crate::line_buffer::LineBuffer;
 use crate::line_format::LineFormat;
+use crate::line_piece::{LinePiece, next_piece};
 use crate::long_line::{LineEnd, skip_line};
-use crate::piece::{Piece, next_piece};
 use crate::text_fault::TextFault;
 use tmw_streams::Source;
 
@@ -15,7 +15,7 @@ pub const MOST_ITEMS: u64 = 1 << 40;
 
 /// Reads the line after so many items' lines and returns its item, nothing at the source's end, or its fault.
 pub fn next_line<F: LineFormat, S: Source>(
-    held: &mut Held,
+    held: &mut LineBuffer,
     source: &mut S,
     format: F,
     count: u64,
@@ -34,14 +34,14 @@ pub fn next_line<F: LineFormat, S: Source>(
         return past_last(held, source, format);
     }
     match next_piece(held, source) {
-        Piece::Line(length) => match take_item(held, length, format) {
+        LinePiece::Line(length) => match take_item(held, length, format) {
             Some(item) => Ok(Some(item)),
             None => Err(TextFault::BadLine(count + 2)),
         },
-        Piece::End if held.bytes().is_empty() => Ok(None),
-        Piece::End => Err(TextFault::Cut(count + 2)),
-        Piece::Failed => Err(TextFault::Io),
-        Piece::Long => match skip_line(source) {
+        LinePiece::End if held.bytes().is_empty() => Ok(None),
+        LinePiece::End => Err(TextFault::Cut(count + 2)),
+        LinePiece::Failed => Err(TextFault::Io),
+        LinePiece::Long => match skip_line(source) {
             LineEnd::Feed => Err(TextFault::BadLine(count + 2)),
             LineEnd::End => Err(TextFault::Cut(count + 2)),
             LineEnd::Failed => Err(TextFault::Io),
@@ -51,7 +51,7 @@ pub fn next_line<F: LineFormat, S: Source>(
 
 /// Sees that nothing follows the greatest number of items' lines.
 fn past_last<F: LineFormat, S: Source>(
-    held: &mut Held,
+    held: &mut LineBuffer,
     source: &mut S,
     format: F,
 ) -> Result<Option<F::Item>, TextFault>
@@ -73,7 +73,7 @@ fn past_last<F: LineFormat, S: Source>(
 }
 
 /// Takes the line of so many bytes, with its line feed: its item, where it has one. Any other line stays held.
-fn take_item<F: LineFormat>(held: &mut Held, count: usize, format: F) -> Option<F::Item>
+fn take_item<F: LineFormat>(held: &mut LineBuffer, count: usize, format: F) -> Option<F::Item>
     requires free { IsUnbroken (take count (bytes_of held.old)) }
     requires feed { drop count (bytes_of held.old) ≡ 10 ∷ drop (count + 1) (bytes_of held.old) }
     ensures some { IfSome result

@@ -1,3 +1,3 @@
 pub mod Calls
 pub mod Registers
-pub mod Validated
+pub mod SequenceLock

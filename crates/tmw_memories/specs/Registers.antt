@@ -1,6 +1,6 @@
 -- The registers that a memory has.
 use Rattle.tmw_events.specs.declared.registers.Registers.{Registers}
-use Rattle.tmw_memories.specs.declared.gated.Gated.{Gated}
+use Rattle.tmw_memories.specs.declared.gate.Gated.{Gated}
 use Rattle.tmw_memories.specs.declared.norec.NoRec.{NoRec}
 
 abbrev pub norec_registers : NoRec → Registers

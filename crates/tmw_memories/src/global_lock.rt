@@ -1,9 +1,9 @@
 ghost use Rattle.std.specs.Prelude.{◌≡◌, false};
 ghost use Rattle.tmw_memories.specs.Registers.{gated_registers};
 
-use crate::gated::{Gate, Gated};
-use crate::transaction::TURNS;
-use crate::words::Words;
+use crate::gate::{Gate, Gated};
+use crate::register_words::Words;
+use crate::tx_calls::TURNS;
 use std::sync::atomic::{AtomicU64, Ordering};
 use tmw_events::Registers;
 

@@ -4,14 +4,14 @@
 //! proved: they are what is tested. Proved is that each call returns, and what it does to its transaction.
 #![tactic(auto)]
 
-mod gated;
+mod gate;
 mod global_lock;
 mod norec;
+mod register_words;
 mod torn;
-mod transaction;
-mod words;
+mod tx_calls;
 
-pub use gated::{Gate, Gated};
+pub use gate::{Gate, Gated};
 pub use global_lock::{GlobalLock, Lock};
 pub use norec::NoRec;
-pub use torn::{Open, Torn};
+pub use torn::{OpenGate, Torn};

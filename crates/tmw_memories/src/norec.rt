@@ -1,10 +1,10 @@
 ghost use Rattle.std.specs.Prelude.{◌≡◌, ◌%◌, IfSome};
 ghost use Rattle.tmw_memories.specs.Calls.{Adds, IsEnded, Writes};
 ghost use Rattle.tmw_memories.specs.Registers.{norec_registers};
-ghost use Rattle.tmw_memories.specs.Validated.{BeginsFree, CommitsOrAborts, ReadsAndKeeps};
+ghost use Rattle.tmw_memories.specs.SequenceLock.{BeginsFree, CommitsOrAborts, ReadsAndKeeps};
 
-use crate::transaction::{TURNS, append, begin, end, latest, may_use, write};
-use crate::words::Words;
+use crate::register_words::Words;
+use crate::tx_calls::{TURNS, append, begin, end, latest, may_use, write};
 use std::sync::atomic::{AtomicU64, Ordering};
 use tmw_events::{Ix, Registers};
 use tmw_tm::{Did, Entry, Got, Tm, Tx};

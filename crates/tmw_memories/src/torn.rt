@@ -1,32 +1,32 @@
 ghost use Rattle.std.specs.Prelude.{◌≡◌, true};
 ghost use Rattle.tmw_memories.specs.Registers.{gated_registers};
 
-use crate::gated::{Gate, Gated};
-use crate::words::Words;
+use crate::gate::{Gate, Gated};
+use crate::register_words::Words;
 use tmw_events::Registers;
 
 /// A memory that is faulty on purpose. It has no lock and compares nothing, so a transaction may read a register before
 /// another transaction commits and a second one after it.
-pub type Torn = Gated<Open>;
+pub type Torn = Gated<OpenGate>;
 
 /// An open gate: each transaction may pass.
 #[derive(Drop)]
-pub struct Open;
+pub struct OpenGate;
 
-impl Gated<Open> {
+impl Gated<OpenGate> {
     /// Makes a memory of so many registers, all 0. It allocates nothing.
     pub fn new(registers: Registers) -> Torn
         ensures { gated_registers result ≡ registers }
     {
         Gated {
             registers,
-            gate: Open,
+            gate: OpenGate,
             words: Words::zeros(),
         }
     }
 }
 
-impl Gate for Open {
+impl Gate for OpenGate {
     ghost is_open = { true };
 
     fn enter(&self) -> bool {

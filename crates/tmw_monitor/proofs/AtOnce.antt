@@ -1,11 +1,11 @@
 -- An event that is taken at once leaves the history fine: where it leads to no cut, and where the only transaction ends with it.
-use Rattle.tmw_monitor.proofs.Shared.{Begin, Closes, Contains, Criterion, End, EndsOf, Event, ExplainsWith, IsNext, IsTrue, Ix, Keeps, List, Move, None, Open, Outcome, Registers, Rules, StandsFor, State, States, StaysOpen, TellsWrong, Txn, Witness, Witnesses, [], ap, arith, asks, contains_here, drop, ends-by, false, grows, inl, inr, is_cut, is_end, is_quiet_by, is_well_formed, length, members, refl, state_of, subst, sym, transactions, true, uncut-next, views_of, ℕ, ◌++◌, ◌+◌, ◌<◌, ◌∙◌, ◌∷◌, ◌≡◌, ◌≤◌, ◌⊎◌}
+use Rattle.tmw_monitor.proofs.Shared.{Begin, Closes, Contains, Criterion, End, EndsOf, Event, ExplainsWith, HistoryDigest, IsNext, IsTrue, Ix, Keeps, List, Move, None, Outcome, Registers, Rules, StandsFor, State, States, StaysOpen, TellsWrong, Txn, Witness, Witnesses, [], ap, arith, asks, contains_here, drop, ends-by, false, grows, inl, inr, is_cut, is_end, is_quiet_by, is_well_formed, length, members, refl, state_of, subst, sym, transactions, true, uncut-next, views_of, ℕ, ◌++◌, ◌+◌, ◌<◌, ◌∙◌, ◌∷◌, ◌≡◌, ◌≤◌, ◌⊎◌}
 use Rattle.tmw_events.specs.declared.event.Kind.{Kind}
-use Rattle.tmw_search.proofs.ForcedEnds.{alone-end}
+use Rattle.tmw_search.proofs.OneEnd.{alone-end}
 use Rattle.tmw_search.proofs.WindowViews.{shows-views_of}
 use Rattle.tmw_witness.proofs.Path.{witness-ends}
-use Rattle.tmw_monitor.proofs.Opening.{formed_whole, narrow-push}
-use Rattle.tmw_monitor.proofs.Told.{follows-told}
+use Rattle.tmw_monitor.proofs.OpenWindow.{formed_whole, narrow-push}
+use Rattle.tmw_monitor.proofs.NextVerdict.{follows-told}
 
 -- a serial order that is known leads to an end state
 pub explained : (criterion : Criterion) (states : States) (events : List Event) (w : Witness) → IsTrue w.known
@@ -15,7 +15,7 @@ explained criterion states events w known witness =
     (witness-ends (witness known) (shows-views_of events))
 
 -- the event leads to no cut, and is quiet or has left an end state
-pub open-fine : (rules : Rules) (h : List Event) (e : Event) (old new : Open) (keeps : Keeps rules h old) (move : Move)
+pub open-fine : (rules : Rules) (h : List Event) (e : Event) (old new : HistoryDigest) (keeps : Keeps rules h old) (move : Move)
     → IsNext old.window e move → StandsFor new.window (drop keeps.cut h ++ e ∷ []) → new.window.registers ≡ old.window.registers
     → is_cut (drop keeps.cut h ++ e ∷ []) ≡ false
     → (move ≡ Begin → length (transactions (drop keeps.cut h)) < rules.window)
@@ -41,7 +41,7 @@ open-fine rules h e old new keeps move next stands same uncut room ends states w
     follows-told rules h e old keeps (length h + 1) rules.states quiet new Outcome refl refl formed number narrow refl (inl stays)
 
 -- the only transaction since the last cut, where there was one outcome, has ended
-pub last-fine : (rules : Rules) (h : List Event) (e : Event) (old new : Open) (keeps : Keeps rules h old) (p : Ix) (end : State)
+pub last-fine : (rules : Rules) (h : List Event) (e : Event) (old new : HistoryDigest) (keeps : Keeps rules h old) (p : Ix) (end : State)
     → IsNext old.window e (End p) → IsTrue (is_well_formed rules.registers (drop keeps.cut h ++ e ∷ []))
     → is_cut (drop keeps.cut h ++ e ∷ []) ≡ true → new.window.registers ≡ old.window.registers → 0 < rules.states
     → length (transactions (drop keeps.cut h)) ≡ 1 → length (members old.states) ≡ 1
@@ -71,7 +71,7 @@ last-fine rules h e old new keeps p end next formed_rest at_cut same some one on
     follows-told rules h e old keeps (length h + 1) rules.states quiet new Outcome refl refl formed number narrow refl (inr closes)
 
 -- another order of the same transactions is kept
-pub keeps-order : (rules : Rules) (h : List Event) (old : Open) (w : Witness) (keeps : Keeps rules h old)
+pub keeps-order : (rules : Rules) (h : List Event) (old : HistoryDigest) (w : Witness) (keeps : Keeps rules h old)
     → Witnesses (members old.states) (views_of (drop keeps.cut h)) w → Keeps rules h (record old { witness = w })
 keeps-order rules h old w keeps witness = record {
   cut = keeps.cut;
@@ -82,7 +82,7 @@ keeps-order rules h old w keeps witness = record {
 }
 
 -- an event that goes on and is explained leaves the history fine
-pub explained-fine : (rules : Rules) (h : List Event) (e : Event) (old new : Open) (keeps : Keeps rules h old) (move : Move)
+pub explained-fine : (rules : Rules) (h : List Event) (e : Event) (old new : HistoryDigest) (keeps : Keeps rules h old) (move : Move)
     → is_end move ≡ false → (move ≡ Begin → ⊥) → IsNext old.window e move → StandsFor new.window (drop keeps.cut h ++ e ∷ []) → new.window.registers ≡ old.window.registers
     → IsTrue old.witness.known → ExplainsWith old.witness old.window e move → members new.states ≡ members old.states
     → new.witness ≡ old.witness → TellsWrong rules (h ++ e ∷ []) new None

@@ -1,11 +1,11 @@
-mod Breaking
-mod Counting
-mod Feeding
+mod AtOnce
+mod FeedOpen
 pub mod Final
+mod FirstBroken
 mod Fresh
+mod NextVerdict
 mod OnlyOpen
-mod Opening
+mod OpenWindow
 mod Shared
 mod SoFar
-mod Told
-mod AtOnce
+mod StateCount

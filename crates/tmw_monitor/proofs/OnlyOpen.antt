@@ -1,10 +1,10 @@
 -- A monitor keeps of each history that fits it the open window and the outcomes before it alone.
-use Rattle.tmw_monitor.proofs.Shared.{Event, Fits, Keeps, List, Monitor, Open, Rules, cases_lt, inl, inr, length, members, outcomes_by, take, ◌≤◌}
-use Rattle.tmw_monitor.specs.Holding.{AreLastOutcomes, HoldsOpen, KeepsOnlyOpen}
-use Rattle.tmw_monitor.proofs.Counting.{more_than-rising}
+use Rattle.tmw_monitor.proofs.Shared.{Event, Fits, HistoryDigest, Keeps, List, Monitor, Rules, cases_lt, inl, inr, length, members, outcomes_by, take, ◌≤◌}
+use Rattle.tmw_monitor.specs.HoldsOpen.{AreLastOutcomes, HoldsOpen, KeepsOnlyOpen}
+use Rattle.tmw_monitor.proofs.StateCount.{more_than-rising}
 
 -- a history in which nothing is wrong has no more outcomes at its last cut than the bound
-few_outcomes : (rules : Rules) (history : List Event) (kept : Open) → Keeps rules history kept → length (members kept.states) ≤ rules.states
+few_outcomes : (rules : Rules) (history : List Event) (kept : HistoryDigest) → Keeps rules history kept → length (members kept.states) ≤ rules.states
 few_outcomes rules history kept keeps =
     let sums = keeps.sums_up in
     elim (cases_lt rules.states (length (members kept.states))) [
@@ -15,7 +15,7 @@ few_outcomes rules history kept keeps =
       | inr few ↦ few
     ]
 
-holds_open : (rules : Rules) (history : List Event) (kept : Open) → Keeps rules history kept → HoldsOpen rules history kept
+holds_open : (rules : Rules) (history : List Event) (kept : HistoryDigest) → Keeps rules history kept → HoldsOpen rules history kept
 holds_open rules history kept keeps = record {
   cut = keeps.cut;
   last = keeps.sums_up.last;
@@ -33,7 +33,7 @@ keeps_only_open rules history monitor fits = record {
 }
 
 -- what it keeps of them are the outcomes at the last cut
-pub last_outcomes : (rules : Rules) (history : List Event) (kept : Open) → Keeps rules history kept
+pub last_outcomes : (rules : Rules) (history : List Event) (kept : HistoryDigest) → Keeps rules history kept
     → AreLastOutcomes rules history (members kept.states)
 last_outcomes rules history kept keeps = record {
   cut = keeps.cut;

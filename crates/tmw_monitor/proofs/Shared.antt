@@ -6,9 +6,9 @@ pub use Rattle.std.proofs.lemmas.Result.{IfOk-weaker, err_from_is_err_and}
 pub use Rattle.std.specs.List.{Contains}
 pub use Rattle.std.specs.Prelude.{is_some, remove, slice_get}
 pub use Rattle.tmw_cuts.proofs.FirstMembers.{contains_here}
-pub use Rattle.tmw_cuts.proofs.Standings.{formed-next, found-begun, grows, length-views_of, uncut-next}
+pub use Rattle.tmw_cuts.proofs.OneEventMore.{formed-next, found-begun, grows, length-views_of, uncut-next}
 pub use Rattle.tmw_cuts.specs.Members.{members}
-pub use Rattle.tmw_cuts.specs.Standing.{Follows, IsNext, StandsFor, begun_by, is_end, views_of}
+pub use Rattle.tmw_cuts.specs.StandsFor.{Follows, IsNext, StandsFor, begun_by, is_end, views_of}
 pub use Rattle.tmw_cuts.specs.declared.states.States.{States}
 pub use Rattle.tmw_cuts.specs.declared.turn.Move.{Move}
 pub use Rattle.tmw_cuts.specs.declared.turn.Move.TheVariants.{Answer, Ask, Begin, End}
@@ -29,15 +29,15 @@ pub use Rattle.tmw_defs.specs.declared.verdict.Verdict.TheVariants.{Malformed, O
 pub use Rattle.tmw_events.specs.declared.event.Event.{Event}
 pub use Rattle.tmw_events.specs.declared.ix.Ix.{Ix}
 pub use Rattle.tmw_events.specs.declared.registers.Registers.{Registers}
-pub use Rattle.tmw_search.specs.Ended.{EndsOf, HasMoreThan}
+pub use Rattle.tmw_search.specs.EndStates.{EndsOf, HasMoreThan}
 pub use Rattle.tmw_wellformed.specs.Faults.{Refuses, asks}
-pub use Rattle.tmw_witness.specs.Witnessing.{ExplainsWith, Witnesses, committed_of, rank_of, state_of}
+pub use Rattle.tmw_witness.specs.Witness.{ExplainsWith, Witnesses, committed_of, rank_of, state_of}
 pub use Rattle.tmw_witness.specs.declared.witness.Witness.{Witness}
 pub use Rattle.tmw_monitor.specs.AtOnce.{StaysKept}
-pub use Rattle.tmw_monitor.specs.Breaking.{IsBrokenAt, TellsBroken, TellsFollowed}
-pub use Rattle.tmw_monitor.specs.Fitting.{Fits, Keeps, KeepsNothing, TellsWrong, rules_for}
-pub use Rattle.tmw_monitor.specs.Weighing.{Closes, StaysOpen, Tells, wrong_of}
-pub use Rattle.tmw_monitor.specs.declared.broken.Broken.{Broken}
+pub use Rattle.tmw_monitor.specs.BrokenRule.{IsBrokenAt, TellsBroken, TellsFollowed}
+pub use Rattle.tmw_monitor.specs.Fits.{Fits, Keeps, KeepsNothing, TellsWrong, rules_for}
+pub use Rattle.tmw_monitor.specs.OutcomeCheck.{Closes, StaysOpen, Tells, wrong_of}
+pub use Rattle.tmw_monitor.specs.declared.broken_rule.BrokenRule.{BrokenRule}
 pub use Rattle.tmw_monitor.specs.declared.monitor.Monitor.{Monitor}
-pub use Rattle.tmw_monitor.specs.declared.open.Open.{Open}
-pub use Rattle.tmw_monitor.specs.declared.weighed.Weighed.TheVariants.{NoOutcome, Outcome, TooMany}
+pub use Rattle.tmw_monitor.specs.declared.history_digest.HistoryDigest.{HistoryDigest}
+pub use Rattle.tmw_monitor.specs.declared.outcome_check.OutcomeCheck.TheVariants.{NoOutcome, Outcome, TooMany}

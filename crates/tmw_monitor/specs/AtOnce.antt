@@ -4,15 +4,15 @@ use Rattle.tmw_events.specs.declared.event.Event.{Event}
 use Rattle.tmw_defs.specs.declared.criterion.Criterion.{Criterion}
 use Rattle.tmw_defs.specs.Verdict.{Rules}
 use Rattle.tmw_monitor.specs.declared.bounds.Bounds.{Bounds}
-use Rattle.tmw_monitor.specs.declared.open.Open.{Open}
-use Rattle.tmw_monitor.specs.Fitting.{Keeps, TellsWrong}
+use Rattle.tmw_monitor.specs.declared.history_digest.HistoryDigest.{HistoryDigest}
+use Rattle.tmw_monitor.specs.Fits.{Keeps, TellsWrong}
 
 -- Whatever history the one is kept of, by this criterion and within these bounds: nothing is wrong with the event either, and the
 -- other is what is kept with it.
-abbrev pub StaysFine : Criterion → Bounds → Event → Open → Open → Type 0
+abbrev pub StaysFine : Criterion → Bounds → Event → HistoryDigest → HistoryDigest → Type 0
 StaysFine criterion bounds event old new = (rules : Rules) (history : List Event) → criterion ≡ rules.criterion → bounds.window ≡ rules.window
     → bounds.states ≡ rules.states → Keeps rules history old → TellsWrong rules (history ++ event ∷ []) new None
 
 -- Whatever history the one is kept of, the other is too.
-abbrev pub StaysKept : Open → Open → Type 0
+abbrev pub StaysKept : HistoryDigest → HistoryDigest → Type 0
 StaysKept old new = (rules : Rules) (history : List Event) → Keeps rules history old → Keeps rules history new

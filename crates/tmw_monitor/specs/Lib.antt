@@ -1,7 +1,7 @@
-pub mod BadBounds
-pub mod Breaking
-pub mod Monitor
-pub mod Fitting
-pub mod Holding
-pub mod Weighing
 pub mod AtOnce
+pub mod BadBounds
+pub mod BrokenRule
+pub mod Fits
+pub mod HoldsOpen
+pub mod Monitor
+pub mod OutcomeCheck

@@ -4,9 +4,9 @@ use Rattle.tmw_defs.specs.Criteria.{so_far}
 use Rattle.tmw_defs.specs.declared.criterion.Criterion.{Criterion}
 use Rattle.tmw_defs.specs.declared.verdict.Verdict.{Verdict}
 use Rattle.tmw_monitor.specs.declared.bounds.Bounds.{Bounds}
-use Rattle.tmw_monitor.specs.declared.broken.Broken.{Broken}
+use Rattle.tmw_monitor.specs.declared.broken_rule.BrokenRule.{BrokenRule}
 use Rattle.tmw_monitor.specs.declared.monitor.Monitor.{Monitor}
-use Rattle.tmw_monitor.specs.declared.open.Open.{Open}
+use Rattle.tmw_monitor.specs.declared.history_digest.HistoryDigest.{HistoryDigest}
 
 -- what it judges by
 abbrev pub criterion_of : Monitor → Criterion
@@ -25,11 +25,11 @@ abbrev pub verdict_of : Monitor → Verdict
 verdict_of monitor = monitor.verdict
 
 -- what it keeps of them
-abbrev pub kept_of : Monitor → Open
+abbrev pub kept_of : Monitor → HistoryDigest
 kept_of monitor = monitor.kept
 
 -- the first event that fits no run
-abbrev pub broken_of : Monitor → Option Broken
+abbrev pub broken_of : Monitor → Option BrokenRule
 broken_of monitor = monitor.broken
 
 -- Nothing is wrong with the events that it was fed.

@@ -3,13 +3,13 @@ ghost use Rattle.std.specs.Prelude.{◌≡◌, IsTrue, IsFalse};
 ghost use Rattle.tmw_defs.specs.declared.criterion.Criterion.{Criterion};
 ghost use Rattle.tmw_events.specs.declared.event.Kind.TheVariants.{V};
 ghost use Rattle.tmw_defs.specs.declared.op.Op.TheVariants.{Add};
-ghost use Rattle.tmw_cuts.specs.Standing.{IsNext};
+ghost use Rattle.tmw_cuts.specs.StandsFor.{IsNext};
 ghost use Rattle.tmw_cuts.specs.declared.turn.Move.TheVariants.{Answer, Begin, End};
 ghost use Rattle.tmw_monitor.specs.declared.bounds.Bounds.{Bounds};
 ghost use Rattle.tmw_monitor.specs.AtOnce.{StaysFine, StaysKept};
 
 use crate::bounds::Bounds;
-use crate::open::Open;
+use crate::history_digest::HistoryDigest;
 use tmw_cuts::Move;
 use tmw_defs::Op;
 use tmw_events::{Event, Ix, Kind};
@@ -18,7 +18,7 @@ use tmw_events::{Event, Ix, Kind};
 /// criterion is anything wrong with it then. At a cut it has to end the only transaction, from the only outcome before. Else it returns
 /// `false`, and what is kept is of the history without it. It is inlined into the reading of each kind of line.
 #[inline(always)]
-pub fn take_at_once(kept: &mut Open, bounds: &Bounds, event: Event) -> bool
+pub fn take_at_once(kept: &mut HistoryDigest, bounds: &Bounds, event: Event) -> bool
     ensures taken { IsTrue result → (criterion : Criterion)
         → StaysFine criterion bounds.now event kept.old kept.new }
     ensures left { IsFalse result → StaysKept kept.old kept.new }
@@ -44,7 +44,7 @@ pub fn take_at_once(kept: &mut Open, bounds: &Bounds, event: Event) -> bool
 
 /// Takes at once an event that begins a transaction, if the window has room.
 #[inline(always)]
-fn begin_at_once(kept: &mut Open, bounds: &Bounds, event: Event) -> bool
+fn begin_at_once(kept: &mut HistoryDigest, bounds: &Bounds, event: Event) -> bool
     requires next { IsNext kept.old.window event Begin }
     ensures taken { IsTrue result → (criterion : Criterion)
         → StaysFine criterion bounds.now event kept.old kept.new }
@@ -60,7 +60,7 @@ fn begin_at_once(kept: &mut Open, bounds: &Bounds, event: Event) -> bool
 
 /// Takes at once an answer, which makes this operation, if the serial order that is kept explains it.
 #[inline(always)]
-fn answer_at_once(kept: &mut Open, event: Event, place: Ix, op: Op) -> bool
+fn answer_at_once(kept: &mut HistoryDigest, event: Event, place: Ix, op: Op) -> bool
     requires next { IsNext kept.old.window event (Answer place op) }
     ensures taken { IsTrue result → (criterion : Criterion) (bounds : Bounds)
         → StaysFine criterion bounds event kept.old kept.new }
@@ -77,7 +77,7 @@ fn answer_at_once(kept: &mut Open, event: Event, place: Ix, op: Op) -> bool
 /// the event is no value in memory.
 #[inline(never)]
 fn add_at_once(
-    kept: &mut Open,
+    kept: &mut HistoryDigest,
     thread: Ix,
     place: Ix,
     register: Ix,
@@ -100,7 +100,7 @@ fn add_at_once(
 /// Takes at once an event that ends a transaction, if the serial order that is kept explains it. Where it ends the only one, from the
 /// only outcome before it, the order leads to the only outcome.
 #[inline(always)]
-fn end_at_once(kept: &mut Open, event: Event, place: Ix) -> bool
+fn end_at_once(kept: &mut HistoryDigest, event: Event, place: Ix) -> bool
     requires next { IsNext kept.old.window event (End place) }
     ensures taken { IsTrue result → (criterion : Criterion) (bounds : Bounds)
         → StaysFine criterion bounds event kept.old kept.new }

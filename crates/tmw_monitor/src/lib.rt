@@ -3,19 +3,19 @@
 
 mod at_once;
 mod bounds;
-mod broken;
-mod judging;
+mod broken_rule;
+mod history_digest;
+mod is_quiet;
+mod is_so_far;
+mod judge_whole;
 mod monitor;
-mod next;
-mod open;
-mod quiet;
-mod so_far;
-mod taken;
-mod weigh;
-mod weighed;
+mod next_wrong;
+mod outcome_check;
+mod search_or_close;
+mod take;
 
 pub use bounds::{BadBounds, Bounds};
-pub use broken::Broken;
-pub use judging::{judge, judge_for, judge_from};
+pub use broken_rule::BrokenRule;
+pub use judge_whole::{judge, judge_for, judge_from};
 pub use monitor::Monitor;
 pub use tmw_defs::{Criterion, Verdict, Why};

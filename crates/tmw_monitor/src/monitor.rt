@@ -8,10 +8,10 @@ ghost use Rattle.tmw_defs.specs.Verdict.{Rules, IsVerdict};
 
 use crate::at_once::take_at_once;
 use crate::bounds::Bounds;
-use crate::broken::{Broken, follow};
-use crate::next::next_wrong;
-use crate::open::Open;
-use crate::so_far::is_so_far;
+use crate::broken_rule::{BrokenRule, follow};
+use crate::history_digest::HistoryDigest;
+use crate::is_so_far::is_so_far;
+use crate::next_wrong::next_wrong;
 use std::alloc::{AllocError, Global};
 use tmw_cuts::{State, States, Window};
 use tmw_defs::{Criterion, Verdict};
@@ -28,15 +28,15 @@ pub struct Monitor {
     bounds: Bounds,
     count: u64,
     verdict: Verdict,
-    kept: Open,
+    kept: HistoryDigest,
     /// The first event that fits no run. Until one comes, the window follows each event, after a final verdict too.
-    broken: Option<Broken>,
+    broken: Option<BrokenRule>,
 }
 
 impl Monitor {
-    ghost use Rattle.tmw_monitor.specs.Breaking.{TellsBroken};
-    ghost use Rattle.tmw_monitor.specs.Fitting.{FeedsOne, Fits, StaysFit, rules_for, rules_of};
-    ghost use Rattle.tmw_monitor.specs.Holding.{AreLastOutcomes, HoldsStill, HoldsWith, KeepsOnlyOpen};
+    ghost use Rattle.tmw_monitor.specs.BrokenRule.{TellsBroken};
+    ghost use Rattle.tmw_monitor.specs.Fits.{FeedsOne, Fits, StaysFit, rules_for, rules_of};
+    ghost use Rattle.tmw_monitor.specs.HoldsOpen.{AreLastOutcomes, HoldsStill, HoldsWith, KeepsOnlyOpen};
     ghost use Rattle.tmw_monitor.specs.Monitor.{IsOpen, criterion_of, fed_of, verdict_of};
 
     /// Makes a monitor that judges by opacity a run whose registers all begin at 0, before its first event.
@@ -87,7 +87,7 @@ impl Monitor {
             bounds,
             count: 0,
             verdict: criterion.so_far(),
-            kept: Open {
+            kept: HistoryDigest {
                 states,
                 window: Window::open(registers),
                 witness: Witness::new(start),
@@ -213,7 +213,7 @@ impl Monitor {
     }
 
     /// Returns the first event that fits no run, if one was taken: also after a final verdict.
-    pub fn broken(&self) -> Option<Broken>
+    pub fn broken(&self) -> Option<BrokenRule>
         ensures { (rules : Rules) (history : List Event) → Fits rules history self.now
             → TellsBroken rules.registers history result }
     {

@@ -1,5 +1,5 @@
 -- What is kept of a window: all of it at first, and less without a piece.
-use Rattle.tmw_part.specs.Kept.{without}
+use Rattle.tmw_part.specs.Marks.{without}
 use Rattle.tmw_part.proofs.Shared.{Bool, Event, List, Piece, [], all_kept, ap, arith, cases_Bool, false, inl, inr, is_of_any, kept_of, length, not, refl, sym, true, without_from, ◌&&◌, ℕ, ◌+◌, ◌<◌, ◌∙◌, ◌∷◌, ◌≡◌, ◌⊎◌}
 use Rattle.std.specs.Cmp.Lexicographic.{pointwise}
 use Rattle.std.proofs.Math.Bool.{beq}

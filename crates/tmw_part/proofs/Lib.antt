@@ -1,13 +1,13 @@
-mod Adding
-mod Closing
+mod ClosureSteps
 mod EventsProof
 pub mod Fewer
-mod Growing
 mod ListFacts
+mod MoreEvents
 mod OrderFacts
 mod OrderValues
 mod Parts
 mod Shared
 mod StepsProof
 mod TestProof
+mod Transactions
 mod Violation

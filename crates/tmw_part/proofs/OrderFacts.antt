@@ -1,7 +1,7 @@
 -- What holds of the transactions that a serial order places.
 use Rattle.tmw_part.proofs.Shared.{Bool, Committed, Criterion, ExplainsBy, IsTrue, List, Opacity, Placed, PlacesEach, Some, State, Strict, Txn, [], and_from, and_parts, ap, arith, begin_apart, cases_Bool, eq-eqb, eqb-true, false, inl, inr, is_legal, keeps_order, list_all, may_be, may_hold, not, not-true, precedes, refl, remove, slice_get, status_of, suc, sym, zero, ℕ, ◌<◌, ◌==◌, ◌∙◌, ◌∷◌, ◌≡◌, ◌⊎◌}
 use Rattle.tmw_defs.specs.Strict.{AreHeld}
-use Rattle.tmw_defs.proofs.Held.{list_all-held}
+use Rattle.tmw_defs.proofs.Completions.{list_all-held}
 use Rattle.tmw_defs.proofs.Removals.{list_all-remove}
 
 -- what holds of each holds of the one at a place

@@ -1,9 +1,9 @@
 -- Steps that follow from those before them hold in each serial order, and contradict each other in none.
-use Rattle.tmw_part.proofs.Shared.{All, All-contains, All-from_recursion, AllByRecursion, Bool, Changes, ComesFrom, Committed, Contains, Criterion, Derives, ExplainsBy, HoldsIn, IsTrue, List, None, Opacity, Option, Placed, ReasonLaw, Some, StandsAt, StandsBefore, StandsBeforeWriter, State, Status, Step, Strict, Txn, [], and_from, and_parts, ap, arith, begin_apart, begins_before, cases_Bool, cases_order, comes_not_else, contradicts, ends_before, eq-eqb, eqb-true, false, follows, from_else, gives, has_place, has_writer, inl, inr, is_asked, is_before, is_committed, is_excluded, is_held, is_known_rival, is_pair, is_rival, is_same_writer, is_some_of, left_by, length, list_all, list_any, ltb-true, may_come_from, may_hold, needs, not, not-true, nothing, operations, ops_at, or_cases, orders, range_with_len, refl, slice_get, slice_index, status_of, subst, suc, supplies, sym, take, take_all, true, txn_at, writes, zero, ℕ, ◌&&◌, ◌+◌, ◌<◌, ◌==◌, ◌||◌, ◌∙◌, ◌∷◌, ◌≡◌, ◌≤◌}
-use Rattle.tmw_part.specs.declared.step.Step.TheVariants.{ChangedFirst, From, ReadFirst, RealTime, Through}
-use Rattle.tmw_part.specs.declared.step.Contradiction.{Contradiction}
-use Rattle.tmw_part.specs.declared.step.Contradiction.TheVariants.{Cycle, NoSource, Unlike}
-use Rattle.tmw_part.specs.declared.step.Source.{Source}
+use Rattle.tmw_part.proofs.Shared.{All, All-contains, All-from_recursion, AllByRecursion, Bool, Changes, ComesFrom, Committed, Contains, Criterion, Derives, ExplainsBy, HoldsIn, IsTrue, List, None, Opacity, Option, Placed, ReasonLaw, ReasonStep, Some, StandsAt, StandsBefore, StandsBeforeWriter, State, Status, Strict, Txn, [], and_from, and_parts, ap, arith, begin_apart, begins_before, cases_Bool, cases_order, comes_not_else, contradicts, ends_before, eq-eqb, eqb-true, false, follows, from_else, gives, has_place, has_writer, inl, inr, is_asked, is_before, is_committed, is_excluded, is_held, is_known_rival, is_pair, is_rival, is_same_writer, is_some_of, left_by, length, list_all, list_any, ltb-true, may_come_from, may_hold, needs, not, not-true, nothing, operations, ops_at, or_cases, orders, range_with_len, refl, slice_get, slice_index, status_of, subst, suc, supplies, sym, take, take_all, true, txn_at, writes, zero, ℕ, ◌&&◌, ◌+◌, ◌<◌, ◌==◌, ◌||◌, ◌∙◌, ◌∷◌, ◌≡◌, ◌≤◌}
+use Rattle.tmw_part.specs.declared.reason_step.ReasonStep.TheVariants.{ChangedFirst, From, ReadFirst, RealTime, Through}
+use Rattle.tmw_part.specs.declared.reason_step.Contradiction.{Contradiction}
+use Rattle.tmw_part.specs.declared.reason_step.Contradiction.TheVariants.{Cycle, NoSource, Unlike}
+use Rattle.tmw_part.specs.declared.reason_step.ValueSource.{ValueSource}
 use Rattle.std.proofs.lemmas.List.Folds.{list_any_at}
 use Rattle.std.proofs.lemmas.Option.{get_or_from_slice_get, slice_get-get_or, slice_get_within}
 use Rattle.tmw_part.proofs.ListFacts.{find_any, find_place, each_place, none_all, all-more, get_some}
@@ -11,7 +11,7 @@ use Rattle.tmw_part.proofs.OrderFacts.{IsIn, IsSerial, apart, serial}
 use Rattle.tmw_part.proofs.OrderValues.{state_at, reads_at, length-state_at, value_at, needs_holds, reads_alike}
 
 -- what is used of transactions that begin apart, of an order of them, of the state that it begins in and of the steps that are known
-record Case (criterion : Criterion) (states : List State) (ts : List Txn) (s : State) (order : List Placed) (steps : List Step) : Type 0 where
+record Case (criterion : Criterion) (states : List State) (ts : List Txn) (s : State) (order : List Placed) (steps : List ReasonStep) : Type 0 where
   begin : IsTrue (begin_apart ts)
   start : Contains states s
   long : length s ≡ 8
@@ -52,7 +52,7 @@ record StandsHeld (ts : List Txn) (order : List Placed) (a : ℕ) : Type 0 where
   held : IsTrue stands.placed.held
 
 -- where a source's rival stands
-record RivalAt (ts : List Txn) (order : List Placed) (s : Source) (a : ℕ) : Type 0 where
+record RivalAt (ts : List Txn) (order : List Placed) (s : ValueSource) (a : ℕ) : Type 0 where
   other : a ≡ s.reader → ⊥
   else : s.writer ≡ Some a → ⊥
   place : ℕ
@@ -78,7 +78,7 @@ same_writer None None is = refl
 same_writer (Some a) (Some b) is = ap (λ x. Some x) (eqb-true a b is)
 same_writer v w is = absurd (cc)
 
-module _ (criterion : Criterion) (states : List State) (ts : List Txn) (start : State) (order : List Placed) (steps : List Step)
+module _ (criterion : Criterion) (states : List State) (ts : List Txn) (start : State) (order : List Placed) (steps : List ReasonStep)
     (c : Case criterion states ts start order steps) where
   -- a transaction stands in one place, and one transaction in a place
   stands_once : (a i j : ℕ) → StandsAt ts order a i → StandsAt ts order a j → i ≡ j
@@ -96,7 +96,7 @@ module _ (criterion : Criterion) (states : List State) (ts : List Txn) (start : 
       let (one, two) = and_parts (x == a) _ is in
       rw (← eqb-true x a one, ← eqb-true y b two) before
 
-  says_before : (a b : ℕ) (step : Step) → HoldsIn ts order step → IsTrue (orders a b step) → StandsBefore ts order a b
+  says_before : (a b : ℕ) (step : ReasonStep) → HoldsIn ts order step → IsTrue (orders a b step) → StandsBefore ts order a b
   says_before a b (RealTime one other) holds is = both a b one other is holds
   says_before a b (From s) holds is = λ i j at there.
       let (writer, reader) = and_parts (is_some_of a s.writer) _ is in
@@ -117,7 +117,7 @@ module _ (criterion : Criterion) (states : List State) (ts : List Txn) (start : 
       let found = find_any (HoldsIn ts order) (orders a b) steps c.known is in says_before a b found.one found.has found.passes
 
   -- what is held in each order, and what each has
-  supplied_stands : (a : ℕ) (step : Step) → HoldsIn ts order step → IsTrue (supplies a step) → StandsHeld ts order a
+  supplied_stands : (a : ℕ) (step : ReasonStep) → HoldsIn ts order step → IsTrue (supplies a step) → StandsHeld ts order a
   supplied_stands a (From s) holds is =
       let (k, stands, comes) = holds in
       let (m, first, low, changes, last) = rw (some_of a s.writer is) at comes in
@@ -151,7 +151,7 @@ module _ (criterion : Criterion) (states : List State) (ts : List Txn) (start : 
       (found.place, record { placed = found.placed; there = found.there; is = at ∙ ap (λ (t : Txn). Some t) (sym found.is) })
   has_stands Strict same a is = let at = held_stands a is in (at.place, at.stands)
 
-  rival_at : (s : Source) (a : ℕ) → IsTrue (is_rival ts steps s a) → RivalAt ts order s a
+  rival_at : (s : ValueSource) (a : ℕ) → IsTrue (is_rival ts steps s a) → RivalAt ts order s a
   rival_at s a is =
       let (other, rest) = and_parts (not (a == s.reader)) _ is in
       let (else', both) = and_parts (not (is_some_of a s.writer)) _ rest in
@@ -166,7 +166,7 @@ module _ (criterion : Criterion) (states : List State) (ts : List Txn) (start : 
       }
 
   -- a source that is excluded is none
-  not_excluded : (s : Source) (w : Option ℕ) → s.writer ≡ w → (j : ℕ) → StandsAt ts order s.reader j
+  not_excluded : (s : ValueSource) (w : Option ℕ) → s.writer ≡ w → (j : ℕ) → StandsAt ts order s.reader j
       → ComesFrom ts order s.register.number j w → IsTrue (is_excluded ts steps s) → ⊥
   not_excluded s None is j at comes excluded =
       elim (or_cases (ends_before steps s.reader s.writer) _ excluded) [
@@ -192,7 +192,7 @@ module _ (criterion : Criterion) (states : List State) (ts : List Txn) (start : 
       ]
 
   -- where the value of a reader comes from
-  record Actual (s : Source) : Type 0 where
+  record Actual (s : ValueSource) : Type 0 where
     place : ℕ
     stands : StandsAt ts order s.reader place
     writer : Option ℕ
@@ -200,14 +200,14 @@ module _ (criterion : Criterion) (states : List State) (ts : List Txn) (start : 
     comes : ComesFrom ts order s.register.number place writer
     may : IsTrue (may_come_from states ts s writer)
 
-  read_value : (s : Source) (j : ℕ) → StandsAt ts order s.reader j → IsTrue (needs s.register.number s.value (ops_at ts s.reader))
+  read_value : (s : ValueSource) (j : ℕ) → StandsAt ts order s.reader j → IsTrue (needs s.register.number s.value (ops_at ts s.reader))
       → slice_index (state_at start order j) s.register.number ≡ s.value
   read_value s j at needs =
       let same = txn_at-get ts s.reader at.placed.txn at.is in
       needs_holds (state_at start order j) s.register.number s.value (operations at.placed.txn.text)
       (reads_at start order j at.placed c.serial.legal at.there) (rw same at needs)
 
-  actual : (s : Source) → IsTrue (is_asked criterion ts steps s) → Actual s
+  actual : (s : ValueSource) → IsTrue (is_asked criterion ts steps s) → Actual s
   actual s asked =
       let (has, needs) = and_parts (has_place criterion ts steps s.reader) _ asked in
       let (j, at) = has_stands criterion refl s.reader has in
@@ -258,7 +258,7 @@ module _ (criterion : Criterion) (states : List State) (ts : List Txn) (start : 
       let same : 0 + a ≡ a = omega arith in
       rw same at (each_place (λ b. test (Some b)) 0 (length ts) a (and_parts (test None) _ all).1 within)
 
-  is_source : (s : Source) → (found : Actual s)
+  is_source : (s : ValueSource) → (found : Actual s)
       → IsTrue (not (may_come_from states ts s found.writer) || is_excluded ts steps (from_else s found.writer)) → ⊥
   is_source s found none =
       elim (or_cases (not (may_come_from states ts s found.writer)) _ none) [
@@ -267,7 +267,7 @@ module _ (criterion : Criterion) (states : List State) (ts : List Txn) (start : 
       ]
 
   -- a source that is known is one
-  given : (s : Source) (step : Step) → HoldsIn ts order step → IsTrue (gives s step) → HoldsIn ts order (From s)
+  given : (s : ValueSource) (step : ReasonStep) → HoldsIn ts order step → IsTrue (gives s step) → HoldsIn ts order (From s)
   given s (From t) holds is =
       let (reader, rest) = and_parts (s.reader == t.reader) _ is in
       let (register, more) = and_parts (s.register.number == t.register.number) _ rest in
@@ -279,11 +279,11 @@ module _ (criterion : Criterion) (states : List State) (ts : List Txn) (start : 
       (j, here, there)
   given s step holds is = absurd (cc)
 
-  source_holds : (s : Source) → IsTrue (list_any (gives s) steps) → HoldsIn ts order (From s)
+  source_holds : (s : ValueSource) → IsTrue (list_any (gives s) steps) → HoldsIn ts order (From s)
   source_holds s is = let found = find_any (HoldsIn ts order) (gives s) steps c.known is in given s found.one found.has found.passes
 
   -- the rival of a source that it stands behind stands behind the reader
-  behind_reader : (s : Source) (v : Option ℕ) → s.writer ≡ v → (k : ℕ) → StandsAt ts order s.reader k
+  behind_reader : (s : ValueSource) (v : Option ℕ) → s.writer ≡ v → (k : ℕ) → StandsAt ts order s.reader k
       → ComesFrom ts order s.register.number k v → (w : ℕ) → (r : RivalAt ts order s w) → IsTrue (begins_before steps v w) → k < r.place
   behind_reader s v is k at comes w r begins =
       elim (cases_order k r.place) [
@@ -300,7 +300,7 @@ module _ (criterion : Criterion) (states : List State) (ts : List Txn) (start : 
           let behind = before_holds b w begins n r.place first r.stands in last r.place (omega (arith, behind)) high r.changes
 
   -- and one that stands before the reader stands before the source
-  before_writer : (s : Source) (v : Option ℕ) → s.writer ≡ v → (k : ℕ) → ComesFrom ts order s.register.number k v → (w : ℕ)
+  before_writer : (s : ValueSource) (v : Option ℕ) → s.writer ≡ v → (k : ℕ) → ComesFrom ts order s.register.number k v → (w : ℕ)
       → (r : RivalAt ts order s w) → r.place < k → StandsBeforeWriter ts order w v
   before_writer s None is k comes w r high = comes r.place (omega arith) high r.changes
   before_writer s (Some b) is k (n, first, low, changes, last) w r high = λ i j at there.
@@ -317,7 +317,7 @@ module _ (criterion : Criterion) (states : List State) (ts : List Txn) (start : 
       ]
 
   -- each step that follows holds
-  step_holds : (step : Step) → IsTrue (follows criterion states ts steps step) → HoldsIn ts order step
+  step_holds : (step : ReasonStep) → IsTrue (follows criterion states ts steps step) → HoldsIn ts order step
   step_holds (RealTime one other) is = λ i j at there.
       let (differ, before) = and_parts (not (one == other)) _ is in
       elim (cases_order i j) [
@@ -376,7 +376,7 @@ module _ (criterion : Criterion) (states : List State) (ts : List Txn) (start : 
       let (i, at) = has_stands criterion refl a has in
       let low = before_holds a a before i i at at in omega (arith, low)
   none_contradicts (NoSource b r v) is =
-      let s : Source = record { reader = b; register = r; value = v; writer = None } in
+      let s : ValueSource = record { reader = b; register = r; value = v; writer = None } in
       let (asked, all) = and_parts (is_asked criterion ts steps s) _ is in
       let found = actual s asked in
       let none = writer_passes (λ w. not (may_come_from states ts s w)) found.writer found.within all in
@@ -389,10 +389,10 @@ module _ (criterion : Criterion) (states : List State) (ts : List Txn) (start : 
       (length-state_at start order i ∙ c.long) tt (reads_at start order i at.placed c.serial.legal at.there) in
       let none : IsTrue (is_pair expected read None) = rw (same, alike) at unlike in absurd (cc)
 
-module _ (criterion : Criterion) (states : List State) (ts : List Txn) (steps : List Step) (begin : IsTrue (begin_apart ts))
+module _ (criterion : Criterion) (states : List State) (ts : List Txn) (steps : List ReasonStep) (begin : IsTrue (begin_apart ts))
     (long : All (λ s. length s ≡ 8) states) (derives : Derives criterion states ts steps) (s : State) (order : List Placed)
     (start : Contains states s) (explains : ExplainsBy criterion s ts order) where
-  case_at : (known : List Step) → AllByRecursion (HoldsIn ts order) known → Case criterion states ts s order known
+  case_at : (known : List ReasonStep) → AllByRecursion (HoldsIn ts order) known → Case criterion states ts s order known
   case_at known all = record {
     begin = begin;
     start = start;

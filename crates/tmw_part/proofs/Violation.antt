@@ -2,7 +2,7 @@
 use Rattle.tmw_part.proofs.Shared.{AreTaken, Bool, Criterion, Err, Event, Fails, IfOk, IsFalse, IsPart, IsTrue, IsViolated, IsViolatedPart, List, Ok, Result, State, TellsViolated, all_kept, and_parts, are_whole, arith, calls_from, end_state, false, inl, inr, keeps_last, keeps_part, kept_of, length, may_miss_all, members, not, owner_in, places_of, refl, transactions, true, ℕ, ◌≡◌, ◌≤◌}
 use Rattle.tmw_cuts.specs.declared.states.States.{States}
 use Rattle.tmw_cuts.specs.declared.window.Window.{Window}
-use Rattle.tmw_search.specs.Ended.{TellsEnd}
+use Rattle.tmw_search.specs.EndStates.{TellsEnd}
 use Rattle.tmw_part.proofs.Fewer.{kept-all, length-all}
 use Rattle.tmw_part.proofs.Parts.{part-fewer, part-whole}
 use Rattle.tmw_part.proofs.TestProof.{part-test}

@@ -1,10 +1,10 @@
-pub mod Finding
-pub mod Kept
+pub mod FindPart
+pub mod IsPart
+pub mod Marks
 pub mod Names
 pub mod Origins
 pub mod Pieces
+pub mod ReasonSteps
 pub mod Reasons
-pub mod Steps
-pub mod Taking
-pub mod Test
-pub mod Unlike
+pub mod UnlikeAnswers
+pub mod WindowEvents

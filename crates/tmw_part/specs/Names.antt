@@ -2,8 +2,8 @@
 use Rattle.std.specs.Prelude.{◌==◌, ◌&&◌, ℕ, Bool, nat_le, List, length, map, position, slice_index_or, unwrap_or}
 use Rattle.tmw_events.specs.declared.event.Event.{Event}
 use Rattle.tmw_defs.specs.History.{Txn, transactions}
-use Rattle.tmw_part.specs.declared.names.Name.{Name}
-use Rattle.tmw_part.specs.Kept.{kept_of, places_of}
+use Rattle.tmw_part.specs.declared.name_places.Name.{Name}
+use Rattle.tmw_part.specs.Marks.{kept_of, places_of}
 
 -- The transaction is the thread's, and the events from the one place up to the other lie in it.
 abbrev pub lies_in : ℕ → ℕ → ℕ → Txn → Bool

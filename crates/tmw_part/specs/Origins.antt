@@ -8,15 +8,15 @@ use Rattle.tmw_defs.specs.declared.status.Status.{Status}
 use Rattle.tmw_defs.specs.declared.status.Status.TheVariants.{Live, Aborted}
 use Rattle.tmw_defs.specs.History.{Txn, status_of, operation, operations, transactions}
 use Rattle.tmw_defs.specs.Part.{is_answered}
-use Rattle.tmw_cuts.specs.Written.{left_by}
+use Rattle.tmw_cuts.specs.RegisterUse.{left_by}
 use Rattle.tmw_part.specs.declared.origin.Fate.{Fate}
 use Rattle.tmw_part.specs.declared.origin.Fate.TheVariants.{GivenUp, Unasked, Overwritten, Stays}
 use Rattle.tmw_part.specs.declared.origin.Origin.{Origin}
 use Rattle.tmw_part.specs.Names.{owner}
 use Rattle.tmw_part.specs.Pieces.{call_of, next_of, puts}
-use Rattle.tmw_part.specs.Steps.{is_some_of}
-use Rattle.tmw_part.specs.Test.{txn_at}
-use Rattle.tmw_part.specs.Unlike.{known_after}
+use Rattle.tmw_part.specs.ReasonSteps.{is_some_of}
+use Rattle.tmw_part.specs.IsPart.{txn_at}
+use Rattle.tmw_part.specs.UnlikeAnswers.{known_after}
 
 -- The operation that the call makes with what follows it in its thread.
 abbrev pub made : Kind → Option Kind → List Op

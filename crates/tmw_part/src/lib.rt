@@ -2,37 +2,37 @@
 #![tactic(auto)]
 
 // The part: what may be taken out of a window, and whether what is left is a part of it and violated.
-mod find;
-mod kept_part;
-mod left;
+mod is_left_of;
+mod is_violated;
+mod is_violated_part;
 mod marks;
 mod part;
+mod part_search;
 mod piece;
 mod readers;
 mod transaction;
-mod violated;
 mod whole_window;
 
 // The reason: the steps that are tried, which follow, what they come to, and which are needed.
+mod by_steps;
 mod candidates;
-mod close;
-mod deeds;
-mod drawn;
-mod ends;
-mod follows;
-mod judged;
-mod known;
+mod closure;
+mod contradictions;
+mod kept_transaction;
 mod prune;
+mod question;
 mod reason;
-mod step;
+mod reason_step;
+mod register_use;
+mod step_rules;
 
 // Where a value comes from, and where a transaction's name is drawn.
-mod names;
+mod name_places;
 mod origin;
 
-pub use find::{MOST_EVENTS, find_part};
 pub use marks::kept_of;
-pub use names::{Name, names_of};
+pub use name_places::{Name, names_of};
 pub use origin::{Fate, Origin, find_origin};
+pub use part_search::{MOST_EVENTS, find_part};
 pub use reason::{Reason, find_reason, law_reason};
-pub use step::{Contradiction, Source, Step};
+pub use reason_step::{Contradiction, ReasonStep, ValueSource};

@@ -1,9 +1,9 @@
 //! Which events of a window are kept: a mark for each, in order.
 ghost use Rattle.std.specs.Prelude.{◌≡◌, IfOk, slice_index_or, true};
-ghost use Rattle.tmw_part.specs.Kept.{is_of_any, keeps_last, kept_of, places_of, without};
-ghost use Rattle.tmw_part.specs.Test.{are_whole, may_miss, may_miss_all};
+ghost use Rattle.tmw_part.specs.Marks.{is_of_any, keeps_last, kept_of, places_of, without};
+ghost use Rattle.tmw_part.specs.IsPart.{are_whole, may_miss, may_miss_all};
 
-use crate::left::is_unread;
+use crate::is_left_of::is_unread;
 use crate::piece::Piece;
 use crate::transaction::Transaction;
 use std::alloc::{AllocError, Global};

@@ -1,12 +1,12 @@
 ghost use Rattle.std.specs.Prelude.{◌≡◌, ◌+◌, ◌<◌, ◌^◌, IfOk, IfSome, MatchOption, [], ◌∷◌, length};
 ghost use Rattle.tmw_part.specs.Origins.{answered_from, fate_by, is_as_expected, made, origin_at, origin_of, puts_before};
 
-use crate::deeds::{known_after, left_by};
-use crate::follows::text_at;
-use crate::left::is_answered;
-use crate::names::owner;
+use crate::is_left_of::is_answered;
+use crate::name_places::owner;
 use crate::piece::call_of;
 use crate::readers::{next_of, puts};
+use crate::register_use::{known_after, left_by};
+use crate::step_rules::text_at;
 use crate::transaction::{Transaction, status_of, transactions};
 use std::alloc::{AllocError, Global};
 use tmw_cuts::operation;

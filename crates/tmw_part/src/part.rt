@@ -2,11 +2,11 @@ ghost use Rattle.std.specs.Prelude.{◌≡◌, IfOk, map};
 ghost use Rattle.std.specs.List.{list_all};
 ghost use Rattle.tmw_defs.specs.Part.{is_unread};
 ghost use Rattle.tmw_part.specs.Names.{owner_in};
-ghost use Rattle.tmw_part.specs.Test.{are_placed, is_among, is_order_kept, is_part_at, is_row_kept, is_stay, without_number};
+ghost use Rattle.tmw_part.specs.IsPart.{are_placed, is_among, is_order_kept, is_part_at, is_row_kept, is_stay, without_number};
 
-use crate::follows::{precedes_at, text_at};
-use crate::left::{is_left_of, may_go_whole};
-use crate::names::owner_in;
+use crate::is_left_of::{is_left_of, may_go_whole};
+use crate::name_places::owner_in;
+use crate::step_rules::{precedes_at, text_at};
 use crate::transaction::{Transaction, precedes};
 use std::alloc::{AllocError, Global};
 

@@ -1,14 +1,14 @@
 ghost use Rattle.std.specs.Prelude.{◌≡◌, ◌↔◌, ◌<◌, IfOk, IsTrue, IsFalse, length, remove};
 ghost use Rattle.tmw_part.specs.Reasons.{IsNeededEachIn, IsReasonIn};
-ghost use Rattle.tmw_part.specs.Steps.{Derives};
+ghost use Rattle.tmw_part.specs.ReasonSteps.{Derives};
 
-use crate::follows::{contradicts, follows};
-use crate::judged::Judged;
-use crate::step::{Contradiction, Step};
+use crate::question::Question;
+use crate::reason_step::{Contradiction, ReasonStep};
+use crate::step_rules::{contradicts, follows};
 use std::alloc::{AllocError, Global};
 
 /// Whether each of the steps follows from those before it.
-fn derives(judged: &Judged, steps: &[Step]) -> bool
+fn derives(judged: &Question, steps: &[ReasonStep]) -> bool
     ensures { let w = judged.now in
         IsTrue result ↔ Derives w.criterion w.states.now w.transactions.now steps.now }
 {
@@ -21,7 +21,7 @@ fn derives(judged: &Judged, steps: &[Step]) -> bool
 }
 
 /// Whether the steps are a reason that comes to this contradiction.
-fn is_reason(judged: &Judged, steps: &[Step], end: &Contradiction) -> bool
+fn is_reason(judged: &Question, steps: &[ReasonStep], end: &Contradiction) -> bool
     ensures { IsTrue result ↔ IsReasonIn judged.now end.now steps.now }
 {
     contradicts(judged, steps, end) && derives(judged, steps)
@@ -30,8 +30,8 @@ fn is_reason(judged: &Judged, steps: &[Step], end: &Contradiction) -> bool
 /// Leaves out the step at this place, if the rest is a reason too. Returns whether it was left out.
 fn leave_out(
     alloc: Global,
-    judged: &Judged,
-    steps: &mut Vec<Step>,
+    judged: &Question,
+    steps: &mut Vec<ReasonStep>,
     end: &Contradiction,
     place: usize,
 ) -> Result<bool, AllocError>
@@ -54,8 +54,8 @@ fn leave_out(
 /// Leaves out each step that the rest does without, from the last to the first. Returns whether one was left out.
 fn leave_out_each(
     alloc: Global,
-    judged: &Judged,
-    steps: &mut Vec<Step>,
+    judged: &Question,
+    steps: &mut Vec<ReasonStep>,
     end: &Contradiction,
 ) -> Result<bool, AllocError>
     ensures reason { IfOk result (λ out. IsReasonIn judged.now end.now steps.old.items
@@ -79,10 +79,10 @@ fn leave_out_each(
 /// Returns of a reason's steps those that are needed: none of them can be left out.
 pub(crate) fn prune(
     alloc: Global,
-    judged: &Judged,
-    steps: Vec<Step>,
+    judged: &Question,
+    steps: Vec<ReasonStep>,
     end: &Contradiction,
-) -> Result<Vec<Step>, AllocError>
+) -> Result<Vec<ReasonStep>, AllocError>
     requires { IsReasonIn judged.now end.now steps.items }
     ensures reason { IfOk result (λ kept. IsReasonIn judged.now end.now kept.items) }
     ensures needed { IfOk result (λ kept. IsNeededEachIn judged.now end.now kept.items) }

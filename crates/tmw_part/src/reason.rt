@@ -3,14 +3,14 @@ ghost use Rattle.tmw_defs.specs.History.{transactions};
 ghost use Rattle.tmw_part.specs.Reasons.{IsFound, IsPrunedIn, ReasonLaw, ReasonTells};
 
 use crate::candidates::candidates;
-use crate::close::close;
-use crate::drawn::Drawn;
-use crate::ends::{ends, find_end};
-use crate::judged::Judged;
+use crate::closure::close;
+use crate::contradictions::{ends, find_end};
+use crate::kept_transaction::KeptTransaction;
 use crate::marks::{kept_of, places_of};
-use crate::names::owner_in;
+use crate::name_places::owner_in;
 use crate::prune::prune;
-use crate::step::{Contradiction, Step};
+use crate::question::Question;
+use crate::reason_step::{Contradiction, ReasonStep};
 use crate::transaction::{MOST_TRANSACTIONS, transactions};
 use std::alloc::{AllocError, Global};
 use tmw_cuts::State;
@@ -21,7 +21,7 @@ use tmw_events::Event;
 #[derive(Drop)]
 pub struct Reason {
     /// What holds in each order. Each follows from those before it, and none of them can be left out.
-    pub steps: Vec<Step>,
+    pub steps: Vec<ReasonStep>,
     /// What the steps come to.
     pub end: Contradiction,
 }
@@ -29,9 +29,9 @@ pub struct Reason {
 /// Finds the steps of a reason, and what they come to, among those of these transactions of the window.
 fn find_steps(
     alloc: Global,
-    judged: &Judged,
-    drawn: &[Drawn],
-) -> Result<Option<(Vec<Step>, Contradiction)>, AllocError>
+    judged: &Question,
+    drawn: &[KeptTransaction],
+) -> Result<Option<(Vec<ReasonStep>, Contradiction)>, AllocError>
     ensures { IfOk result (λ found. IfSome found
         (λ pair. IsPrunedIn judged.now pair.1 pair.0.items)) }
 {
@@ -64,14 +64,14 @@ pub fn find_reason(
     }
     let part = transactions(alloc, &kept_of(alloc, marks, events)?)?;
     let places = places_of(alloc, marks)?;
-    let drawn: Vec<Drawn> = part
+    let drawn: Vec<KeptTransaction> = part
         .iter()
-        .map(|one| Drawn {
+        .map(|one| KeptTransaction {
             place: owner_in(&places, &window, one),
             text: &one.text,
         })
         .collect(alloc)?;
-    let judged = Judged {
+    let judged = Question {
         criterion,
         states,
         transactions: &window,

@@ -37,9 +37,9 @@ impl Model for Transaction {
 
 /// The answered operations of a transaction with this text, in order.
 #[derive(Drop)]
-pub(crate) struct Operations<'a>(pub &'a [Kind]);
+pub(crate) struct TextOperations<'a>(pub &'a [Kind]);
 
-impl Iterator for Operations<'_> {
+impl Iterator for TextOperations<'_> {
     type Item = Op;
 
     ghost next_gives = { YieldsFirst (λ ops. operations ops.0.now) };

@@ -1,7 +1,7 @@
-mod Adding
 mod CompletionProof
 mod OrderSteps
 mod Shared
 mod StrictOrders
 mod TrackerSteps
-mod Weighing
+mod Transactions
+mod Weights

@@ -1,13 +1,13 @@
 -- The steps of the search for a serial order, as the code makes them.
-use Rattle.tmw_plain_check.proofs.Shared.{Bool, Bor, IfOk, IsTrue, List, Result, Some, State, Transaction, Txn, after_writes, ap, arith, drop, drop-map, false, found_below, has_order, is_explained, is_free, length, map-append, may_come, may_hold, ne_eqb, one_below, operations, reads_hold, refl, remove, shown, slice_get, slice_get-map, slice_get_within, status_of, suc, take, take-map, true, txn_of, ℕ, ◌&&◌, ◌+◌, ◌-◌, ◌<◌, ◌==◌, ◌||◌, ◌∙◌, ◌≡◌}
+use Rattle.tmw_plain_check.proofs.Shared.{Bool, Bor, IfOk, IsTrue, List, PlainTransaction, Result, Some, State, Txn, after_writes, ap, arith, drop, drop-map, false, found_below, has_order, is_explained, is_free, length, map-append, may_come, may_hold, ne_eqb, one_below, operations, reads_hold, refl, remove, shown, slice_get, slice_get-map, slice_get_within, status_of, suc, take, take-map, true, txn_of, ℕ, ◌&&◌, ◌+◌, ◌-◌, ◌<◌, ◌==◌, ◌||◌, ◌∙◌, ◌≡◌}
 use Rattle.std.specs.Option.{option_map}
 use Rattle.std.proofs.lemmas.List.Edits.{length-remove}
 
-pub shown-remove : (ws : List (Bor Transaction)) (i : ℕ) → shown (remove ws i) ≡ remove (shown ws) i
+pub shown-remove : (ws : List (Bor PlainTransaction)) (i : ℕ) → shown (remove ws i) ≡ remove (shown ws) i
 shown-remove ws i = grind (arith, map-append, txn_of, take, drop, take-map, drop-map)
 
 -- the transaction that a reference at a place shows
-pub shown_at : (ws : List (Bor Transaction)) (i : ℕ) (w : Bor Transaction) → slice_get ws i ≡ Some w
+pub shown_at : (ws : List (Bor PlainTransaction)) (i : ℕ) (w : Bor PlainTransaction) → slice_get ws i ≡ Some w
     → slice_get (shown ws) i ≡ Some (txn_of w.now)
 shown_at ws i w at = slice_get-map (λ t. txn_of t.now) ws i ∙ ap (option_map (λ t. txn_of t.now)) at
 

@@ -13,8 +13,8 @@ pub use Rattle.tmw_defs.specs.Opaque.{Explains, HasOrder, Placed, State, after, 
 pub use Rattle.tmw_defs.specs.Strict.{AreHeld, HasStrictOrder}
 pub use Rattle.tmw_defs.specs.declared.criterion.Criterion.{Criterion}
 pub use Rattle.tmw_events.specs.declared.event.Event.{Event}
-pub use Rattle.tmw_wellformed.specs.Tracks.{Tracks}
+pub use Rattle.tmw_wellformed.specs.Tracker.{Tracks}
 pub use Rattle.tmw_plain_check.specs.Completions.{goes_with, has_completion}
 pub use Rattle.tmw_plain_check.specs.TransactionViews.{joins, shown, txn_of, txns_of}
 pub use Rattle.tmw_plain_check.specs.Verdict.{HasNinth, HasOrderBy, IsFaultless, IsFirstAtFault, IsNotFinal, JudgesBy, Weighs}
-pub use Rattle.tmw_plain_check.specs.declared.transaction.Transaction.{Transaction}
+pub use Rattle.tmw_plain_check.specs.declared.plain_transaction.PlainTransaction.{PlainTransaction}

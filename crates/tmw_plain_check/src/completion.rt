@@ -2,9 +2,9 @@ ghost use Rattle.std.specs.Prelude.{◌≡◌, ◌∷◌, ◌++◌, [], IfOk};
 ghost use Rattle.tmw_plain_check.specs.Completions.{goes_with, has_completion};
 ghost use Rattle.tmw_plain_check.specs.TransactionViews.{txn_of, txns_of, shown};
 
+use crate::operation_and_status::status_of;
 use crate::order::has_order;
-use crate::text::status_of;
-use crate::transaction::Transaction;
+use crate::plain_transaction::PlainTransaction;
 use std::alloc::{AllocError, Global};
 use tmw_defs::Status;
 
@@ -12,7 +12,7 @@ use tmw_defs::Status;
 /// the start.
 pub fn has_completion(
     alloc: Global,
-    list: &[Transaction],
+    list: &[PlainTransaction],
     start: &[u64; 8],
 ) -> Result<bool, AllocError>
     ensures { IfOk result (λ has. has ≡ has_completion start.now (txns_of list.now)) }
@@ -24,8 +24,8 @@ pub fn has_completion(
 #[cycle(completions)]
 fn goes_with<'a>(
     alloc: Global,
-    members: &[&'a Transaction],
-    behind: &'a [Transaction],
+    members: &[&'a PlainTransaction],
+    behind: &'a [PlainTransaction],
     start: &[u64; 8],
 ) -> Result<bool, AllocError>
     ensures { IfOk result (λ goes. goes
@@ -48,9 +48,9 @@ fn goes_with<'a>(
 #[cycle(completions)]
 fn goes_on_with<'a>(
     alloc: Global,
-    members: &[&'a Transaction],
-    next: &'a Transaction,
-    rest: &'a [Transaction],
+    members: &[&'a PlainTransaction],
+    next: &'a PlainTransaction,
+    rest: &'a [PlainTransaction],
     start: &[u64; 8],
 ) -> Result<bool, AllocError>
     ensures { IfOk result (λ goes. goes

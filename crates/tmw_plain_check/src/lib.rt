@@ -4,10 +4,10 @@
 
 mod completion;
 mod judge;
+mod operation_and_status;
 mod order;
+mod plain_transaction;
 mod replay;
-mod text;
-mod transaction;
 mod whole;
 
 pub use judge::{judge_whole, judge_whole_for, judge_whole_from};

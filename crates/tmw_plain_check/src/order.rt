@@ -3,21 +3,21 @@ ghost use Rattle.tmw_defs.specs.Opaque.{precedes, may_hold};
 ghost use Rattle.tmw_defs.specs.Decision.{is_free, may_come, has_order, is_explained};
 ghost use Rattle.tmw_plain_check.specs.TransactionViews.{txn_of, txns_of, shown};
 
+use crate::operation_and_status::{is_ended, status_of};
+use crate::plain_transaction::PlainTransaction;
 use crate::replay::replay;
-use crate::text::{is_ended, status_of};
-use crate::transaction::Transaction;
 use std::alloc::{AllocError, Global};
 use tmw_defs::Status;
 
 /// Whether the one precedes the other in real time: it is completed, and its last event is before the other's first.
-fn precedes(one: &Transaction, other: &Transaction) -> bool
+fn precedes(one: &PlainTransaction, other: &PlainTransaction) -> bool
     ensures { result ≡ precedes (txn_of one.now) (txn_of other.now) }
 {
     is_ended(&one.text) && one.last < other.first
 }
 
 /// Tells whether none of the others precedes the transaction in real time.
-fn is_free(transaction: &Transaction, others: &[&Transaction]) -> bool
+fn is_free(transaction: &PlainTransaction, others: &[&PlainTransaction]) -> bool
     ensures { result ≡ is_free (txn_of transaction.now) (shown others.now) }
 {
     for other in others {
@@ -31,9 +31,9 @@ fn is_free(transaction: &Transaction, others: &[&Transaction]) -> bool
 /// Returns all of these transactions but the one at the index.
 fn without<'a>(
     alloc: Global,
-    list: &[&'a Transaction],
+    list: &[&'a PlainTransaction],
     index: usize,
-) -> Result<Vec<&'a Transaction>, AllocError>
+) -> Result<Vec<&'a PlainTransaction>, AllocError>
     requires { index < length list.now }
     ensures { IfOk result (λ rest. shown rest.items ≡ remove (shown list.now) index) }
 {
@@ -46,7 +46,7 @@ fn without<'a>(
 #[cycle(orders)]
 fn may_come(
     alloc: Global,
-    waiting: &[&Transaction],
+    waiting: &[&PlainTransaction],
     index: usize,
     state: &[u64; 8],
 ) -> Result<bool, AllocError>
@@ -71,7 +71,7 @@ fn may_come(
 fn goes_on(
     alloc: Global,
     status: Status,
-    rest: &[&Transaction],
+    rest: &[&PlainTransaction],
     held: &[u64; 8],
     left_out: &[u64; 8],
 ) -> Result<bool, AllocError>
@@ -93,7 +93,7 @@ fn goes_on(
 #[cycle(orders)]
 pub fn has_order(
     alloc: Global,
-    waiting: &[&Transaction],
+    waiting: &[&PlainTransaction],
     state: &[u64; 8],
 ) -> Result<bool, AllocError>
     ensures { IfOk result (λ has. has ≡ is_explained state.now (shown waiting.now)) }
@@ -110,7 +110,7 @@ pub fn has_order(
 /// asks.
 pub fn is_explained(
     alloc: Global,
-    list: &[Transaction],
+    list: &[PlainTransaction],
     start: &[u64; 8],
 ) -> Result<bool, AllocError>
     ensures { IfOk result (λ has. has ≡ is_explained start.now (txns_of list.now)) }

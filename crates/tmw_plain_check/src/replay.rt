@@ -1,8 +1,8 @@
 ghost use Rattle.std.specs.Prelude.{[], ◌∷◌};
 ghost use Rattle.tmw_defs.specs.History.{operations};
-ghost use Rattle.tmw_cuts.specs.Replaying.{Replays};
+ghost use Rattle.tmw_cuts.specs.Replays.{Replays};
 
-use crate::text::operation;
+use crate::operation_and_status::operation;
 use tmw_defs::Op;
 use tmw_events::Kind;
 

@@ -3,7 +3,7 @@ use Rattle.tmw_pump.proofs.Shared.{Event, List, [], ap, cases_Bool, made_from, r
 use Rattle.tmw_defs.specs.Texts.{kinds_of}
 use Rattle.tmw_events.specs.declared.event.Kind.{Kind}
 use Rattle.tmw_pump.specs.Kinds.{kinds_made}
-use Rattle.tmw_ring.specs.declared.part.Made.{Made}
+use Rattle.tmw_ring.specs.declared.seat_part.Made.{Made}
 
 pub kinds_made-append : (old fresh : List Made) → kinds_made (old ++ fresh) ≡ kinds_made old ++ kinds_made fresh
 kinds_made-append [] fresh = refl

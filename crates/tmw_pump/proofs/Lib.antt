@@ -1,7 +1,7 @@
-mod CountingOn
-pub mod Feeding
+mod CountOn
 pub mod HeadlineProof
-pub mod Keeping
+pub mod HeldEvent
+pub mod KeepSteps
 pub mod KindsMade
 pub mod OneLog
 mod Shared

@@ -4,7 +4,7 @@ pub use Rattle.std.proofs.Math.Logic.{∥∥₁_elim, ∥∥₁_map}
 pub use Rattle.std.proofs.lemmas.Bool.{both_ways, cases_Bool, cases_lt}
 pub use Rattle.std.proofs.lemmas.List.{append-nil, length-append, length_push}
 pub use Rattle.std.proofs.lemmas.Result.{err_from_is_err_and}
-pub use Rattle.tmw_counts.specs.Parts.{is_open, part_by}
+pub use Rattle.tmw_counts.specs.CountedPart.{is_open, part_by}
 pub use Rattle.tmw_defs.proofs.VerdictProof.{verdict-one}
 pub use Rattle.tmw_defs.specs.Criteria.{IsFinalBy, so_far}
 pub use Rattle.tmw_defs.specs.Verdict.{HasMany, IsFirst, IsTooMany, IsVerdict, IsViolated, Rules}
@@ -14,15 +14,15 @@ pub use Rattle.tmw_defs.specs.declared.verdict.Verdict.{Verdict}
 pub use Rattle.tmw_defs.specs.declared.verdict.Verdict.TheVariants.{Malformed, OpaqueSoFar, StrictSoFar, Undecided, Violated}
 pub use Rattle.tmw_defs.specs.declared.verdict.Why.TheVariants.{States, Transactions}
 pub use Rattle.tmw_events.specs.declared.event.Event.{Event}
-pub use Rattle.tmw_monitor.specs.Fitting.{Fits}
+pub use Rattle.tmw_monitor.specs.Fits.{Fits}
 pub use Rattle.tmw_monitor.specs.Monitor.{IsOpen, criterion_of, verdict_of}
 pub use Rattle.tmw_monitor.specs.declared.monitor.Monitor.{Monitor}
-pub use Rattle.tmw_ring.specs.Ends.{ReaderIs, ReaderOf, WriterIs}
+pub use Rattle.tmw_ring.specs.RingEnds.{ReaderIs, ReaderOf, WriterIs}
 pub use Rattle.tmw_ring.specs.Parts.{made_from}
-pub use Rattle.tmw_pump.specs.Fronts.{HasCome, HasJudged, KeepsFit, came}
+pub use Rattle.tmw_pump.specs.Front.{HasCome, HasJudged, KeepsFit, came}
 pub use Rattle.tmw_pump.specs.Headline.{GivesHeadline, Headline, IsFirstViolation, IsLogOf, IsWithinBounds}
-pub use Rattle.tmw_pump.specs.Held.{WasCounted, WasFed, listed}
-pub use Rattle.tmw_pump.specs.Keeping.{IsKept, StaysKept, WasKept}
-pub use Rattle.tmw_pump.specs.Pumping.{HasPumped, HasTakenAll, PumpIs, pump_in}
-pub use Rattle.tmw_pump.specs.Resting.{HasRested, IsRested, RestIs, all_of, rest_in}
+pub use Rattle.tmw_pump.specs.HeldEvent.{WasCounted, WasFed, listed}
+pub use Rattle.tmw_pump.specs.Keep.{IsKept, StaysKept, WasKept}
+pub use Rattle.tmw_pump.specs.Pump.{HasPumped, HasTakenAll, PumpIs, pump_in}
+pub use Rattle.tmw_pump.specs.Rest.{HasRested, IsRested, RestIs, all_of, rest_in}
 pub use Rattle.tmw_pump.specs.declared.front.Front.{Front}

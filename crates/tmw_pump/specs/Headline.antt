@@ -8,10 +8,10 @@ use Rattle.tmw_defs.specs.Windows.{HasWide}
 use Rattle.tmw_defs.specs.declared.verdict.Verdict.{Verdict}
 use Rattle.tmw_defs.specs.declared.verdict.Verdict.TheVariants.{OpaqueSoFar, Violated, Undecided, Malformed}
 use Rattle.tmw_defs.specs.declared.verdict.Why.TheVariants.{Transactions, States}
-use Rattle.tmw_monitor.specs.Fitting.{Fits}
-use Rattle.tmw_ring.specs.Ends.{WriterIs}
+use Rattle.tmw_monitor.specs.Fits.{Fits}
+use Rattle.tmw_ring.specs.RingEnds.{WriterIs}
 use Rattle.tmw_ring.specs.Parts.{made_from}
-use Rattle.tmw_pump.specs.Fronts.{judged_of, monitor_of}
+use Rattle.tmw_pump.specs.Front.{judged_of, monitor_of}
 use Rattle.tmw_pump.specs.declared.front.Front.{Front}
 
 -- One log: it begins with these events, and each of these writers has claimed the places of its own events there, and no other.

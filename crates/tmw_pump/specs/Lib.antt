@@ -1,7 +1,7 @@
-pub mod Fronts
+pub mod Front
 pub mod Headline
-pub mod Held
-pub mod Keeping
+pub mod HeldEvent
+pub mod Keep
 pub mod Kinds
-pub mod Pumping
-pub mod Resting
+pub mod Pump
+pub mod Rest

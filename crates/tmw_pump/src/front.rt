@@ -1,8 +1,8 @@
 ghost use Rattle.std.specs.Prelude.{◌≡◌, ◌∷◌, ◌++◌, ◌+◌, ◌<◌, ◌≤◌, ◌^◌, [], length, Some, None, IsOk, OnOk, OnErr};
-ghost use Rattle.tmw_counts.specs.Summaries.{IsSummary};
-ghost use Rattle.tmw_pump.specs.Held.{JudgesOpacity, WasCounted, WasFed, listed};
+ghost use Rattle.tmw_counts.specs.Summary.{IsSummary};
+ghost use Rattle.tmw_pump.specs.HeldEvent.{JudgesOpacity, WasCounted, WasFed, listed};
 
-use crate::judged::Judged;
+use crate::judged_log::JudgedLog;
 use crate::pumped::Pumped;
 use std::alloc::AllocError;
 use tmw_counts::{Counter, Summary, is_open};
@@ -16,7 +16,7 @@ use tmw_monitor::Monitor;
 pub struct Front {
     monitor: Monitor,
     counter: Counter,
-    judged: Judged,
+    judged: JudgedLog,
     held: Option<Event>,
     pub ghost opacity: { JudgesOpacity monitor },
     pub ghost fed: { ∥ WasFed judged.items monitor ∥₁ },
@@ -25,7 +25,7 @@ pub struct Front {
 }
 
 impl Front {
-    ghost use Rattle.tmw_pump.specs.Fronts.{HasCome, HasFinalVerdict, KeepsFit, TellsVerdict, front_part, verdict_on};
+    ghost use Rattle.tmw_pump.specs.Front.{HasCome, HasFinalVerdict, KeepsFit, TellsVerdict, front_part, verdict_on};
 
     /// Makes a front without events, over a monitor by opacity that was fed none.
     pub(crate) fn new(monitor: Monitor) -> Front
@@ -39,7 +39,7 @@ impl Front {
         Front {
             monitor,
             counter,
-            judged: Judged::new(),
+            judged: JudgedLog::new(),
             held: None,
         }
     }

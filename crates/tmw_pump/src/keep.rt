@@ -1,7 +1,7 @@
 //! What is kept of the events that are judged.
 ghost use Rattle.std.specs.Prelude.{◌≡◌, ◌∷◌, ◌++◌, [], List, Some, None, IfOk, OnOk, OnErr};
-ghost use Rattle.tmw_pump.specs.Fronts.{KeepsFit, came, held_of, judged_of};
-ghost use Rattle.tmw_pump.specs.Keeping.{StaysKept};
+ghost use Rattle.tmw_pump.specs.Front.{KeepsFit, came, held_of, judged_of};
+ghost use Rattle.tmw_pump.specs.Keep.{StaysKept};
 
 use crate::front::Front;
 use std::alloc::AllocError;
@@ -15,7 +15,7 @@ pub trait Keep: Drop {
     ghost use Rattle.tmw_defs.specs.declared.verdict.Verdict.{Verdict};
     ghost use Rattle.tmw_events.specs.declared.event.Event.{Event};
     ghost use Rattle.tmw_monitor.specs.declared.monitor.Monitor.{Monitor};
-    ghost use Rattle.tmw_pump.specs.Keeping.{KeepsOne};
+    ghost use Rattle.tmw_pump.specs.Keep.{KeepsOne};
 
     /// What the next event does with what is kept.
     type Next: Drop;

@@ -2,14 +2,14 @@
 ghost use Rattle.std.specs.Prelude.{◌≡◌, ◌++◌, List, [], ◌∷◌, length, All, Some, None, IfOk, OnOk, OnErr, IfSome, IfNone, IsSome, IsTrue, ◌↔◌};
 ghost use Rattle.tmw_defs.specs.Verdict.{Rules};
 ghost use Rattle.tmw_events.specs.declared.event.Event.{Event};
-ghost use Rattle.tmw_monitor.specs.Fitting.{Fits};
+ghost use Rattle.tmw_monitor.specs.Fits.{Fits};
 ghost use Rattle.tmw_monitor.specs.Monitor.{verdict_of};
-ghost use Rattle.tmw_pump.specs.Held.{JudgesOpacity, WasFed, listed};
-ghost use Rattle.tmw_pump.specs.Keeping.{IsKept, StaysKept, WasKept};
-ghost use Rattle.tmw_ring.specs.Ends.{ReaderOf, WriterOf};
-ghost use Rattle.tmw_ring.specs.Meeting.{HaveMet};
-ghost use Rattle.tmw_ring.specs.Settling.{AreInOrder, IsSettled};
-ghost use Rattle.tmw_ring.specs.Takes.{HasFoundNone};
+ghost use Rattle.tmw_pump.specs.HeldEvent.{JudgesOpacity, WasFed, listed};
+ghost use Rattle.tmw_pump.specs.Keep.{IsKept, StaysKept, WasKept};
+ghost use Rattle.tmw_ring.specs.RingEnds.{ReaderOf, WriterOf};
+ghost use Rattle.tmw_ring.specs.Meet.{HaveMet};
+ghost use Rattle.tmw_ring.specs.Settle.{AreInOrder, IsSettled};
+ghost use Rattle.tmw_ring.specs.Take.{HasFoundNone};
 
 use crate::front::Front;
 use crate::keep::{Keep, judge_held};
@@ -37,9 +37,9 @@ pub struct Pump<K: Keep = Vec<Event>> {
 
 impl<K: Keep> Pump<K> {
     ghost use Rattle.tmw_pump.specs.Headline.{IsLogOf, GivesHeadline};
-    ghost use Rattle.tmw_pump.specs.Fronts.{HasCome, TellsVerdict, WasRefusedMemory, held_of, judged_of, monitor_of, verdict_on};
-    ghost use Rattle.tmw_pump.specs.Pumping.{HasTakenAll, HasPumped, IsPumped, pump_front, pump_in, pump_kept, reader_of};
-    ghost use Rattle.tmw_pump.specs.Resting.{all_of, left_of, rest_front, rest_in, rest_kept};
+    ghost use Rattle.tmw_pump.specs.Front.{HasCome, TellsVerdict, WasRefusedMemory, held_of, judged_of, monitor_of, verdict_on};
+    ghost use Rattle.tmw_pump.specs.Pump.{HasTakenAll, HasPumped, IsPumped, pump_front, pump_in, pump_kept, reader_of};
+    ghost use Rattle.tmw_pump.specs.Rest.{all_of, left_of, rest_front, rest_in, rest_kept};
 
     /// Makes a pump of a reader that has taken nothing, a monitor by opacity that was fed nothing, and what is kept of
     /// nothing.
@@ -179,8 +179,8 @@ impl<K: Keep> Pump<K> {
 }
 
 impl Pump {
-    ghost use Rattle.tmw_pump.specs.Fronts.{held_of, judged_of, monitor_of};
-    ghost use Rattle.tmw_pump.specs.Pumping.{pump_front, pump_in, reader_of};
+    ghost use Rattle.tmw_pump.specs.Front.{held_of, judged_of, monitor_of};
+    ghost use Rattle.tmw_pump.specs.Pump.{pump_front, pump_in, reader_of};
 
     /// Makes a pump of a reader that has taken nothing, and a monitor by opacity that was fed nothing. It keeps what
     /// it judges.

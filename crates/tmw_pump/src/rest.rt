@@ -1,7 +1,7 @@
 //! Judging what a settled ring has left.
 ghost use Rattle.std.specs.Prelude.{◌≡◌, ◌+◌, ◌++◌, [], ◌∷◌, ◌≤◌, ◌^◌, length, Some, None, IfOk, OnOk, OnErr, IfNone, IsSome, IsTrue, ◌↔◌};
-ghost use Rattle.tmw_pump.specs.Held.{listed};
-ghost use Rattle.tmw_pump.specs.Keeping.{StaysKept, WasKept};
+ghost use Rattle.tmw_pump.specs.HeldEvent.{listed};
+ghost use Rattle.tmw_pump.specs.Keep.{StaysKept, WasKept};
 
 use crate::front::Front;
 use crate::keep::{Keep, judge_held};
@@ -24,8 +24,8 @@ pub struct Rest<K: Keep = Vec<Event>> {
 
 impl<K: Keep> Rest<K> {
     ghost use Rattle.tmw_pump.specs.Headline.{GivesHeadline};
-    ghost use Rattle.tmw_pump.specs.Fronts.{HasCome, TellsVerdict, WasRefusedMemory, held_of, judged_of, verdict_on};
-    ghost use Rattle.tmw_pump.specs.Resting.{HasRested, IsRested, all_of, left_of, rest_front, rest_in, rest_kept};
+    ghost use Rattle.tmw_pump.specs.Front.{HasCome, TellsVerdict, WasRefusedMemory, held_of, judged_of, verdict_on};
+    ghost use Rattle.tmw_pump.specs.Rest.{HasRested, IsRested, all_of, left_of, rest_front, rest_in, rest_kept};
 
     /// Makes the rest of a pump's settled ring.
     pub(crate) fn new(settled: Settled, front: Front, kept: K) -> Rest<K>
@@ -118,8 +118,8 @@ impl<K: Keep> Rest<K> {
 
 impl Rest {
     ghost use Rattle.tmw_pump.specs.Headline.{GivesHeadline};
-    ghost use Rattle.tmw_pump.specs.Fronts.{judged_of, verdict_on};
-    ghost use Rattle.tmw_pump.specs.Resting.{all_of, rest_front, rest_in};
+    ghost use Rattle.tmw_pump.specs.Front.{judged_of, verdict_on};
+    ghost use Rattle.tmw_pump.specs.Rest.{all_of, rest_front, rest_in};
 
     /// Returns the judged front: the events that were judged, in the order of the log.
     pub fn judged(&self) -> &[Event]

@@ -1,7 +1,7 @@
 -- What is told of a line that has a fault, by what a reader of a trace holds of it, is what is told of the line with its number.
 use Rattle.tmw_report.proofs.Shared.{Err, IsSent, List, Ok, Puts, QuotesLine, Result, Some, ap, arith, fault_of, inl, inr, length, length-take, nat_lt, number_of, quoted, refl, sym, take, take-take, trace_grammar, trace_text, version_digit, version_in, wrong_of, ℕ, ◌++◌, ◌+◌, ◌∙◌, ◌≡◌}
 use Rattle.std.proofs.lemmas.Bool.Decides.{nat_tests}
-use Rattle.tmw_lines.specs.ItemsRead.{AreReadFor, FailsHolding}
+use Rattle.tmw_lines.specs.ReadItems.{AreReadFor, FailsHolding}
 use Rattle.tmw_lines.specs.Lines.{format_by, unread_bytes}
 use Rattle.tmw_lines.specs.Text.{HoldsFront, front_of, line_at}
 use Rattle.tmw_lines.specs.TextFault.{HasFirstLineFault}
@@ -14,7 +14,7 @@ use Rattle.tmw_events.specs.declared.event.Event.{Event}
 use Rattle.tmw_trace.specs.TextNames.{trace_naming}
 use Rattle.tmw_trace.specs.declared.header.Header.{Header}
 use Rattle.tmw_trace.specs.declared.version.Version.{Version}
-use Rattle.tmw_report.specs.Quoting.{QuotesHeld}
+use Rattle.tmw_report.specs.QuotesHeld.{QuotesHeld}
 use Rattle.tmw_report.specs.declared.fault.Fault.{Fault}
 
 pub sent-put : {E A X : Type 0} (Errors : ToSink E) (old new : E) (text : List ℕ) (result : Result A X)

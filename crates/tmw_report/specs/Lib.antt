@@ -1,7 +1,7 @@
 pub mod CommandRun
 pub mod Lines
-pub mod Putting
 pub mod Quote
-pub mod Quoting
+pub mod QuotesHeld
 pub mod Remark
+pub mod SendText
 pub mod SummaryLine

@@ -4,7 +4,7 @@ use Rattle.std.specs.Fmt.{decimal}
 use Rattle.std.specs.List.{flat_map}
 use Rattle.tmw_lines.specs.Text.{line, line_at}
 use Rattle.tmw_streams.specs.Streams.{ToSink}
-use Rattle.tmw_report.specs.Putting.{IsSent}
+use Rattle.tmw_report.specs.SendText.{IsSent}
 use Rattle.tmw_report.specs.Remark.{Remarks}
 use Rattle.tmw_report.specs.declared.fault.Fault.{Fault}
 use Rattle.tmw_report.specs.declared.remark.Remark.{Remark}

@@ -3,7 +3,7 @@ use Rattle.std.specs.Prelude.{◌≡◌, ◌++◌, ℕ, Bool, List, Option, Some
 use Rattle.std.specs.Fmt.{decimal}
 use Rattle.tmw_streams.specs.Streams.{FromSource, ToSink}
 use Rattle.tmw_report.specs.CommandRun.{IsCommandRun}
-use Rattle.tmw_report.specs.Putting.{IsSent}
+use Rattle.tmw_report.specs.SendText.{IsSent}
 use Rattle.tmw_report.specs.declared.fault.Fault.{Fault}
 use Rattle.tmw_report.specs.declared.remark.Remark.{Remark}
 use Rattle.tmw_report.specs.declared.remark.Remark.TheVariants.{NothingShown, Broken}

@@ -1,14 +1,14 @@
 ghost use Rattle.std.specs.Prelude.{◌≡◌, ◌<◌, ◌++◌, option_map};
 ghost use Rattle.tmw_lines.specs.Lines.{format_by, unread_bytes};
 ghost use Rattle.tmw_lines.specs.Text.{front_of};
-ghost use Rattle.tmw_report.specs.Putting.{fault_of};
+ghost use Rattle.tmw_report.specs.SendText.{fault_of};
 ghost use Rattle.tmw_report.specs.Quote.{escaped, escaped_byte, hex_digit, number_of, quote_end, quoted, quote_text, wrong_of};
-ghost use Rattle.tmw_report.specs.Quoting.{QuotesHeld, text_of};
-ghost use Rattle.tmw_streams.specs.Told.{Puts};
+ghost use Rattle.tmw_report.specs.QuotesHeld.{QuotesHeld, text_of};
+ghost use Rattle.tmw_streams.specs.Transfers.{Puts};
 ghost use Rattle.tmw_trace.specs.Text.{version_digit};
 
-use crate::answer::fault_of;
 use crate::fault::Fault;
+use crate::fault_answer::fault_of;
 use crate::fault_line::put_numbered;
 use tmw_lines::TextFault;
 use tmw_streams::{IoFault, Sink, Texts, put_all, put_lines};

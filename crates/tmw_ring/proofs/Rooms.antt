@@ -1,7 +1,7 @@
 -- A writer may look at front, and what it then knows with the tail that it finds next.
 use Rattle.tmw_ring.proofs.Shared.{Allows, Answered, Core, FindsFront, FindsTail, HasFoundFront, IsIdleWriter, Ix, List, Me, PartFits, Parts, RingSize, Runs, Shown, WriterFits, WriterIs, WriterPart, Writes, [], ap, append-nil, arith, false, front_word, is_full, is_spent, keeps, key, last_tail, min, new_core, places_freed, places_freed-append, refl, run-counted, run_of, runs-front, set, slice_index, some-injective, some-ne-none, subst, suc, sym, with_run, words_of, writer_in, zero, ℕ, ◌++◌, ◌+◌, ◌-◌, ◌∙◌, ◌∷◌, ◌≡◌, ◌≤◌}
 use Rattle.tmw_ring.proofs.Moves.{Follows, Remains, knows_all, moves_each}
-use Rattle.tmw_ring.proofs.Writing.{writer_fits}
+use Rattle.tmw_ring.proofs.WriterSteps.{writer_fits}
 
 module _ {S : Type 0} where
   front_found : (size : RingSize) (slots seat : ℕ) (part : WriterPart)

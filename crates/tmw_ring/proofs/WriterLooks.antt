@@ -2,7 +2,7 @@
 use Rattle.tmw_ring.proofs.Shared.{Allows, Answered, Bool, Core, FitsKind, FitsPhase, HasSeenFront, HasSeenTail, Idle, IsIn, IsReal, IsSeatOf, Kind, List, Looked, Me, Parts, RingSize, Saw, Shown, Some, Sound, WriterFits, WriterMade, WriterPart, WriterPhase, Writes, [], ap, arith, front_in, front_look, front_seen, front_word, is_full, is_spent, keeps, refl, room_phase, room_reply, set, slice_index, subst, sym, tail_look, tail_seen, with_phase, words_of, writer_actor, writer_in, ℕ, ◌++◌, ◌∙◌, ◌∷◌, ◌≡◌, ◌≤◌}
 use Rattle.tmw_ring_defs.proofs.RingLooks.{front_keeps, tail_keeps}
 use Rattle.tmw_ring.proofs.Moves.{Makes}
-use Rattle.tmw_ring.proofs.Writing.{Goes, cells_go, writer_fits, writer_moves, writer_made}
+use Rattle.tmw_ring.proofs.WriterSteps.{Goes, cells_go, writer_fits, writer_moves, writer_made}
 
 front_makes : (kind : Kind) (core : Core) (part : WriterPart) → WriterFits core part → part.phase ≡ Idle
     → Makes (writer_actor part.number) core (front_look kind core.front part) (with_phase part.number.number (Looked kind core.front) core)

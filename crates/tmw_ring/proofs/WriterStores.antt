@@ -4,7 +4,7 @@ use Rattle.tmw_ring_defs.proofs.RingFills.{fill_keeps}
 use Rattle.tmw_ring_defs.proofs.RingPublishes.{publish_keeps}
 use Rattle.tmw_ring.proofs.Words.{filled_words, published_words}
 use Rattle.tmw_ring.proofs.Moves.{Makes}
-use Rattle.tmw_ring.proofs.Writing.{Goes, writer_fits, writer_moves, writer_made}
+use Rattle.tmw_ring.proofs.WriterSteps.{Goes, writer_fits, writer_moves, writer_made}
 
 -- the state after a store to the place's cell, by a writer that goes on to the phase
 abbrev with_store : ℕ → ℕ → RingCell → WriterPhase → Core → Core

@@ -1,7 +1,7 @@
 -- How the call for a new ring is answered.
 use Rattle.std.specs.Prelude.{◌≡◌, ◌<◌, ℕ, List, [], length, get_or, All}
 use Rattle.tmw_ring_defs.specs.Sizes.{HasNumbers}
-use Rattle.tmw_ring.specs.Ends.{RingIs, WriterIs, ReaderIs, WriterOf, ReaderOf}
+use Rattle.tmw_ring.specs.RingEnds.{RingIs, WriterIs, ReaderIs, WriterOf, ReaderOf}
 
 -- The writer of this number has claimed nothing and seen nothing, and no step was made.
 pub record IsNewWriter (number : ℕ) (writer : WriterIs) : Type 0 where

@@ -3,10 +3,10 @@ use Rattle.std.specs.Prelude.{◌≡◌, ◌≤◌, ◌<◌, ℕ, List, [], Some
 use mathlib.Core.Option.{some}
 use lib.ListN.{get_elem?}
 use Rattle.atomic_table.specs.Table.{State}
-use Rattle.tmw_events.specs.Packing.{IsHeader}
+use Rattle.tmw_events.specs.EventWords.{IsHeader}
 use Rattle.tmw_events.specs.Text.{FitsKind}
 use Rattle.tmw_events.specs.declared.event.Event.{Event}
-use Rattle.tmw_ring_defs.specs.Ring.{Core, new_core}
+use Rattle.tmw_ring_defs.specs.RingCore.{Core, new_core}
 use Rattle.tmw_ring_defs.specs.RingSound.{IsIn, Sound}
 use Rattle.tmw_ring_defs.specs.Runs.{Runs, Gone}
 use Rattle.tmw_ring_defs.specs.declared.ring_phase.WriterPhase.{WriterPhase}
@@ -15,10 +15,10 @@ use Rattle.tmw_ring_defs.specs.declared.ring_size.RingSize.{RingSize}
 use Rattle.tmw_ring_defs.specs.declared.ring_step.Answered.{Answered}
 use Rattle.tmw_ring.specs.Parts.{Parts, key, run_of, made_from}
 use Rattle.tmw_ring.specs.Words.{words_of}
-use Rattle.tmw_ring.specs.declared.part.Part.{Part}
-use Rattle.tmw_ring.specs.declared.part.Part.TheVariants.{Writes, Reads}
-use Rattle.tmw_ring.specs.declared.part.ReaderPart.{ReaderPart}
-use Rattle.tmw_ring.specs.declared.part.WriterPart.{WriterPart}
+use Rattle.tmw_ring.specs.declared.seat_part.Part.{Part}
+use Rattle.tmw_ring.specs.declared.seat_part.Part.TheVariants.{Writes, Reads}
+use Rattle.tmw_ring.specs.declared.seat_part.ReaderPart.{ReaderPart}
+use Rattle.tmw_ring.specs.declared.seat_part.WriterPart.{WriterPart}
 
 -- What a writer knows is so.
 pub record WriterFits (core : Core) (part : WriterPart) : Type 0 where

@@ -6,7 +6,7 @@ use lib.ListN.{get_elem?}
 use Rattle.atomic_table.specs.Table.{State, Step, Me, Allows}
 use Rattle.tmw_events.specs.declared.event.Kind.{Kind}
 use Rattle.tmw_events.specs.declared.ix.Ix.{Ix}
-use Rattle.tmw_ring_defs.specs.Ring.{Core}
+use Rattle.tmw_ring_defs.specs.RingCore.{Core}
 use Rattle.tmw_ring_defs.specs.RingSteps.{cell_at}
 use Rattle.tmw_ring_defs.specs.Runs.{own, NoneOf, Runs, Gone}
 use Rattle.tmw_ring_defs.specs.declared.ring_size.RingSize.{RingSize}
@@ -16,7 +16,7 @@ use Rattle.tmw_ring_defs.specs.declared.ring_step.Step.TheVariants.{Front, Peek}
 use Rattle.tmw_ring.specs.Parts.{Parts, key, run_of}
 use Rattle.tmw_ring.specs.Rule.{Shown}
 use Rattle.tmw_ring.specs.Words.{words_of}
-use Rattle.tmw_ring.specs.declared.part.Part.{Part}
+use Rattle.tmw_ring.specs.declared.seat_part.Part.{Part}
 
 -- a state of a ring's table, which has no slot, and what a seat of it has
 abbrev pub TableState : Type 0

@@ -8,12 +8,12 @@ use Rattle.tmw_events.specs.declared.ix.Ix.{Ix}
 use Rattle.tmw_ring_defs.specs.declared.ring_phase.ReaderPhase.TheVariants.{Waiting}
 use Rattle.tmw_ring_defs.specs.declared.ring_phase.WriterPhase.TheVariants.{Idle}
 use Rattle.tmw_ring_defs.specs.declared.ring_size.RingSize.{RingSize}
-use Rattle.tmw_ring.specs.Ends.{WriterIs, ReaderIs}
+use Rattle.tmw_ring.specs.RingEnds.{WriterIs, ReaderIs}
 use Rattle.tmw_ring.specs.Parts.{Parts, new_writer, new_reader}
 use Rattle.tmw_ring.specs.Words.{word_count}
-use Rattle.tmw_ring.specs.declared.part.Part.TheVariants.{Writes, Reads}
-use Rattle.tmw_ring.specs.declared.part.ReaderPart.{ReaderPart}
-use Rattle.tmw_ring.specs.declared.part.WriterPart.{WriterPart}
+use Rattle.tmw_ring.specs.declared.seat_part.Part.TheVariants.{Writes, Reads}
+use Rattle.tmw_ring.specs.declared.seat_part.ReaderPart.{ReaderPart}
+use Rattle.tmw_ring.specs.declared.seat_part.WriterPart.{WriterPart}
 
 -- the least size, which stands where a seat has no part
 abbrev pub least_size : RingSize

@@ -3,8 +3,8 @@
 -- one another share a line, so that threads that record at once wait less for each other's. In the code `words_at`
 -- (src/cell_words.rt) says where a cell's words stand, and `join` and `split` of tmw_events make a first word and take it apart.
 use Rattle.std.specs.Prelude.{◌+◌, ◌*◌, ◌/◌, ◌%◌, ℕ, zero, suc, List, [], ◌∷◌, length, get_or}
-use Rattle.tmw_events.specs.Packing.{stamped}
-use Rattle.tmw_ring_defs.specs.Ring.{Core}
+use Rattle.tmw_events.specs.EventWords.{stamped}
+use Rattle.tmw_ring_defs.specs.RingCore.{Core}
 use Rattle.tmw_ring_defs.specs.RingCells.{empty_cell}
 use Rattle.tmw_ring_defs.specs.declared.ring_cell.RingCell.{RingCell}
 

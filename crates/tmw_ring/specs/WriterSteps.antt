@@ -11,9 +11,9 @@ use Rattle.tmw_ring_defs.specs.declared.ring_step.Answered.{Answered}
 use Rattle.tmw_ring_defs.specs.declared.ring_step.Reply.TheVariants.{Saw, Place, Filled, Published}
 use Rattle.tmw_ring_defs.specs.declared.ring_step.Step.TheVariants.{Front, Tail, Claim, Fill, Publish}
 use Rattle.tmw_ring.specs.Parts.{Parts}
-use Rattle.tmw_ring.specs.Recording.{made_at}
+use Rattle.tmw_ring.specs.Record.{made_at}
 use Rattle.tmw_ring.specs.Seats.{writer_in, IsWriter}
-use Rattle.tmw_ring.specs.declared.part.WriterPart.{WriterPart}
+use Rattle.tmw_ring.specs.declared.seat_part.WriterPart.{WriterPart}
 
 -- what a writer knows after it found this front, when the ring has run so
 abbrev pub front_seen : Kind → ℕ → List Answered → WriterPart → WriterPart

@@ -2,29 +2,29 @@
 //! reader know of them.
 #![tactic(auto)]
 
-mod cell_words;
-mod ends;
-mod make;
+mod cell_layout;
 mod meet;
-mod part;
+mod new_ring;
 mod record;
 mod refused;
+mod ring_ends;
 mod room;
 mod rule;
 mod run_laws;
+mod seat_part;
 mod seat_parts;
 mod settle;
 mod settled;
 mod table_words;
 mod take;
 
-pub use ends::{Reader, Ring, Writer};
-pub use make::ring;
-pub use part::{Made, Part, ReaderPart, WriterPart};
+pub use new_ring::ring;
 pub use refused::Refused;
+pub use ring_ends::{Reader, Ring, Writer};
 pub use room::law_room_stays;
 pub use rule::{RingRule, RingSeat, RingTable};
 pub use run_laws::{law_claims, law_runs};
+pub use seat_part::{Made, Part, ReaderPart, WriterPart};
 pub use seat_parts::{AllParts, BothParts, SecondPart};
 pub use settled::Settled;
 pub use tmw_ring_defs::{RingFault, RingSize};

@@ -1,11 +1,11 @@
 //! Two ends of a ring meet: each then knows that the other's places and its own are of one log.
 ghost use Rattle.std.specs.Prelude.{◌≡◌, [], ◌∷◌};
-ghost use Rattle.tmw_ring.specs.Ends.{WriterOf, ReaderOf};
-ghost use Rattle.tmw_ring.specs.Meeting.{HasFoundTail, FindsTail, SeatsHaveMet, HaveMet, WritersHaveMet};
+ghost use Rattle.tmw_ring.specs.RingEnds.{WriterOf, ReaderOf};
+ghost use Rattle.tmw_ring.specs.Meet.{HasFoundTail, FindsTail, SeatsHaveMet, HaveMet, WritersHaveMet};
 
-use crate::ends::{Reader, Ring, Writer};
-use crate::part::Part;
+use crate::ring_ends::{Reader, Ring, Writer};
 use crate::rule::RingSeat;
+use crate::seat_part::Part;
 use crate::seat_parts::{AllParts, BothParts, SecondPart};
 use crate::table_words::TAIL_WORD;
 use atomic_table::Play;

@@ -2,19 +2,19 @@
 //! place.
 ghost use Rattle.std.specs.Prelude.{◌≡◌, ◌<◌, ◌^◌, true, false, IfOk, IfErr};
 ghost use Rattle.tmw_ring_defs.specs.declared.ring_phase.WriterPhase.TheVariants.{Idle, Looked, Cleared, Claimed};
-ghost use Rattle.tmw_events.specs.Packing.{packed_header, kind_value, IsHeader};
+ghost use Rattle.tmw_events.specs.EventWords.{packed_header, kind_value, IsHeader};
 ghost use Rattle.tmw_events.specs.Text.{FitsKind};
-ghost use Rattle.tmw_ring.specs.Ends.{WriterOf};
-ghost use Rattle.tmw_ring.specs.Recording.{HasRecorded, IsRefusal};
+ghost use Rattle.tmw_ring.specs.RingEnds.{WriterOf};
+ghost use Rattle.tmw_ring.specs.Record.{HasRecorded, IsRefusal};
 ghost use Rattle.tmw_ring.specs.Seats.{writer_at, writer_in};
 ghost use Rattle.tmw_ring.specs.Words.{stamp_word, value_word};
 ghost use Rattle.tmw_ring.specs.WriterSteps.{IsSeatOf, HasSeenFront, HasSeenTail, HasClaimed, HasFilled, HasPublished};
 
-use crate::cell_words::{CellWords, words_at};
-use crate::ends::{Ring, Writer};
-use crate::part::Part;
+use crate::cell_layout::{CellWords, words_at};
 use crate::refused::Refused;
+use crate::ring_ends::{Ring, Writer};
 use crate::rule::RingSeat;
+use crate::seat_part::Part;
 use crate::table_words::{FRONT_WORD, TAIL_WORD};
 use atomic_table::Play;
 use std::collections::LinkedList;

@@ -1,11 +1,11 @@
 //! Whether there is room for several records.
 ghost use Rattle.std.specs.Prelude.{IfOk, IfErr};
-ghost use Rattle.tmw_ring.specs.Ends.{WriterOf};
-ghost use Rattle.tmw_ring.specs.Rooms.{FindsFront, HasFoundFront, HasFoundRoom, LacksRoom, RoomStaysLaw};
+ghost use Rattle.tmw_ring.specs.RingEnds.{WriterOf};
+ghost use Rattle.tmw_ring.specs.Room.{FindsFront, HasFoundFront, HasFoundRoom, LacksRoom, RoomStaysLaw};
 
-use crate::ends::{Ring, Writer};
-use crate::part::Part;
 use crate::refused::Refused;
+use crate::ring_ends::{Ring, Writer};
+use crate::seat_part::Part;
 use crate::table_words::FRONT_WORD;
 use atomic_table::Play;
 use std::collections::LinkedList;

@@ -2,7 +2,7 @@
 ghost use Rattle.tmw_ring.specs.Parts.{new_parts};
 ghost use Rattle.tmw_ring.specs.Rule.{Shown};
 
-use crate::part::Part;
+use crate::seat_part::Part;
 use atomic_table::{Seat, Table, TableRule};
 use std::alloc::Global;
 use std::collections::LinkedList;

@@ -1,7 +1,7 @@
 //! What a change of a ring's table can be, whoever makes it.
 ghost use Rattle.tmw_ring.specs.RunLaws.{RunLaw, SeatLaw, EmptySeatLaw, ClaimLaw, NotReadyLaw, FrontLaw, SilentLaw};
 
-use crate::part::Part;
+use crate::seat_part::Part;
 use atomic_table::Play;
 use std::collections::LinkedList;
 

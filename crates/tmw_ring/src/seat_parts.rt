@@ -2,7 +2,7 @@
 ghost use Rattle.std.specs.Prelude.{[], ◌++◌};
 ghost use Rattle.tmw_ring.specs.Seats.{second_alone, without_second};
 
-use crate::part::Part;
+use crate::seat_part::Part;
 use atomic_table::{Join, Split};
 use std::collections::LinkedList;
 

@@ -1,9 +1,9 @@
 //! The end of a running ring, at which all its ends come back.
 ghost use Rattle.std.specs.Prelude.{◌≡◌, ◌++◌, map, length, All};
-ghost use Rattle.tmw_ring.specs.Ends.{ReaderOf, WriterOf};
-ghost use Rattle.tmw_ring.specs.Settling.{AreInOrder, IsSettled, part_of};
+ghost use Rattle.tmw_ring.specs.RingEnds.{ReaderOf, WriterOf};
+ghost use Rattle.tmw_ring.specs.Settle.{AreInOrder, IsSettled, part_of};
 
-use crate::ends::{Reader, Ring, Writer};
+use crate::ring_ends::{Reader, Ring, Writer};
 use crate::rule::RingSeat;
 use crate::seat_parts::BothParts;
 use crate::settled::Settled;

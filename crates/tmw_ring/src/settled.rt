@@ -1,7 +1,7 @@
 //! What a ring leaves, from which the events that nobody took are taken in order.
 ghost use Rattle.std.specs.Prelude.{◌≡◌, [], ◌∷◌, IfSome, IfNone};
 
-use crate::cell_words::words_at;
+use crate::cell_layout::words_at;
 use atomic_table::Closed;
 use std::alloc::Global;
 use std::marker::Model;
@@ -24,7 +24,7 @@ impl Model for Settled {
 
     ghost Value = { List Event };
 
-    ghost use Rattle.tmw_ring.specs.Settling.{events_from, IsLeft};
+    ghost use Rattle.tmw_ring.specs.Settle.{events_from, IsLeft};
 
     ghost view = { λ left. events_from (slots_items left.closed.words) left.cells left.front
         (left.tail - left.front) };

@@ -1,14 +1,14 @@
 //! Taking the next event, in three steps of the reader.
 ghost use Rattle.std.specs.Prelude.{◌≡◌, ◌-◌, ◌<◌, ◌^◌, IfSome, IfNone};
-ghost use Rattle.tmw_ring.specs.Ends.{ReaderOf};
+ghost use Rattle.tmw_ring.specs.RingEnds.{ReaderOf};
 ghost use Rattle.tmw_ring.specs.Seats.{IsWaitingReader};
-ghost use Rattle.tmw_ring.specs.Takes.{IsReadyReader, IsToldReader, StampSeen, ValueRead, PlaceFreed, HasTaken, HasFoundNone};
+ghost use Rattle.tmw_ring.specs.Take.{IsReadyReader, IsToldReader, StampSeen, ValueRead, PlaceFreed, HasTaken, HasFoundNone};
 ghost use Rattle.tmw_ring.specs.Words.{stamp_word, value_word};
 
-use crate::cell_words::{CellWords, words_at};
-use crate::ends::{Reader, Ring};
-use crate::part::Part;
+use crate::cell_layout::{CellWords, words_at};
+use crate::ring_ends::{Reader, Ring};
 use crate::rule::RingSeat;
+use crate::seat_part::Part;
 use crate::table_words::FRONT_WORD;
 use atomic_table::Play;
 use std::collections::LinkedList;

@@ -5,13 +5,13 @@ pub use Rattle.std.proofs.lemmas.List.{get_or-set_other, get_or-set_same, length
 pub use Rattle.std.proofs.lemmas.List.Elements.{All-replicate, All-set, All-weaker}
 pub use Rattle.std.proofs.lemmas.Option.{get_or_from_slice_get, none-some, option_and_then_some, same_Some, slice_get_within, some_pair_parts}
 pub use Rattle.tmw_events.proofs.Unpacks.{unpacked-pack}
-pub use Rattle.tmw_events.specs.Packing.{kind_code, kind_register, kind_value, packed_header}
-pub use Rattle.tmw_events.specs.Unpacking.{unpacked}
+pub use Rattle.tmw_events.specs.EventWords.{kind_code, kind_register, kind_value, packed_header}
+pub use Rattle.tmw_events.specs.EventOfWords.{unpacked}
 pub use Rattle.tmw_events.specs.declared.event.Event.{Event}
 pub use Rattle.tmw_events.specs.declared.event.Kind.{Kind}
 pub use Rattle.tmw_events.specs.declared.ix.Ix.{Ix}
 pub use Rattle.tmw_ring_defs.specs.OneLog.{Announced, AskInOrder, Asks, IsOneLog, OneLogLaw, OneRunLaw, Sequential, announced_by, announces, appended, replies_of, sequential_of, steps_of}
-pub use Rattle.tmw_ring_defs.specs.Ring.{Core, new_core}
+pub use Rattle.tmw_ring_defs.specs.RingCore.{Core, new_core}
 pub use Rattle.tmw_ring_defs.specs.RingCells.{Shows, cell_of, empty_cell, filled, published, set_cell}
 pub use Rattle.tmw_ring_defs.specs.RingMachine.{Machine, after, answered, has_stopped, machine_step, moved, new_machine, replies, writer_of}
 pub use Rattle.tmw_ring_defs.specs.RingSound.{HasRead, Holds, IsHeld, IsIn, IsPublished, Sound, Spares, StepLaw, cleared, one_if_cleared}

@@ -1,6 +1,6 @@
 pub mod OneLog
-pub mod Ring
 pub mod RingCells
+pub mod RingCore
 pub mod RingMachine
 pub mod RingSound
 pub mod RingSteps

@@ -3,7 +3,7 @@ use Rattle.std.specs.Prelude.{◌≡◌, ◌==◌, ◌+◌, ◌++◌, ◌<◌, �
 use Rattle.tmw_events.specs.declared.event.Event.{Event}
 use Rattle.tmw_events.specs.declared.event.Kind.{Kind}
 use Rattle.tmw_events.specs.declared.ix.Ix.{Ix}
-use Rattle.tmw_ring_defs.specs.Ring.{Core, new_core}
+use Rattle.tmw_ring_defs.specs.RingCore.{Core, new_core}
 use Rattle.tmw_ring_defs.specs.RingMachine.{Machine, new_machine, after, replies}
 use Rattle.tmw_ring_defs.specs.RingSound.{Sound, Spares}
 use Rattle.tmw_ring_defs.specs.Runs.{Runs}

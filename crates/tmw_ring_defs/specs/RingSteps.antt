@@ -2,10 +2,10 @@
 -- what the actor then knows.
 use Rattle.std.specs.Prelude.{◌==◌, ◌+◌, ◌++◌, ℕ, true, false, [], ◌∷◌, Option, Some, None, slice_get, slice_set, if◌then◌else◌}
 use Rattle.std.specs.Option.{option_and_then}
-use Rattle.tmw_events.specs.Unpacking.{unpacked}
+use Rattle.tmw_events.specs.EventOfWords.{unpacked}
 use Rattle.tmw_events.specs.declared.event.Kind.{Kind}
 use Rattle.tmw_events.specs.declared.ix.Ix.{Ix}
-use Rattle.tmw_ring_defs.specs.Ring.{Core}
+use Rattle.tmw_ring_defs.specs.RingCore.{Core}
 use Rattle.tmw_ring_defs.specs.RingCells.{cell_of, set_cell, filled, published}
 use Rattle.tmw_ring_defs.specs.Room.{is_spent, is_full, room_phase, room_reply}
 use Rattle.tmw_ring_defs.specs.declared.ring_cell.RingCell.{RingCell}

@@ -2,7 +2,7 @@
 use Rattle.std.specs.Prelude.{◌≡◌, ◌==◌, ◌+◌, ◌++◌, ℕ, List, [], ◌∷◌, Some, if◌then◌else◌}
 use Rattle.tmw_events.specs.declared.event.Event.{Event}
 use Rattle.tmw_events.specs.declared.ix.Ix.{Ix}
-use Rattle.tmw_ring_defs.specs.Ring.{Core, new_core}
+use Rattle.tmw_ring_defs.specs.RingCore.{Core, new_core}
 use Rattle.tmw_ring_defs.specs.RingSteps.{core_step}
 use Rattle.tmw_ring_defs.specs.declared.ring_size.RingSize.{RingSize}
 use Rattle.tmw_ring_defs.specs.declared.ring_step.Answered.{Answered}

@@ -1,14 +1,14 @@
 //! The ring in which events are recorded, as a machine of atomic steps: its definitions, and the laws about them.
 #![tactic(auto)]
 
-mod ring;
+mod laws;
 mod ring_cell;
 mod ring_fault;
 mod ring_phase;
 mod ring_size;
 mod ring_step;
 
-pub use ring::{law_4, law_one_log, law_one_run, law_room};
+pub use laws::{law_4, law_one_log, law_one_run, law_room};
 pub use ring_cell::RingCell;
 pub use ring_fault::RingFault;
 pub use ring_phase::{ReaderPhase, WriterPhase};

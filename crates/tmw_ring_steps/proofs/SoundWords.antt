@@ -2,13 +2,13 @@
 use Rattle.tmw_ring_steps.proofs.Shared.{Bool, HasRead, IsIn, Machine, Reply, Sound, [], answered, ap, arith, length, subst, ℕ, ◌++◌, ◌+◌, ◌<◌, ◌^◌, ◌∷◌, ◌≡◌}
 use Rattle.std.proofs.lemmas.Option.{slice_get_within}
 use Rattle.tmw_events.proofs.Unpacks.{unpacked-words, pack-words}
-use Rattle.tmw_events.specs.Packing.{pack, kind_value}
+use Rattle.tmw_events.specs.EventWords.{pack, kind_value}
 use Rattle.tmw_events.specs.Text.{FitsKind}
-use Rattle.tmw_events.specs.Unpacking.{AreOfEvent}
+use Rattle.tmw_events.specs.EventOfWords.{AreOfEvent}
 use Rattle.tmw_events.specs.declared.event.Event.{Event}
 use Rattle.tmw_events.specs.declared.event.Kind.{Kind}
 use Rattle.tmw_events.specs.declared.event.Kind.TheVariants.{R, V, W, K, T, C, X, A, N}
-use Rattle.tmw_ring_defs.specs.Ring.{Core}
+use Rattle.tmw_ring_defs.specs.RingCore.{Core}
 use Rattle.tmw_ring_defs.specs.RingSteps.{core_step}
 use Rattle.tmw_ring_defs.specs.declared.ring_phase.ReaderPhase.TheVariants.{Waiting, Told}
 use Rattle.tmw_ring_defs.specs.declared.ring_phase.WriterPhase.{WriterPhase}

@@ -1,5 +1,5 @@
 -- The machine that a state stands for.
-use Rattle.tmw_ring_defs.specs.Ring.{Core}
+use Rattle.tmw_ring_defs.specs.RingCore.{Core}
 use Rattle.tmw_ring_defs.specs.RingMachine.{Machine}
 use Rattle.tmw_ring_steps.specs.declared.ring_state.RingState.{RingState}
 

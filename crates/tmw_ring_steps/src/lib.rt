@@ -2,11 +2,11 @@
 //! answered.
 #![tactic(auto)]
 
-mod reading;
+mod reader_steps;
 mod ring_state;
 mod sim;
-mod stepping;
-mod writing;
+mod step;
+mod writer_steps;
 
 pub use sim::Sim;
 pub use tmw_ring_defs::{Reply, RingFault, RingSize, Step};

@@ -1,13 +1,13 @@
 pub mod Calls
-pub mod Completing
-pub mod LeavingCalls
-pub mod LeavingSteps
+pub mod Completions
+mod Examples
+pub mod Leaves
+pub mod LeavesCalls
 pub mod LongerRuns
 pub mod NeverMalformed
-mod Placed
+mod Places
 mod Shared
-pub mod StandingSteps
+pub mod Stands
 pub mod TurnsOfRuns
 pub mod WellFormed
 pub mod WholeRuns
-mod Worked

@@ -12,9 +12,9 @@ pub use Rattle.tmw_events.specs.declared.event.Kind.TheVariants.{A, C, K, N, R, 
 pub use Rattle.tmw_tm.specs.Answers.{Answer, Call}
 pub use Rattle.tmw_tm.specs.Answers.Answer.{Abort, Done, Value}
 pub use Rattle.tmw_tm.specs.Answers.Call.{Add, Begin, Commit, Read, Write}
-pub use Rattle.tmw_runs.specs.Law.{FormedLaw, OverLaw, PlacedLaw, RunsLaw, StepLaw}
+pub use Rattle.tmw_runs.specs.Laws.{FormedLaw, OverLaw, PlacedLaw, RunsLaw, StepLaw}
 pub use Rattle.tmw_runs.specs.Runs.{BeginsScript, IsBeginning, IsWholeRun, IsWholeText, is_abort}
 pub use Rattle.tmw_runs.specs.Scripts.{are_calls, are_transactions, is_operation, is_request, is_transaction}
-pub use Rattle.tmw_runs.specs.Standing.{AllStand, Gives, Stands, StandsSoFar}
-pub use Rattle.tmw_runs.specs.Turning.{Follows, IsByTurns, IsPlaced, LeavesCalls}
+pub use Rattle.tmw_runs.specs.Stands.{AllStand, Gives, Stands, StandsSoFar}
+pub use Rattle.tmw_runs.specs.ByTurns.{Follows, IsByTurns, IsPlaced, LeavesCalls}
 pub use Rattle.tmw_runs.specs.Turns.{is_turns}

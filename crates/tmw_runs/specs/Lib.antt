@@ -1,7 +1,7 @@
-pub mod Law
-pub mod Leaving
+pub mod ByTurns
+pub mod Laws
+pub mod Leaves
 pub mod Runs
 pub mod Scripts
-pub mod Standing
-pub mod Turning
+pub mod Stands
 pub mod Turns

@@ -2,10 +2,10 @@
 //! caller makes each call itself and tells the answer.
 #![tactic(auto)]
 
-mod fitting;
-mod law;
-mod placing;
+mod answers_fit;
+mod call_place;
+mod laws;
 
-pub use fitting::{fits, is_abort};
-pub use law::{law_runs, law_turns};
-pub use placing::is_placed;
+pub use answers_fit::{fits, is_abort};
+pub use call_place::is_placed;
+pub use laws::{law_runs, law_turns};

@@ -1,18 +1,18 @@
-mod Adding
-pub mod ForcedEnds
+mod AddMembers
+mod AllCompletions
+pub mod Bits
+mod Branches
+pub mod Chosen
+mod Consequences
+mod LastWriters
 mod LayerLists
 pub mod LayerSteps
-mod Shared
-pub mod Chosen
-pub mod WindowViews
-pub mod Bits
-mod Passing
+mod LegalOrdersProof
 mod Nodes
-mod Branching
-mod Lasting
-mod Ranked
-mod Law
-mod Answering
-mod Reading
-mod Rooting
-mod Completing
+pub mod OneEnd
+mod Ranks
+mod ReadSteps
+mod RootNode
+mod SearchAnswers
+mod Shared
+pub mod WindowViews

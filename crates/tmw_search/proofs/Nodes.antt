@@ -1,7 +1,7 @@
 -- What the legal orders of a node are where more is known, and where a read is given its source.
-use Rattle.tmw_search.proofs.Shared.{AllSettled, Before, Bool, Choices, Chosen, Effect, From, Has, HasNone, In, IsBetween, IsFound, IsLegal, IsNode, IsOrder, IsRanking, IsRead, IsSound, IsTrue, List, Narrows, Node, Open, Reads, SettledSource, Settles, Source, Sourced, State, Writes, arith, false, inl, inr, ordered, refl, slice_index, source_at, subst, sym, ℕ, ◌<◌, ◌≡◌, ◌⊎◌, cond, count_by, FromIs, Gives, Holds, Leaves, MayGive, Needs, WithinSource, ap, bit_at, bit_or, get_or, get_or-set_other, get_or-set_same, idle, is_open, length, set, ◌%◌, ◌*◌, ◌+◌, ◌^◌, ◌↔◌, ◌∙◌}
+use Rattle.tmw_search.proofs.Shared.{AllSettled, Before, Bool, Choices, Chosen, Effect, From, Has, HasNone, In, IsBetween, IsFound, IsLegal, IsNode, IsOrder, IsRanking, IsRead, IsSound, IsTrue, List, Narrows, Node, Open, Reads, SettledSource, Settles, ReadSource, Sourced, State, Writes, arith, false, inl, inr, ordered, refl, slice_index, source_at, subst, sym, ℕ, ◌<◌, ◌≡◌, ◌⊎◌, cond, count_by, FromIs, Gives, Holds, Leaves, MayGive, Needs, WithinSource, ap, bit_at, bit_or, get_or, get_or-set_other, get_or-set_same, idle, is_open, length, set, ◌%◌, ◌*◌, ◌+◌, ◌^◌, ◌↔◌, ◌∙◌}
 use Rattle.tmw_search.proofs.Bits.{same_place, masks}
-use Rattle.tmw_search.proofs.Passing.{Grows, rank_of, order-ranks}
+use Rattle.tmw_search.proofs.Consequences.{Grows, rank_of, order-ranks}
 use Rattle.std.proofs.lemmas.List.Sums.{sum_by-set}
 
 pub ranking-less : (old new : List ℕ) (rank : ℕ → ℕ) → Grows old new → IsRanking rank new → IsRanking rank old
@@ -13,7 +13,7 @@ pub settles-with : (xs : List Effect) (start : State) (may : ℕ) (old new : Nod
     → ((k : ℕ) → k < 8 → In old.held k → In new.held k) → ((k : ℕ) → k < 8 → In new.held k → In old.held k ⊎ In may k)
     → Settles xs start may old j r → Settles xs start may new j r
 settles-with xs start may old new j r less same more only s held rank ranks has among =
-    subst (λ (source : Source). Reads xs held start rank j r source) (sym same)
+    subst (λ (source : ReadSource). Reads xs held start rank j r source) (sym same)
     (s held rank (less rank ranks) (λ k within is. has k within (more k within is))
     (λ k within is. elim (among k within is) [ inl own ↦ only k within own | inr might ↦ inr might ]))
 
@@ -34,7 +34,7 @@ node-ordered {xs = xs} {start = start} {may = may} {node = node} {reach = reach}
 }
 
 -- a source that the ranking reads from is its last writer among those that are held
-pub reads-sourced : (xs : List Effect) (start : State) (held : ℕ) (rank : ℕ → ℕ) (j r writers : ℕ) (source : Source)
+pub reads-sourced : (xs : List Effect) (start : State) (held : ℕ) (rank : ℕ → ℕ) (j r writers : ℕ) (source : ReadSource)
     → ((k : ℕ) → k < 8 → In writers k → Writes xs held r k) → Reads xs held start rank j r source → Sourced writers j source rank
 reads-sourced = grind arith
 
@@ -78,7 +78,7 @@ found-less grows f = found-from (λ held rank l. legal-less grows l) f
 pub before-of : (reach : List ℕ) (rank : ℕ → ℕ) (i j : ℕ) → i < 8 → j < 8 → IsRanking rank reach → Has reach i j → (i ≡ j → ⊥) → rank i < rank j
 before-of = grind arith
 
-pub sourced-reads : (xs : List Effect) (start : State) (held : ℕ) (rank : ℕ → ℕ) (reach : List ℕ) (j r writers : ℕ) (source : Source) → j < 8
+pub sourced-reads : (xs : List Effect) (start : State) (held : ℕ) (rank : ℕ → ℕ) (reach : List ℕ) (j r writers : ℕ) (source : ReadSource) → j < 8
     → (source ≡ Open → ⊥) → ((k : ℕ) → Writes xs held r k → In writers k) → IsSound xs start held j r source → IsRanking rank reach
     → SettledSource writers j source reach → Reads xs held start rank j r source
 sourced-reads = grind (arith, before-of)
@@ -127,22 +127,22 @@ none-sides n b m q none_one none_other = λ held rank l.
 pub set_or : (mask i k : ℕ) → i < 8 → In (bit_or mask (1 * 2 ^ i % 2 ^ 8)) k ↔ (In mask k ⊎ (k ≡ i))
 set_or mask i k within = grind (arith, masks)
 
-abbrev opened : Source → ℕ
+abbrev opened : ReadSource → ℕ
 opened source = cond (is_open source) 1 0
 
-closed-zero : (source : Source) → (source ≡ Open → ⊥) → opened source ≡ 0
+closed-zero : (source : ReadSource) → (source ≡ Open → ⊥) → opened source ≡ 0
 closed-zero = grind arith
 
 -- the source of a read is chosen
-pub opens-less : (sources : List Source) (k : ℕ) (source : Source) → k < length sources → get_or sources k Open ≡ Open
+pub opens-less : (sources : List ReadSource) (k : ℕ) (source : ReadSource) → k < length sources → get_or sources k Open ≡ Open
     → (source ≡ Open → ⊥) → count_by is_open (set sources k source) < count_by is_open sources
 opens-less = grind (arith, sum_by-set, closed-zero)
 
-pub given-closed : (xs : List Effect) (start : State) (may : ℕ) (node : Node) (j r : ℕ) (source : Source) → MayGive xs start may node j r source
+pub given-closed : (xs : List Effect) (start : State) (may : ℕ) (node : Node) (j r : ℕ) (source : ReadSource) → MayGive xs start may node j r source
     → source ≡ Open → ⊥
 given-closed = grind arith
 
-pub sound-more : (xs : List Effect) (start : State) (old new j r : ℕ) (source : Source) → ((k : ℕ) → k < 8 → In old k → In new k)
+pub sound-more : (xs : List Effect) (start : State) (old new j r : ℕ) (source : ReadSource) → ((k : ℕ) → k < 8 → In old k → In new k)
     → IsSound xs start old j r source → IsSound xs start new j r source
 sound-more = grind arith
 
@@ -169,7 +169,7 @@ held-with xs start may i old new within given n reach sources held members write
       | inl was ↦ elim (n.rest a q within_a within_q was needs) [
         | inl read ↦ inl (reads.kept a q within_a within_q read)
         | inr settles ↦ inr (settles-with xs start may old new a q (λ rank ranks. subst (λ (m : List ℕ). IsRanking rank m) reach ranks)
-            (ap (λ (s : List Source). get_or s (8 * a + q) Open) sources) (λ k few is. (held k few).1 (inl is))
+            (ap (λ (s : List ReadSource). get_or s (8 * a + q) Open) sources) (λ k few is. (held k few).1 (inl is))
             (λ k few is. elim ((held k few).0 is) [
               | inl own ↦ inl own
               | inr same ↦ elim given [
@@ -182,7 +182,7 @@ held-with xs start may i old new within given n reach sources held members write
     members = grind (arith, masks);
     agree = grind (arith, masks);
     sound = λ j r within_j within_r.
-        subst (λ (s : List Source). IsSound xs start new.held j r (get_or s (8 * j + r) Open)) (sym sources)
+        subst (λ (s : List ReadSource). IsSound xs start new.held j r (get_or s (8 * j + r) Open)) (sym sources)
         (sound-more xs start old.held new.held j r (source_at old.choices j r) (λ k few is. (held k few).1 (inl is)) (n.sound j r within_j within_r));
   };
   reach = reach;
@@ -192,51 +192,51 @@ held-with xs start may i old new within given n reach sources held members write
   reads = reads.kept;
 }
 
-pub mid-same : {xs : List Effect} {start : State} {may : ℕ} {source : Source} {node : Node} → IsNode xs start may node
+pub mid-same : {xs : List Effect} {start : State} {may : ℕ} {source : ReadSource} {node : Node} → IsNode xs start may node
     → ((k : ℕ) → FromIs source k → ⊥) → Holds xs start may source node node
 mid-same = grind arith
 
 -- the node with the source of a read chosen
-abbrev pub chosen : Node → ℕ → ℕ → Source → Node
+abbrev pub chosen : Node → ℕ → ℕ → ReadSource → Node
 chosen node j r source = record node { choices = record node.choices { sources = set node.choices.sources (8 * j + r) source } }
 
-pub chosen-here : (node : Node) (j r : ℕ) (source : Source) → j < 8 → r < 8 → length node.choices.sources ≡ 64
+pub chosen-here : (node : Node) (j r : ℕ) (source : ReadSource) → j < 8 → r < 8 → length node.choices.sources ≡ 64
     → source_at (chosen node j r source).choices j r ≡ source
 chosen-here = grind (arith, get_or-set_same)
 
-pub chosen-else : (node : Node) (j r : ℕ) (source : Source) (a q : ℕ) → r < 8 → q < 8 → ((a ≡ j) × (q ≡ r) → ⊥)
+pub chosen-else : (node : Node) (j r : ℕ) (source : ReadSource) (a q : ℕ) → r < 8 → q < 8 → ((a ≡ j) × (q ≡ r) → ⊥)
     → source_at (chosen node j r source).choices a q ≡ source_at node.choices a q
 chosen-else = grind (arith, get_or-set_other)
 
-given-sound : (xs : List Effect) (start : State) (may held j r : ℕ) (node : Node) (source : Source) → ((k : ℕ) → k < 8 → FromIs source k → In held k)
+given-sound : (xs : List Effect) (start : State) (may held j r : ℕ) (node : Node) (source : ReadSource) → ((k : ℕ) → k < 8 → FromIs source k → In held k)
     → MayGive xs start may node j r source → IsSound xs start held j r source
 given-sound = grind arith
 
 -- what is read from a source is read
-given-open : (xs : List Effect) (held : ℕ) (start : State) (rank : ℕ → ℕ) (j r : ℕ) (source : Source) → Reads xs held start rank j r source
+given-open : (xs : List Effect) (held : ℕ) (start : State) (rank : ℕ → ℕ) (j r : ℕ) (source : ReadSource) → Reads xs held start rank j r source
     → Reads xs held start rank j r Open
 given-open = grind arith
 
 -- a source that is read from is held
-read-held : (xs : List Effect) (held : ℕ) (start : State) (rank : ℕ → ℕ) (j r : ℕ) (source : Source) → Reads xs held start rank j r source
+read-held : (xs : List Effect) (held : ℕ) (start : State) (rank : ℕ → ℕ) (j r : ℕ) (source : ReadSource) → Reads xs held start rank j r source
     → (k : ℕ) → FromIs source k → In held k
 read-held = grind arith
 
-pub may-agree : (xs : List Effect) (start : State) (may : ℕ) (node : Node) (j r : ℕ) (source : Source) → MayGive xs start may node j r source
+pub may-agree : (xs : List Effect) (start : State) (may : ℕ) (node : Node) (j r : ℕ) (source : ReadSource) → MayGive xs start may node j r source
     → (k : ℕ) → FromIs source k → In node.held k ⊎ (In may k × IsTrue (get_or xs k idle).agrees)
 may-agree = grind arith
 
 pub is_pair : (a q j r : ℕ) → ((a ≡ j) × (q ≡ r)) ⊎ ((a ≡ j) × (q ≡ r) → ⊥)
 is_pair = grind (arith, same_place)
 
-pub gives-of : {xs : List Effect} {start : State} {may : ℕ} {node mid : Node} {j r : ℕ} {source : Source} → j < 8 → r < 8
+pub gives-of : {xs : List Effect} {start : State} {may : ℕ} {node mid : Node} {j r : ℕ} {source : ReadSource} → j < 8 → r < 8
     → IsRead node.choices j r → source_at node.choices j r ≡ Open → IsNode xs start may node → MayGive xs start may node j r source
     → Holds xs start may source node mid → length mid.choices.sources ≡ 64 → Gives xs start may node j r source (chosen mid j r source)
 gives-of {xs = xs} {start = start} {may = may} {node = node} {mid = mid} {j = j} {r = r} {source = source} within_j within_r read free n m d long =
     let next = chosen mid j r source in
     let here : source_at next.choices j r ≡ source = chosen-here mid j r source within_j within_r long in
     let other : (a q : ℕ) → q < 8 → ((a ≡ j) × (q ≡ r) → ⊥) → source_at next.choices a q ≡ source_at node.choices a q =
-    λ a q few differ. chosen-else mid j r source a q within_r few differ ∙ ap (λ (s : List Source). get_or s (8 * a + q) Open) d.sources in
+    λ a q few differ. chosen-else mid j r source a q within_r few differ ∙ ap (λ (s : List ReadSource). get_or s (8 * a + q) Open) d.sources in
     record {
       is = record {
         order = d.is.order;
@@ -255,7 +255,7 @@ gives-of {xs = xs} {start = start} {may = may} {node = node} {mid = mid} {j = j}
         sound = λ a q within_a within_q. elim (is_pair a q j r) [
           | inl (same, is) ↦ rw (same, is, here) (given-sound xs start may mid.held j r node source (λ k few of. (d.held k few).1 (inr of)) m)
           | inr differ ↦
-              subst (λ (s : Source). IsSound xs start mid.held a q s) (sym (chosen-else mid j r source a q within_r within_q differ))
+              subst (λ (s : ReadSource). IsSound xs start mid.held a q s) (sym (chosen-else mid j r source a q within_r within_q differ))
               (d.is.sound a q within_a within_q)
         ];
       };
@@ -268,7 +268,7 @@ gives-of {xs = xs} {start = start} {may = may} {node = node} {mid = mid} {j = j}
             let given = l.reads a q within_a within_q (elim is [ inl was ↦ inl ((d.members a within_a).1 (inl was)) | inr holds ↦ inr holds ]) needs in
             elim (is_pair a q j r) [
               | inl (same, at) ↦ rw (same, at, free) (given-open xs held start rank j r source (rw (same, at, here) at given))
-              | inr differ ↦ subst (λ (s : Source). Reads xs held start rank a q s) (other a q within_q differ) given
+              | inr differ ↦ subst (λ (s : ReadSource). Reads xs held start rank a q s) (other a q within_q differ) given
             ];
       };
       onto = λ held rank l from. record {
@@ -279,7 +279,7 @@ gives-of {xs = xs} {start = start} {may = may} {node = node} {mid = mid} {j = j}
         reads = λ a q within_a within_q is needs. elim (is_pair a q j r) [
           | inl (same, at) ↦ rw (same, at, here) from
           | inr differ ↦
-              subst (λ (s : Source). Reads xs held start rank a q s) (sym (other a q within_q differ))
+              subst (λ (s : ReadSource). Reads xs held start rank a q s) (sym (other a q within_q differ))
               (l.reads a q within_a within_q (before held rank a within_a from is) needs)
         ];
       };
@@ -307,6 +307,6 @@ pub reads-same : (xs : List Effect) (start : State) (may i : ℕ) (node new : No
     → new.choices.reads ≡ node.choices.reads → HasReads xs node new
 reads-same xs start may i node new has n members same = record { only = grind (arith, masks); kept = grind (arith, masks); all = grind (arith, masks) }
 
-pub may-within : (xs : List Effect) (start : State) (may : ℕ) (node : Node) (j r : ℕ) (source : Source) → MayGive xs start may node j r source
+pub may-within : (xs : List Effect) (start : State) (may : ℕ) (node : Node) (j r : ℕ) (source : ReadSource) → MayGive xs start may node j r source
     → WithinSource source
 may-within = grind arith

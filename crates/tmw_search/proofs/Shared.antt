@@ -19,9 +19,9 @@ pub use Rattle.tmw_cuts.proofs.Bits.{bit_at-before_of, bit_at-less_same, bit_at-
 pub use Rattle.tmw_cuts.proofs.FirstMembers.{contains_cases, contains_here, contains_none}
 pub use Rattle.tmw_cuts.specs.Members.{AddsMember, members}
 pub use Rattle.tmw_cuts.specs.Registers.{IsMaskOf, have}
-pub use Rattle.tmw_cuts.specs.Standing.{StandsFor, before_of, view_of, views, views_of}
+pub use Rattle.tmw_cuts.specs.StandsFor.{StandsFor, before_of, view_of, views, views_of}
 pub use Rattle.tmw_cuts.specs.Views.{View, bit, effect_of, view}
-pub use Rattle.tmw_cuts.specs.Written.{needs, writes}
+pub use Rattle.tmw_cuts.specs.RegisterUse.{needs, writes}
 pub use Rattle.tmw_cuts.specs.declared.effect.Effect.{Effect}
 pub use Rattle.tmw_cuts.specs.declared.states.States.{States}
 pub use Rattle.tmw_cuts.specs.declared.window.Window.{Window}
@@ -39,18 +39,18 @@ pub use Rattle.tmw_defs.specs.declared.op.Op.{Op}
 pub use Rattle.tmw_defs.specs.declared.status.Status.{Status}
 pub use Rattle.tmw_defs.specs.declared.status.Status.TheVariants.{Aborted, Committed, Live, Pending}
 pub use Rattle.tmw_events.specs.declared.event.Event.{Event}
-pub use Rattle.tmw_search.specs.Order.{AllSettled, Chosen, ChosenBy, FromStart, IfClear, IfStuck, IsBetween, IsOut, IsRead, IsSettled, IsSource, Passes, SettledBy, SettledSource, Sourced, Within, WithinSource, lives, source_at, is_open, opens, room, Before, Has, IsOrder, IsRanking, Joins, Narrows, Out}
-pub use Rattle.tmw_search.specs.Last.{Adds, AreEndsFrom, ComeBefore, ComesLast, Completes, EndWith, EndsByMore, EndsByReading, EndsFromAll, IsEndOf, IsPutLast, LeftByOne}
-pub use Rattle.tmw_search.specs.Ended.{AreEnds, AreMembers, EndsOf, Replaces, TellsEnd}
-pub use Rattle.tmw_search.specs.ForcedTransactions.{AreForced, IsForced, is_blind_writer, is_committed, is_writer}
+pub use Rattle.tmw_search.specs.Precedence.{AllSettled, Chosen, ChosenBy, FromStart, IfClear, IfStuck, IsBetween, IsOut, IsRead, IsSettled, IsSource, Passes, SettledBy, SettledSource, Sourced, Within, WithinSource, lives, source_at, is_open, opens, room, Before, Has, IsOrder, IsRanking, Joins, Narrows, Out}
+pub use Rattle.tmw_search.specs.LastWriters.{Adds, AreEndsFrom, ComeBefore, ComesLast, Completes, EndWith, EndsByMore, EndsByReading, EndsFromAll, IsEndOf, IsPutLast, LeftByOne}
+pub use Rattle.tmw_search.specs.EndStates.{AreEnds, AreMembers, EndsOf, Replaces, TellsEnd}
+pub use Rattle.tmw_search.specs.OneEnd.{AreForced, IsForced, is_blind_writer, is_committed, is_writer}
 pub use Rattle.tmw_search.specs.Layers.{InLayer, LeavesNone, chosen, Follows, IsFirst, Makes, MakesAt, pair_cmp}
-pub use Rattle.tmw_search.specs.Legal.{AllOpen, Entails, FromIs, Gives, HasNone, Holds, In, IsBranch, IsFound, IsLegal, IsNode, IsOnly, IsSound, KeepsOthers, Leaves, LeavesOut, MayBe, MayGive, Needs, NoneMay, TakesIn, Reads, ReadsFrom, ReadsStart, Settles, Writes, effects, idle, left_at, looking, need_at, ordered}
-unfoldable pub use Rattle.tmw_search.specs.Order.{room_of}
-pub use Rattle.tmw_search.specs.Polygraph.{ActAs, ActsAs, AreRanked, EndsAt, EndsIn, IsCompletion, IsLast, IsSerial, RanksTo, ShowsOrder, members_of, Agree, AreRising, Begins, Explains, HasEight, HaveEight, IsRoot, IsRow, Marks, NoneBeforeItself, NoneExplains, ReadsAll, Refutes, ShowsStatus, ShowsTransaction, ShowsTransactions, has_asked, has_committed, orderly}
+pub use Rattle.tmw_search.specs.NodeOrders.{AllOpen, Entails, FromIs, Gives, HasNone, Holds, In, IsBranch, IsFound, IsLegal, IsNode, IsOnly, IsSound, KeepsOthers, Leaves, LeavesOut, MayBe, MayGive, Needs, NoneMay, TakesIn, Reads, ReadsFrom, ReadsStart, Settles, Writes, effects, idle, left_at, looking, need_at, ordered}
+unfoldable pub use Rattle.tmw_search.specs.Precedence.{room_of}
+pub use Rattle.tmw_search.specs.LegalOrders.{ActAs, ActsAs, AreRanked, EndsAt, EndsIn, IsCompletion, IsLast, IsSerial, RanksTo, ShowsOrder, members_of, Agree, AreRising, Begins, Explains, HasEight, HaveEight, IsRoot, IsRow, Marks, NoneBeforeItself, NoneExplains, ReadsAll, Refutes, ShowsStatus, ShowsTransaction, ShowsTransactions, has_asked, has_committed, orderly}
 pub use Rattle.tmw_search.specs.declared.node.Branch.{Branch}
 pub use Rattle.tmw_search.specs.declared.node.Node.{Node}
-pub use Rattle.tmw_search.specs.declared.settle.Found.{Found}
-pub use Rattle.tmw_search.specs.declared.settle.Found.TheVariants.{Clear, Never, Stuck}
-pub use Rattle.tmw_search.specs.declared.sources.Choices.{Choices}
-pub use Rattle.tmw_search.specs.declared.sources.Source.{Source}
-pub use Rattle.tmw_search.specs.declared.sources.Source.TheVariants.{From, Open, Start}
+pub use Rattle.tmw_search.specs.declared.consequence.Consequence.{Consequence}
+pub use Rattle.tmw_search.specs.declared.consequence.Consequence.TheVariants.{Clear, Never, Stuck}
+pub use Rattle.tmw_search.specs.declared.choices.Choices.{Choices}
+pub use Rattle.tmw_search.specs.declared.choices.ReadSource.{ReadSource}
+pub use Rattle.tmw_search.specs.declared.choices.ReadSource.TheVariants.{From, Open, Start}

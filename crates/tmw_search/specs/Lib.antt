@@ -1,7 +1,7 @@
-pub mod Ended
-pub mod ForcedTransactions
-pub mod Last
+pub mod EndStates
+pub mod LastWriters
 pub mod Layers
-pub mod Legal
-pub mod Order
-pub mod Polygraph
+pub mod LegalOrders
+pub mod NodeOrders
+pub mod OneEnd
+pub mod Precedence

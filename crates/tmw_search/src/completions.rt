@@ -3,19 +3,19 @@ ghost use Rattle.std.specs.Prelude.{◌≡◌, ◌↔◌, ◌<◌, ◌≤◌, �
 ghost use Rattle.std.specs.List.{Contains};
 ghost use Rattle.tmw_cuts.specs.Members.{members};
 ghost use Rattle.tmw_defs.specs.Opaque.{State};
-ghost use Rattle.tmw_search.specs.Order.{IsRead, IsOrder};
-ghost use Rattle.tmw_search.specs.Last.{AreEndsFrom, EndsByReading, EndsFromAll, EndsByMore, IsEndOf, Adds};
-ghost use Rattle.tmw_search.specs.Legal.{In, effects, IsNode, AllOpen, Entails};
-ghost use Rattle.tmw_search.specs.Polygraph.{ReadsAll};
+ghost use Rattle.tmw_search.specs.Precedence.{IsRead, IsOrder};
+ghost use Rattle.tmw_search.specs.LastWriters.{AreEndsFrom, EndsByReading, EndsFromAll, EndsByMore, IsEndOf, Adds};
+ghost use Rattle.tmw_search.specs.NodeOrders.{In, effects, IsNode, AllOpen, Entails};
+ghost use Rattle.tmw_search.specs.LegalOrders.{ReadsAll};
 
+use crate::choices::Choices;
+use crate::end_set::EndSet;
 use crate::end_states::EndStates;
-use crate::found::Found;
-use crate::last::{add_last, is_plain, put_known};
+use crate::last_writers::{add_last, is_plain, put_known};
 use crate::node::Node;
-use crate::pass::settle;
-use crate::reads::read_all;
+use crate::read_consequences::read_all;
 use crate::root::{all_agree, order_of, orderly, root_of, statuses_of};
-use crate::sources::Choices;
+use crate::settle_all::settle;
 use std::alloc::{AllocError, Global};
 use tmw_cuts::{State, Txn, lowest};
 use tmw_defs::Criterion;
@@ -78,7 +78,7 @@ fn add_from(
     items: &[Txn],
     start: &State,
     reading: &Reading,
-    found: &mut Found,
+    found: &mut EndSet,
 ) -> Result<bool, AllocError>
     requires { IsTrue reading.now.alive → IsNode (effects items.now) reading.now.start 0 reading.now.node }
     ensures adds { IfOk result (λ done. Adds done (members found.old.ends) (members found.new.ends)
@@ -147,7 +147,7 @@ fn add_all(
     items: &[Txn],
     starts: &[State],
     root: &Node,
-    found: &mut Found,
+    found: &mut EndSet,
 ) -> Result<bool, AllocError>
     requires node { (start : State) → IsNode (effects items.now) start 0 root.now }
     requires waits { AllOpen root.now.choices.reads root.now }
@@ -181,7 +181,7 @@ fn add_held(
     starts: &[State],
     reach: &[u8; 8],
     held: u8,
-    found: &mut Found,
+    found: &mut EndSet,
 ) -> Result<bool, AllocError>
     requires few { length items.now ≤ 8 }
     requires order { IsOrder reach.now }
@@ -207,7 +207,7 @@ pub fn add_completions(
     reach: &[u8; 8],
     held: u8,
     left: u8,
-    found: &mut Found,
+    found: &mut EndSet,
 ) -> Result<bool, AllocError>
     requires few { length items.now ≤ 8 }
     requires order { IsOrder reach.now }
@@ -245,7 +245,7 @@ pub fn find_ends(
     let reach = order_of(items, orderly(criterion, &statuses));
     let held = statuses.committed;
     let left = statuses.pending;
-    let mut found = Found::none(alloc, cap);
+    let mut found = EndSet::none(alloc, cap);
     if !add_completions(criterion, items, starts, &reach, held, left, &mut found)? {
         return Ok(EndStates::Many);
     }

@@ -2,34 +2,34 @@
 //! whom and who reads from whom. Layers tell by opacity what each part of the window may end in.
 #![tactic(auto)]
 
+mod choices;
 #[tactic(auto, using(crate::proofs::Bits::masks))]
 mod completions;
+mod consequence;
 mod effects;
+mod end_set;
 mod end_states;
-mod ends;
-mod find;
-mod forced;
-mod found;
+mod find_serial_order;
 #[tactic(auto, using(crate::proofs::Bits::masks))]
-mod last;
+mod last_writers;
+mod layer_steps;
 mod layers;
-mod nexts;
 mod node;
-mod order;
-mod pass;
+mod one_end;
+mod precedence;
 #[tactic(auto, using(crate::proofs::Bits::masks))]
-mod reads;
+mod read_consequences;
 #[tactic(auto, using(crate::proofs::Bits::masks))]
 mod root;
 #[tactic(auto, using(crate::proofs::Bits::masks))]
 mod search;
-mod settle;
-mod sources;
-mod steps;
+mod serial_order;
+mod settle_all;
+mod window_outcomes;
 
 pub use end_states::EndStates;
-pub use ends::{outcomes, possible, replace_by_outcomes};
-pub use find::find_order;
+pub use find_serial_order::find_order;
+pub use layer_steps::{is_next, may_hold};
 pub use layers::layer;
-pub use nexts::{is_next, may_hold};
-pub use steps::{Order, Step};
+pub use serial_order::{SerialOrder, SerialStep};
+pub use window_outcomes::{outcomes, possible, replace_by_outcomes};

@@ -2,15 +2,15 @@
 ghost use Rattle.std.specs.Prelude.{◌≡◌, ◌<◌, ◌≤◌, ◌↔◌, ℕ, IsTrue, get_or, length, map};
 ghost use Rattle.tmw_cuts.specs.Views.{view};
 ghost use Rattle.tmw_defs.specs.Opaque.{State};
-ghost use Rattle.tmw_search.specs.declared.sources.Source.TheVariants.{Open};
-ghost use Rattle.tmw_search.specs.Legal.{In, effects, IsNode};
-ghost use Rattle.tmw_search.specs.Order.{IsOrder};
-ghost use Rattle.tmw_search.specs.Polygraph.{members_of, Agree, Begins, IsRow, IsRoot, AreRising, ShowReads, ShowWriters, orderly, HaveEight, ShowsStatus};
+ghost use Rattle.tmw_search.specs.declared.choices.ReadSource.TheVariants.{Open};
+ghost use Rattle.tmw_search.specs.NodeOrders.{In, effects, IsNode};
+ghost use Rattle.tmw_search.specs.Precedence.{IsOrder};
+ghost use Rattle.tmw_search.specs.LegalOrders.{members_of, Agree, Begins, IsRow, IsRoot, AreRising, ShowReads, ShowWriters, orderly, HaveEight, ShowsStatus};
 
+use crate::choices::{Choices, ReadSource};
 use crate::effects::{agrees, needed_at, written_at};
 use crate::node::Node;
 use crate::search::add_writer;
-use crate::sources::{Choices, Source};
 use tmw_cuts::{Txn, lowest};
 use tmw_defs::{Criterion, Status};
 
@@ -145,10 +145,10 @@ pub fn orderly(criterion: Criterion, statuses: &Statuses) -> u8
 
 /// Returns that no source is chosen.
 #[inline(always)]
-fn none_chosen() -> [Source; 64]
+fn none_chosen() -> [ReadSource; 64]
     ensures { (k : ℕ) → k < 64 → get_or result k Open ≡ Open }
 {
-    let sources = [Source::Open; 64];
+    let sources = [ReadSource::Open; 64];
     sources
 }
 

@@ -1,17 +1,17 @@
 ghost use Rattle.std.specs.Prelude.{◌≡◌, ◌⊎◌, ◌↔◌, ◌<◌, IsTrue, ℕ, slice_index, get_or, MatchOption, None};
 ghost use Rattle.std.specs.Int.{bit_at};
-ghost use Rattle.tmw_search.specs.Order.{IsRead, WithinSource, source_at, opens, Has};
-ghost use Rattle.tmw_search.specs.declared.sources.Source.{Source};
-ghost use Rattle.tmw_search.specs.declared.sources.Source.TheVariants.{From, Open};
+ghost use Rattle.tmw_search.specs.Precedence.{IsRead, WithinSource, source_at, opens, Has};
+ghost use Rattle.tmw_search.specs.declared.choices.ReadSource.{ReadSource};
+ghost use Rattle.tmw_search.specs.declared.choices.ReadSource.TheVariants.{From, Open};
 ghost use Rattle.tmw_defs.specs.Opaque.{State};
-ghost use Rattle.tmw_search.specs.Legal.{effects, left_at, In, Holds, FromIs, idle, MayBe, IsNode, IsFound, HasNone, IsBranch, MayGive, Gives};
+ghost use Rattle.tmw_search.specs.NodeOrders.{effects, left_at, In, Holds, FromIs, idle, MayBe, IsNode, IsFound, HasNone, IsBranch, MayGive, Gives};
 
+use crate::choices::{Choices, ReadSource};
+use crate::consequence::Consequence;
 use crate::effects::{agrees, left_at, need_at, needed_at, written_at};
 use crate::node::{Branch, Node};
-use crate::order::{has, precede};
-use crate::pass::settle;
-use crate::settle::Found;
-use crate::sources::{Choices, Source};
+use crate::precedence::{has, precede};
+use crate::settle_all::settle;
 use tmw_cuts::{State, Txn, lowest};
 
 /// Adds the transaction to those that write the registers of the mask.
@@ -46,7 +46,7 @@ fn hold(items: &[Txn], node: &mut Node, i: usize)
 }
 
 /// Takes the source in as held, if it is a transaction.
-fn hold_source(items: &[Txn], node: &mut Node, source: Source)
+fn hold_source(items: &[Txn], node: &mut Node, source: ReadSource)
     requires { WithinSource source }
     ensures { (start : State) (may : ℕ) → IsNode (effects items.now) start may node.old
         → ((i : ℕ) → FromIs source i
@@ -54,9 +54,9 @@ fn hold_source(items: &[Txn], node: &mut Node, source: Source)
         → Holds (effects items.now) start may source node.old node.new }
 {
     match source {
-        Source::Open => {}
-        Source::Start => {}
-        Source::From(i) => hold(items, node, i as usize),
+        ReadSource::Open => {}
+        ReadSource::Start => {}
+        ReadSource::From(i) => hold(items, node, i as usize),
     }
 }
 
@@ -68,7 +68,7 @@ pub fn give(
     node: &mut Node,
     j: usize,
     r: usize,
-    source: Source,
+    source: ReadSource,
 )
     requires reader { j < 8 }
     requires register { r < 8 }
@@ -144,8 +144,8 @@ fn is_open(choices: &Choices, j: usize, r: usize) -> bool
     ensures { IsTrue result ↔ source_at choices.now j r ≡ Open }
 {
     match choices.sources[8 * j + r] {
-        Source::Open => true,
-        Source::Start | Source::From(_) => false,
+        ReadSource::Open => true,
+        ReadSource::Start | ReadSource::From(_) => false,
     }
 }
 
@@ -193,7 +193,7 @@ pub fn any(items: &[Txn], start: &State, may: u8, node: &Node) -> Option<Node>
             let r = branch.register;
             if branch.start {
                 let mut child = next;
-                give(items, start, may, &mut child, j, r, Source::Start);
+                give(items, start, may, &mut child, j, r, ReadSource::Start);
                 match any(items, start, may, &child) {
                     Some(found) => return Some(found),
                     None => {}
@@ -204,7 +204,15 @@ pub fn any(items: &[Txn], start: &State, may: u8, node: &Node) -> Option<Node>
                 let i = lowest(left);
                 left -= 1 << i;
                 let mut child = next;
-                give(items, start, may, &mut child, j, r, Source::From(i as u8));
+                give(
+                    items,
+                    start,
+                    may,
+                    &mut child,
+                    j,
+                    r,
+                    ReadSource::From(i as u8),
+                );
                 match any(items, start, may, &child) {
                     Some(found) => return Some(found),
                     None => {}
@@ -213,7 +221,7 @@ pub fn any(items: &[Txn], start: &State, may: u8, node: &Node) -> Option<Node>
             None
         }
         None => match settled {
-            Found::Stuck(i, j, k) => {
+            Consequence::Stuck(i, j, k) => {
                 let mut one = next;
                 if precede(&mut one.reach, k, i) {
                     match any(items, start, may, &one) {
@@ -228,8 +236,8 @@ pub fn any(items: &[Txn], start: &State, may: u8, node: &Node) -> Option<Node>
                     None
                 }
             }
-            Found::Clear => Some(next),
-            Found::Never => None,
+            Consequence::Clear => Some(next),
+            Consequence::Never => None,
         },
     }
 }

@@ -1,6 +1,6 @@
-mod Explained
-mod GivenFaults
+mod ReadFaults
 mod Shared
+mod ShowAnswers
 pub mod Shows
 mod StateHeaders
 mod TracesProof

@@ -16,25 +16,25 @@ pub use Rattle.tmw_events.specs.Text.{FitsKind}
 pub use Rattle.tmw_events.specs.declared.event.Event.{Event}
 pub use Rattle.tmw_events.specs.declared.registers.Registers.{Registers}
 pub use Rattle.tmw_lines.specs.declared.text_fault.TextFault.TheVariants.{BadHeader, BadLine, Cut, Io, TooLong}
-pub use Rattle.tmw_monitor.specs.Fitting.{rules_for}
+pub use Rattle.tmw_monitor.specs.Fits.{rules_for}
 pub use Rattle.tmw_monitor.specs.declared.bounds.Bounds.{Bounds}
-pub use Rattle.tmw_part.specs.Finding.{FindsPart, IsMinimalPart, IsSearched}
+pub use Rattle.tmw_part.specs.FindPart.{FindsPart, IsMinimalPart, IsSearched}
 pub use Rattle.tmw_report.specs.declared.fault.Fault.TheVariants.{Memory}
 pub use Rattle.tmw_trace.specs.Text.{AreEvents, trace_grammar, trace_text}
 pub use Rattle.tmw_trace.specs.declared.header.Header.{Header}
 pub use Rattle.tmw_trace.specs.declared.version.Version.{Version}
 pub use Rattle.tmw_trace.specs.declared.version.Version.TheVariants.{One, Two}
-pub use Rattle.tmw_window.specs.Showing.{IsShowing}
-pub use Rattle.tmw_window.specs.Shown.{IsShown, shown_length}
+pub use Rattle.tmw_window.specs.ShownWindow.{IsShowing}
+pub use Rattle.tmw_window.specs.ShownEvents.{IsShown, shown_length}
 pub use Rattle.tmw_window.specs.StatesLaw.{FitsRegisters, StatesLaw}
 pub use Rattle.tmw_window.specs.WindowLaw.{IsJudgedAlike, WindowLaw, at_end}
-pub use Rattle.tmw_window.specs.declared.showing.Showing.{Showing}
+pub use Rattle.tmw_window.specs.declared.shown_window.ShownWindow.{ShownWindow}
 pub use Rattle.tmw_show.specs.Drawing.{blanks, last_thread, rows_text}
-pub use Rattle.tmw_show.specs.Explaining.{IsNeededOf, IsShownFor, IsViolation, marks_of}
-pub use Rattle.tmw_show.specs.Running.{AnswersShow, IsShownOf, shown_events}
+pub use Rattle.tmw_show.specs.NeededEvents.{IsNeededOf, IsShownFor, IsViolation, marks_of}
+pub use Rattle.tmw_show.specs.RunShow.{AnswersShow, IsShownOf, shown_events}
 pub use Rattle.tmw_show.specs.TracesLaw.{AreJudgedLike, IsContradictory, IsHeaderFor, TellOf, TracesLaw, rules_from}
 pub use Rattle.tmw_show.specs.Values.{long_values, names_from, values_after}
-pub use Rattle.tmw_show.specs.declared.command.needed.Needed.{Needed}
-pub use Rattle.tmw_show.specs.declared.command.needed.Needed.TheVariants.{NotViolated, Part, Unasked}
-pub use Rattle.tmw_show.specs.declared.command.options.ShowOptions.{ShowOptions}
-pub use Rattle.tmw_show.specs.declared.command.shown.Shown.{Shown}
+pub use Rattle.tmw_show.specs.declared.needed_events.NeededEvents.{NeededEvents}
+pub use Rattle.tmw_show.specs.declared.needed_events.NeededEvents.TheVariants.{NotViolated, Part, Unasked}
+pub use Rattle.tmw_show.specs.declared.show_options.ShowOptions.{ShowOptions}
+pub use Rattle.tmw_show.specs.declared.shown_trace.ShownTrace.{ShownTrace}

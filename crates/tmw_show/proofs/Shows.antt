@@ -1,5 +1,5 @@
 -- The events that are shown of a trace are numbered up to the trace's length.
-use Rattle.tmw_show.proofs.Shared.{Event, IsShown, IsShownOf, List, Rules, ShowOptions, Shown, State, Verdict, ap, arith, length, length-drop, length-take, shown_length, take, ℕ, ◌+◌, ◌-◌, ◌^◌, ◌∙◌, ◌≤◌}
+use Rattle.tmw_show.proofs.Shared.{Event, IsShown, IsShownOf, List, Rules, ShowOptions, ShownTrace, State, Verdict, ap, arith, length, length-drop, length-take, shown_length, take, ℕ, ◌+◌, ◌-◌, ◌^◌, ◌∙◌, ◌≤◌}
 
 -- the window ends within the history
 numbered : (rules : Rules) (history : List Event) (v : Verdict) (from : ℕ) (states : List State) (events : List Event)
@@ -13,7 +13,7 @@ numbered rules history v from states events shown =
     let begins = shown.begins in
     omega (arith, before, all, rest, inside, begins)
 
-pub shown-numbered : (options : ShowOptions) (bytes : List ℕ) (shown : Shown) → IsShownOf options bytes shown
+pub shown-numbered : (options : ShowOptions) (bytes : List ℕ) (shown : ShownTrace) → IsShownOf options bytes shown
     → shown.showing.from + length shown.showing.events.items ≤ 2 ^ 40
 shown-numbered options bytes shown of =
     let within = numbered _ of.history shown.showing.verdict shown.showing.from _ shown.showing.events.items of.tells.shown in

@@ -1,11 +1,11 @@
 -- The traces that are written of what is shown are judged as the run is.
-use Rattle.tmw_show.proofs.Shared.{All, AllByRecursion, AreJudgedLike, Bool, Bounds, Contains, Criterion, Event, FindsPart, FitsKind, FitsRegisters, HasOrderBy, Header, IsContradictory, IsFinalBy, IsHeaderFor, IsJudgedAlike, IsNeededOf, IsShowing, IsVerdict, IsViolated, List, Needed, One, Opacity, Part, Registers, Shown, State, StatesLaw, Strict, TellOf, TracesLaw, Two, Verdict, Version, WindowLaw, [], ap, arith, at_end, drop, false, get_or, inl, inr, length, list_all, map, marks_of, members, refl, rules_for, rules_from, shown_events, shown_length, subst, sym, take, take-append-drop, transactions, true, ℕ, ◌==◌, ◌^◌, ◌∙◌, ◌∷◌, ◌≡◌, ◌≢◌, ◌≤◌}
+use Rattle.tmw_show.proofs.Shared.{All, AllByRecursion, AreJudgedLike, Bool, Bounds, Contains, Criterion, Event, FindsPart, FitsKind, FitsRegisters, HasOrderBy, Header, IsContradictory, IsFinalBy, IsHeaderFor, IsJudgedAlike, IsNeededOf, IsShowing, IsVerdict, IsViolated, List, NeededEvents, One, Opacity, Part, Registers, ShownTrace, State, StatesLaw, Strict, TellOf, TracesLaw, Two, Verdict, Version, WindowLaw, [], ap, arith, at_end, drop, false, get_or, inl, inr, length, list_all, map, marks_of, members, refl, rules_for, rules_from, shown_events, shown_length, subst, sym, take, take-append-drop, transactions, true, ℕ, ◌==◌, ◌^◌, ◌∙◌, ◌∷◌, ◌≡◌, ◌≢◌, ◌≤◌}
 use Rattle.std.proofs.lemmas.Bool.{and_parts}
 use Rattle.std.proofs.lemmas.List.Elements.{All-contains, All-drop, All-from_recursion, All-take, Contains-get_or, recursion_from_All}
 use Rattle.std.proofs.lemmas.List.Folds.{list_all-append}
 use Rattle.tmw_trace.specs.Start.{is_start}
 use Rattle.tmw_defs.specs.declared.verdict.Verdict.TheVariants.{Violated}
-use Rattle.tmw_part.specs.Kept.{kept_of}
+use Rattle.tmw_part.specs.Marks.{kept_of}
 use Rattle.tmw_part.proofs.Fewer.{kept-all}
 use Rattle.tmw_show.proofs.Shows.{shown-numbered}
 use Rattle.tmw_show.proofs.StateHeaders.{header_of, headers_of, initials-headers_of, each-headers_of, headers_of-each, heads-header_of, text-headers_of}
@@ -103,7 +103,7 @@ contradictory c bounds registers states events marks finds s f among violated =
     ]
 
 -- how the traces of what is shown are judged
-tells-by : (c : Criterion) (bounds : Bounds) (shown : Shown) (start : State) (why : Bool) (needed : Needed)
+tells-by : (c : Criterion) (bounds : Bounds) (shown : ShownTrace) (start : State) (why : Bool) (needed : NeededEvents)
     → (fit : AllByRecursion (FitsRegisters shown.registers.number) (members shown.showing.states))
     → shown.needed ≡ needed → IsNeededOf c why shown.registers shown.showing needed
     → IsJudgedAlike (rules_for c shown.registers start bounds) shown.showing.verdict (members shown.showing.states) shown.showing.events.items

@@ -1,5 +1,5 @@
 -- The last window of a violated run is searched, if it is short: it is well-formed, of at most eight transactions, and has no order.
-use Rattle.tmw_show.proofs.Shared.{Bool, Bounds, Contains, Criterion, Event, HasOrderBy, IsFinalBy, IsJudgedAlike, IsMinimalPart, IsNeededOf, IsSearched, IsShowing, IsTrue, IsViolation, List, Needed, NotViolated, Opacity, Part, Registers, Showing, State, Strict, Unasked, Verdict, WindowLaw, arith, inl, inr, is_well_formed, length, marks_of, members, rules_for, subst, sym, transactions, true, ℕ, ◌∙◌, ◌≡◌, ◌≤◌}
+use Rattle.tmw_show.proofs.Shared.{Bool, Bounds, Contains, Criterion, Event, HasOrderBy, IsFinalBy, IsJudgedAlike, IsMinimalPart, IsNeededOf, IsSearched, IsShowing, IsTrue, IsViolation, List, NeededEvents, NotViolated, Opacity, Part, Registers, ShownWindow, State, Strict, Unasked, Verdict, WindowLaw, arith, inl, inr, is_well_formed, length, marks_of, members, rules_for, subst, sym, transactions, true, ℕ, ◌∙◌, ◌≡◌, ◌≤◌}
 use Rattle.tmw_show.specs.WhyLaw.{WhyLaw}
 use Rattle.tmw_show.proofs.TracesProof.{no-item}
 
@@ -27,7 +27,7 @@ searched c bounds registers start v states events alike (at, is) short =
       };
     }
 
-minimal : (c : Criterion) (why : Bool) (registers : Registers) (showing : Showing) (needed : Needed) → IsNeededOf c why registers showing needed
+minimal : (c : Criterion) (why : Bool) (registers : Registers) (showing : ShownWindow) (needed : NeededEvents) → IsNeededOf c why registers showing needed
     → why ≡ true → IsViolation showing.verdict → IsSearched c registers.number (members showing.states) showing.events.items
     → IsMinimalPart c registers.number (members showing.states) showing.events.items (marks_of needed showing.events.items)
 minimal c why registers showing Unasked of asked violation search = let e = sym of ∙ asked in absurd (cc)

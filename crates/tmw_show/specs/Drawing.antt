@@ -16,13 +16,13 @@ use Rattle.tmw_defs.specs.declared.verdict.Why.{Why}
 use Rattle.tmw_defs.specs.declared.verdict.Why.TheVariants.{Transactions, States}
 use Rattle.tmw_wellformed.specs.declared.malformed.Malformed.{Malformed as Fault}
 use Rattle.tmw_wellformed.specs.declared.malformed.Malformed.TheVariants.{Register, Busy, Idle, Mismatch}
-use Rattle.tmw_part.specs.Kept.{kept_of}
+use Rattle.tmw_part.specs.Marks.{kept_of}
 use Rattle.tmw_part.specs.Names.{names_of}
-use Rattle.tmw_part.specs.declared.names.Name.{Name}
+use Rattle.tmw_part.specs.declared.name_places.Name.{Name}
 use Rattle.tmw_show.specs.Names.{label_at}
 use Rattle.tmw_show.specs.Values.{long_values, names_from, shown_kind}
-use Rattle.tmw_monitor.specs.declared.broken.Broken.{Broken}
-use Rattle.tmw_show.specs.declared.command.told.Told.{Told}
+use Rattle.tmw_monitor.specs.declared.broken_rule.BrokenRule.{BrokenRule}
+use Rattle.tmw_show.specs.declared.run_verdict.RunVerdict.{RunVerdict}
 
 -- so many blanks
 abbrev pub blanks : ℕ → List ℕ
@@ -74,18 +74,18 @@ rule_text Busy = codes "malformed: the thread has a pending call already"
 rule_text Idle = codes "malformed: no call of the thread is pending"
 rule_text Mismatch = codes "malformed: the answer does not fit the call"
 
-abbrev pub malformed_text : Option Broken → List ℕ
+abbrev pub malformed_text : Option BrokenRule → List ℕ
 malformed_text (Some broken) = rule_text broken.rule
 malformed_text None = codes "malformed"
 
 -- what is wrong by the verdict, where anything is
-abbrev pub wrong_by : Criterion → Option Broken → Verdict → List ℕ
+abbrev pub wrong_by : Criterion → Option BrokenRule → Verdict → List ℕ
 wrong_by criterion broken (Violated at) = violated_text criterion
 wrong_by criterion broken (Undecided at why) = undecided_text why
 wrong_by criterion broken (Malformed at) = malformed_text broken
 wrong_by criterion broken _ = []
 
-abbrev pub wrong_text : Told → List ℕ
+abbrev pub wrong_text : RunVerdict → List ℕ
 wrong_text told = wrong_by told.criterion told.broken told.verdict
 
 -- the number of the event that the verdict names, if it names one
@@ -97,15 +97,15 @@ settled_at (Undecided at why) = Some at
 settled_at (Malformed at) = Some at
 
 -- and its number in the whole run
-abbrev pub marked_at : Told → Option ℕ
+abbrev pub marked_at : RunVerdict → Option ℕ
 marked_at told = option_map (λ at. told.before + at) (settled_at told.verdict)
 
 -- what is told of the event of this number: what is wrong, where this one has the mark, and else nothing
-abbrev pub told_by_mark : Told → ℕ → Option ℕ → List ℕ
+abbrev pub told_by_mark : RunVerdict → ℕ → Option ℕ → List ℕ
 told_by_mark told number None = []
 told_by_mark told number (Some at) = if at == number then wrong_text told else []
 
-abbrev pub told_text : Told → ℕ → List ℕ
+abbrev pub told_text : RunVerdict → ℕ → List ℕ
 told_text told number = told_by_mark told number (marked_at told)
 
 -- what is told stands two places behind the heads, or behind a row that is longer than they
@@ -117,7 +117,7 @@ abbrev pub told_row : ℕ → List ℕ → List ℕ → List ℕ
 told_row width row told = row ++ beside (width - length row) told
 
 -- a line for each event that has the mark. The first has this place in the window, behind which its number is one more than so many.
-abbrev pub rows_text : Told → ℕ → List Name → List ℕ → ℕ → ℕ → List Bool → List Event → List ℕ
+abbrev pub rows_text : RunVerdict → ℕ → List Name → List ℕ → ℕ → ℕ → List Bool → List Event → List ℕ
 rows_text told width names values before place [] events = []
 rows_text told width names values before place (mark ∷ marks) [] = []
 rows_text told width names values before place (false ∷ marks) (event ∷ events) =
@@ -132,7 +132,7 @@ heads_for events = heads_text (last_thread events)
 
 -- The line of the heads, a line for each event that has the mark, and one for each short name. So many events
 -- of the run stand before the first.
-abbrev pub window_text : Told → ℕ → List Bool → List Event → List ℕ
+abbrev pub window_text : RunVerdict → ℕ → List Bool → List Event → List ℕ
 window_text told before marks events =
     let kept = kept_of marks events in
     line (heads_for kept)

@@ -1,8 +1,8 @@
 pub mod Drawing
-pub mod Explaining
 pub mod Names
+pub mod NeededEvents
 pub mod Page
-pub mod Running
+pub mod RunShow
 pub mod Sentences
 pub mod TracesLaw
 pub mod TracesText

@@ -1,7 +1,7 @@
 -- The names of a window's transactions: T1, T2 .. in the order of their first events.
 use Rattle.std.specs.Prelude.{ℕ, List, ◌++◌, ◌+◌, ◌==◌, find, codes, Option, Some, None, option_map}
 use Rattle.std.specs.Fmt.{decimal}
-use Rattle.tmw_part.specs.declared.names.Name.{Name}
+use Rattle.tmw_part.specs.declared.name_places.Name.{Name}
 
 -- of the transaction at this place among those of the window, from 0
 abbrev pub name_text : ℕ → List ℕ

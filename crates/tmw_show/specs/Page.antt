@@ -13,14 +13,14 @@ use Rattle.tmw_defs.specs.declared.criterion.Criterion.{Criterion}
 use Rattle.tmw_defs.specs.declared.criterion.Criterion.TheVariants.{Opacity, Strict}
 use Rattle.tmw_show.specs.Drawing.{marked_at, wrong_text}
 use Rattle.tmw_report.specs.Lines.{report_by}
-use Rattle.tmw_show.specs.declared.command.page.parts.TheConstants.{HEAD, TAIL}
-use Rattle.tmw_show.specs.declared.command.needed.Needed.{Needed}
-use Rattle.tmw_show.specs.declared.command.needed.Needed.TheVariants.{Part}
+use Rattle.tmw_show.specs.declared.page.constants.TheConstants.{HEAD, TAIL}
+use Rattle.tmw_show.specs.declared.needed_events.NeededEvents.{NeededEvents}
+use Rattle.tmw_show.specs.declared.needed_events.NeededEvents.TheVariants.{Part}
 use Rattle.tmw_part.specs.declared.reason.Reason.{Reason}
-use Rattle.tmw_show.specs.Explaining.{reason_of}
+use Rattle.tmw_show.specs.NeededEvents.{reason_of}
 use Rattle.tmw_show.specs.Sentences.{clauses_text, told_sentence}
-use Rattle.tmw_show.specs.declared.command.shown.Shown.{Shown}
-use Rattle.tmw_show.specs.declared.command.told.Told.{Told}
+use Rattle.tmw_show.specs.declared.shown_trace.ShownTrace.{ShownTrace}
+use Rattle.tmw_show.specs.declared.run_verdict.RunVerdict.{RunVerdict}
 
 -- a state as a string behind a comma: what the run's registers hold, each value after one space
 abbrev pub state_json : Registers → State → List ℕ
@@ -46,7 +46,7 @@ criterion_name Opacity = codes "opacity"
 criterion_name Strict = codes "strict"
 
 -- the line that `judge` writes, the criterion, how many registers there are, and how many events of the run stand before the window
-abbrev pub about_json : Criterion → ℕ → Shown → List ℕ
+abbrev pub about_json : Criterion → ℕ → ShownTrace → List ℕ
 about_json criterion before shown =
     codes "{\"report\":"
     ++ (report_by criterion shown.showing.fed shown.showing.verdict
@@ -55,16 +55,16 @@ about_json criterion before shown =
     ++ (codes "\",\"registers\":" ++ (decimal shown.registers.number ++ (codes ",\"before\":" ++ decimal before))))))
 
 -- What is told of the event at which something is wrong, where so many events of the run come before the trace.
-abbrev pub told_of : Criterion → ℕ → Shown → Told
+abbrev pub told_of : Criterion → ℕ → ShownTrace → RunVerdict
 told_of criterion before shown =
     record { criterion = criterion; before = before; verdict = shown.showing.verdict; broken = shown.showing.broken }
 
 -- that event, and what is told of it
-abbrev pub mark_at : Told → Option ℕ → List ℕ
+abbrev pub mark_at : RunVerdict → Option ℕ → List ℕ
 mark_at told None = []
 mark_at told (Some at) = codes ",\"mark\":" ++ (decimal at ++ (codes ",\"told\":\"" ++ (wrong_text told ++ codes "\"")))
 
-abbrev pub mark_json : Told → List ℕ
+abbrev pub mark_json : RunVerdict → List ℕ
 mark_json told = mark_at told (marked_at told)
 
 -- of a violated window of which that is asked: a digit for each event, 1 for those that contradict each other
@@ -72,7 +72,7 @@ abbrev pub digit : Bool → ℕ
 digit true = 49
 digit false = 48
 
-abbrev pub needed_json : Needed → List ℕ
+abbrev pub needed_json : NeededEvents → List ℕ
 needed_json (Part marks reason) = codes ",\"needed\":\"" ++ (flat_map (λ mark. digit mark ∷ []) marks.items ++ codes "\"")
 needed_json _ = []
 
@@ -82,7 +82,7 @@ why_json told None = []
 why_json told (Some reason) = codes ",\"why\":\"" ++ (clauses_text told reason ++ codes "\"")
 
 -- what is shown, as one JSON object and a line feed
-abbrev pub json_text : Criterion → ℕ → Shown → List ℕ
+abbrev pub json_text : Criterion → ℕ → ShownTrace → List ℕ
 json_text criterion before shown =
     about_json criterion (before + shown.showing.from) shown
     ++ (window_json shown.registers (members shown.showing.states) shown.showing.events.items
@@ -92,5 +92,5 @@ json_text criterion before shown =
     ++ codes "}\n"))))
 
 -- the page
-abbrev pub page_text : Criterion → ℕ → Shown → List ℕ
+abbrev pub page_text : Criterion → ℕ → ShownTrace → List ℕ
 page_text criterion before shown = HEAD.now ++ (json_text criterion before shown ++ TAIL.now)

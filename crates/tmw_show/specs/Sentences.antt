@@ -9,11 +9,11 @@ use Rattle.tmw_part.specs.declared.origin.Fate.{Fate}
 use Rattle.tmw_part.specs.declared.origin.Fate.TheVariants.{GivenUp, Unasked, Overwritten, Stays}
 use Rattle.tmw_part.specs.declared.origin.Origin.{Origin}
 use Rattle.tmw_part.specs.declared.reason.Reason.{Reason}
-use Rattle.tmw_part.specs.declared.step.Contradiction.{Contradiction}
-use Rattle.tmw_part.specs.declared.step.Contradiction.TheVariants.{Cycle, NoSource, Unlike}
-use Rattle.tmw_part.specs.declared.step.Source.{Source}
-use Rattle.tmw_part.specs.declared.step.Step.{Step}
-use Rattle.tmw_part.specs.declared.step.Step.TheVariants.{RealTime, From, ReadFirst, ChangedFirst, Through}
+use Rattle.tmw_part.specs.declared.reason_step.Contradiction.{Contradiction}
+use Rattle.tmw_part.specs.declared.reason_step.Contradiction.TheVariants.{Cycle, NoSource, Unlike}
+use Rattle.tmw_part.specs.declared.reason_step.ValueSource.{ValueSource}
+use Rattle.tmw_part.specs.declared.reason_step.ReasonStep.{ReasonStep}
+use Rattle.tmw_part.specs.declared.reason_step.ReasonStep.TheVariants.{RealTime, From, ReadFirst, ChangedFirst, Through}
 use Rattle.tmw_show.specs.Names.{name_text}
 use Rattle.tmw_show.specs.Values.{value_text}
 
@@ -27,7 +27,7 @@ read_text values reader value register more =
     name_text reader ++ (codes " read " ++ (value_text values value ++ (codes " from register " ++ (decimal register ++ more))))
 
 -- who left a value that was read, if it did not stand there from the start
-abbrev pub source_text : List ℕ → Source → Option ℕ → List ℕ
+abbrev pub source_text : List ℕ → ValueSource → Option ℕ → List ℕ
 source_text values s None = []
 source_text values s (Some writer) =
     read_text values s.reader s.value s.register.number
@@ -40,7 +40,7 @@ later_text rival (Some writer) = so_text rival writer
 
 -- The sentence of a step. What follows through a third transaction is in the sentences of the others, and that a value stood there from the
 -- start is in the sentence that tells who changed it.
-abbrev pub step_text : List ℕ → Step → List ℕ
+abbrev pub step_text : List ℕ → ReasonStep → List ℕ
 step_text values (RealTime one other) =
     name_text one ++ (codes " ended before " ++ (name_text other ++ (codes " began" ++ so_text one other)))
 step_text values (From s) = source_text values s s.writer

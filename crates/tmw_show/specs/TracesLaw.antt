@@ -15,14 +15,14 @@ use Rattle.tmw_defs.specs.History.{is_well_formed}
 use Rattle.tmw_defs.specs.Verdict.{Rules, IsViolated, IsVerdict}
 use Rattle.tmw_cuts.specs.Members.{members}
 use Rattle.tmw_monitor.specs.declared.bounds.Bounds.{Bounds}
-use Rattle.tmw_monitor.specs.Fitting.{rules_for}
+use Rattle.tmw_monitor.specs.Fits.{rules_for}
 use Rattle.tmw_window.specs.WindowLaw.{at_end}
-use Rattle.tmw_show.specs.declared.command.form.Form.TheVariants.{Traces}
-use Rattle.tmw_show.specs.declared.command.needed.Needed.{Needed}
-use Rattle.tmw_show.specs.declared.command.needed.Needed.TheVariants.{Part}
-use Rattle.tmw_show.specs.declared.command.options.ShowOptions.{ShowOptions}
-use Rattle.tmw_show.specs.declared.command.shown.Shown.{Shown}
-use Rattle.tmw_show.specs.Running.{IsShownOf, shown_events, shown_text}
+use Rattle.tmw_show.specs.declared.form.Form.TheVariants.{Traces}
+use Rattle.tmw_show.specs.declared.needed_events.NeededEvents.{NeededEvents}
+use Rattle.tmw_show.specs.declared.needed_events.NeededEvents.TheVariants.{Part}
+use Rattle.tmw_show.specs.declared.show_options.ShowOptions.{ShowOptions}
+use Rattle.tmw_show.specs.declared.shown_trace.ShownTrace.{ShownTrace}
+use Rattle.tmw_show.specs.RunShow.{IsShownOf, shown_events, shown_text}
 
 -- The header is of version two and of these registers, and these are events of a trace with it.
 pub record IsHeaderFor (registers : Registers) (events : List Event) (header : Header) : Type 0 where
@@ -50,13 +50,13 @@ pub record IsContradictory (criterion : Criterion) (events : List Event) (header
   pub not_final : IsFinalBy criterion header.registers.number header.initial events → ⊥
 
 -- How the traces are judged tells of the run: those of the whole window are judged like the run; those of a part contradict themselves.
-abbrev pub TellOf : Criterion → Bounds → Shown → Needed → List Header → Type 0
+abbrev pub TellOf : Criterion → Bounds → ShownTrace → NeededEvents → List Header → Type 0
 TellOf criterion bounds shown (Part marks reason) headers = All (IsContradictory criterion (shown_events shown)) headers
 TellOf criterion bounds shown _ headers = AreJudgedLike criterion bounds shown.showing.verdict (shown_events shown) headers
 
 -- With `--trace` the texts of traces are written, one behind the other: one trace for each state that is shown, in order, which begins
 -- with just that state and has just the events that are shown. There is one at least.
-pub record AreTracesOf (options : ShowOptions) (shown : Shown) : Type 0 where
+pub record AreTracesOf (options : ShowOptions) (shown : ShownTrace) : Type 0 where
   pub headers : List Header
   pub some : headers ≢ []
   pub states : map (λ header. header.initial) headers ≡ members shown.showing.states
@@ -66,4 +66,4 @@ pub record AreTracesOf (options : ShowOptions) (shown : Shown) : Type 0 where
 
 -- So it is of whatever trace's bytes, by each criterion and within all bounds.
 abbrev pub TracesLaw : Type 0
-TracesLaw = (options : ShowOptions) (bytes : List ℕ) (shown : Shown) → IsShownOf options bytes shown → AreTracesOf options shown
+TracesLaw = (options : ShowOptions) (bytes : List ℕ) (shown : ShownTrace) → IsShownOf options bytes shown → AreTracesOf options shown

@@ -1,5 +1,5 @@
-mod Answering
 mod ListTexts
+mod RunSteps
 mod Shared
 mod SizeNumbers
 mod StepNames

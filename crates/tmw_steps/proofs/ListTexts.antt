@@ -1,8 +1,8 @@
 -- A text names its size and its steps: two lists of steps with one text are one list.
 use Rattle.tmw_steps.proofs.Shared.{steps_grammar, sym, ◌∙◌}
 use Rattle.tmw_lines.proofs.TextNames.{lines_text-injective}
-use Rattle.tmw_steps.specs.Law.{StepsLaw}
-use Rattle.tmw_steps.specs.StepsNaming.{steps_naming}
+use Rattle.tmw_steps.specs.Laws.{StepsLaw}
+use Rattle.tmw_steps.specs.TextNames.{steps_naming}
 
 pub steps_law : StepsLaw
 steps_law bytes size other_size steps other_steps one other =

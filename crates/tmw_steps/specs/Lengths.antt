@@ -8,7 +8,7 @@ use Rattle.tmw_ring_defs.specs.declared.ring_step.Step.{Step}
 use Rattle.tmw_ring_defs.specs.declared.ring_step.Step.TheVariants.{Front, Tail, Claim, Fill, Publish, Peek, Read, Free, Stop}
 use Rattle.tmw_steps.specs.declared.steps_format.StepsFormat.{StepsFormat}
 use Rattle.tmw_lines.specs.Grammar.{IsNoHeader, IsNoItem}
-use Rattle.tmw_steps.specs.StepText.{size_text, step_text, steps_grammar, FitsSize, FitsStep}
+use Rattle.tmw_steps.specs.Text.{size_text, step_text, steps_grammar, FitsSize, FitsStep}
 
 length-size_text : (size : SizeLine) → FitsSize size → length (size_text size) ≤ 75
 length-size_text size fits =

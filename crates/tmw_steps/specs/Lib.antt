@@ -1,7 +1,7 @@
+pub mod Laws
 pub mod Lengths
-pub mod Law
 pub mod ReplyText
-pub mod Running
-pub mod StepText
-pub mod StepTexts
-pub mod StepsNaming
+pub mod RunSteps
+pub mod StepNames
+pub mod Text
+pub mod TextNames

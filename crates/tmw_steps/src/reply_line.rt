@@ -1,6 +1,6 @@
 ghost use Rattle.std.specs.Prelude.{◌++◌, decimal};
 ghost use Rattle.tmw_lines.specs.Text.{line};
-ghost use Rattle.tmw_streams.specs.Told.{Puts};
+ghost use Rattle.tmw_streams.specs.Transfers.{Puts};
 ghost use Rattle.tmw_ring_defs.specs.declared.ring_step.Reply.TheVariants.{Taken};
 ghost use Rattle.tmw_steps.specs.ReplyText.{reply_text, counts_text, replies_text};
 

@@ -2,7 +2,7 @@ ghost use Rattle.std.specs.Prelude.{◌≡◌, [], ◌∷◌, IfSome, IfNone};
 ghost use Rattle.tmw_events.specs.Text.{digit, kind_text, FitsKind};
 ghost use Rattle.tmw_events.specs.declared.event.Kind.{Kind};
 ghost use Rattle.tmw_events.specs.declared.ix.Ix.{Ix};
-ghost use Rattle.tmw_steps.specs.StepText.{step_text, FitsStep, IsNoStep};
+ghost use Rattle.tmw_steps.specs.Text.{step_text, FitsStep, IsNoStep};
 
 use tmw_events::{Ix, Kind, ix_of, kind_of};
 use tmw_ring_defs::Step;

@@ -1,6 +1,6 @@
-pub mod Beginnings
 pub mod FlatMaps
-pub mod PassedOn
-pub mod Putting
+pub mod Prefixes
+pub mod Puts
+pub mod PutsOn
 mod Shared
-pub mod ToldBytes
+pub mod Transfers

@@ -8,10 +8,10 @@ pub use Rattle.std.specs.Coded.{le_prop, →_prop}
 pub use Rattle.std.specs.Io.KnownBytes.{Appends, Consumes}
 pub use Rattle.std.specs.List.{flat_map}
 pub use Rattle.std.specs.Result.{IsErr}
-pub use Rattle.tmw_streams.specs.Bounded.{bounded_bytes, to_bounded}
+pub use Rattle.tmw_streams.specs.BoundedSink.{bounded_bytes, to_bounded}
 pub use Rattle.tmw_streams.specs.Lines.{lines_of}
-pub use Rattle.tmw_streams.specs.PassedOn.{PassesOn, PutsOn}
+pub use Rattle.tmw_streams.specs.PutsOn.{PassesOn, PutsOn}
 pub use Rattle.tmw_streams.specs.Streams.{FromSource, ToSink}
-pub use Rattle.tmw_streams.specs.Told.{Adds, one_more, Puts, Reads, Takes, TakesBeginning, Tells}
+pub use Rattle.tmw_streams.specs.Transfers.{Adds, one_more, Puts, Reads, Takes, TakesBeginning, Tells}
 pub use Rattle.tmw_streams.specs.declared.bounded_sink.BoundedSink.{BoundedSink}
 pub use Rattle.tmw_streams.specs.declared.memory_source.MemorySource.{MemorySource}

@@ -1,9 +1,9 @@
-pub mod Bounded
-pub mod Ends
+pub mod AtEnd
+pub mod BoundedSink
 pub mod Lines
 pub mod Memory
-pub mod PassedOn
-pub mod Reading
+pub mod PutsOn
+pub mod ReadFailures
 pub mod Std
 pub mod Streams
-pub mod Told
+pub mod Transfers

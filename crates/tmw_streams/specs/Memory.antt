@@ -3,7 +3,7 @@ use Rattle.std.specs.Prelude.{◌≡◌, ℕ, ◌+◌, ◌-◌, ◌<◌, vec_cap
 use Rattle.tmw_streams.specs.Streams.{FromSource, ToSink}
 use Rattle.tmw_streams.specs.declared.memory_sink.MemorySink.{MemorySink}
 use Rattle.tmw_streams.specs.declared.memory_source.MemorySource.{MemorySource}
-use Rattle.tmw_streams.specs.Told.{one_more}
+use Rattle.tmw_streams.specs.Transfers.{one_more}
 
 -- all the bytes that the source has to tell
 abbrev pub source_bytes : MemorySource → List ℕ

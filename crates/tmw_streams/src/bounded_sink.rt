@@ -1,6 +1,6 @@
 ghost use Rattle.std.specs.Prelude.{◌≡◌, ◌+◌, ◌<◌, ◌≤◌, [], length, take, IfOk, OnOk, OnErr, refl};
-ghost use Rattle.tmw_streams.specs.Bounded.{bounded_bytes, to_bounded};
-ghost use Rattle.tmw_streams.specs.Told.{Takes, one_more};
+ghost use Rattle.tmw_streams.specs.BoundedSink.{bounded_bytes, to_bounded};
+ghost use Rattle.tmw_streams.specs.Transfers.{Takes, one_more};
 
 use crate::io_fault::IoFault;
 use crate::sink::Sink;

@@ -1,6 +1,6 @@
 ghost use Rattle.std.specs.Prelude.{◌≡◌, ◌⊎◌, ◌-◌, ◌^◌, ◌<◌, ◌≤◌, [], length, take, min, max, IfOk, OnOk, OnErr, refl};
 ghost use Rattle.tmw_streams.specs.Memory.{held_bytes, sink_calls, sink_fails_at, sink_most, to_memory};
-ghost use Rattle.tmw_streams.specs.Told.{Takes, one_more};
+ghost use Rattle.tmw_streams.specs.Transfers.{Takes, one_more};
 
 use crate::io_fault::IoFault;
 use crate::sink::Sink;

@@ -1,6 +1,6 @@
 ghost use Rattle.std.specs.Prelude.{◌≡◌, ◌≢◌, ◌+◌, ◌-◌, ◌^◌, ◌<◌, ◌≤◌, [], length, take, drop, min, max, Some, Ok, IfOk, OnOk, OnErr, IsTrue, MatchBool, if◌then◌else◌, false, refl};
 ghost use Rattle.std.proofs.lemmas.List.{drop_all};
-ghost use Rattle.tmw_streams.specs.Told.{Tells, one_more};
+ghost use Rattle.tmw_streams.specs.Transfers.{Tells, one_more};
 
 use crate::io_fault::IoFault;
 use crate::source::Source;

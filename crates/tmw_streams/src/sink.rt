@@ -1,6 +1,6 @@
 ghost use Rattle.std.specs.Prelude.{◌≡◌, ℕ, ◌<◌, ◌≤◌, List, [], length, take, IfOk, OnOk, OnErr};
 ghost use Rattle.tmw_streams.specs.Streams.{ToSink};
-ghost use Rattle.tmw_streams.specs.Told.{Takes, one_more};
+ghost use Rattle.tmw_streams.specs.Transfers.{Takes, one_more};
 
 use crate::io_fault::IoFault;
 

@@ -1,7 +1,7 @@
 ghost use Rattle.std.specs.Prelude.{◌≡◌, ℕ, ◌+◌, ◌<◌, ◌≤◌, List, [], length, take, IfOk, OnOk, OnErr, Ok};
 ghost use Rattle.std.specs.Io.KnownBytes.{IsAtEnd};
 ghost use Rattle.tmw_streams.specs.Streams.{FromSource};
-ghost use Rattle.tmw_streams.specs.Told.{Tells, one_more};
+ghost use Rattle.tmw_streams.specs.Transfers.{Tells, one_more};
 
 use crate::io_fault::IoFault;
 

@@ -1,8 +1,8 @@
 ghost use Rattle.std.specs.Prelude.{◌≡◌, ◌+◌, ◌-◌, ◌^◌, ◌<◌, ◌≤◌, [], length, take, IfSome, IfNone, IsTrue, false, replicate};
 ghost use Rattle.std.specs.Coded.{→_prop};
 ghost use Rattle.std.specs.Io.KnownBytes.{Consumes, IsAtEnd};
-ghost use Rattle.tmw_streams.specs.Ends.{IsAtEnd-prop};
-ghost use Rattle.tmw_streams.specs.Told.{one_more};
+ghost use Rattle.tmw_streams.specs.AtEnd.{IsAtEnd-prop};
+ghost use Rattle.tmw_streams.specs.Transfers.{one_more};
 ghost use Rattle.std.proofs.Common.{rules};
 ghost use Rattle.std.proofs.lemmas.Grind.{common_steps};
 

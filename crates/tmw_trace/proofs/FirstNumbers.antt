@@ -5,7 +5,7 @@ use Rattle.std.specs.Str.Parse.{AllDigits, digits_value}
 use Rattle.std.proofs.lemmas.Fmt.{decimal-digits_value, decimal_digit}
 use Rattle.std.proofs.lemmas.Int.Digits.{digits_push, digits_value_more}
 use Rattle.std.proofs.lemmas.Str.Parse.{IsNumeralModel, numerals_by_value, tells_digits, digits_value_short}
-use Rattle.tmw_lines.proofs.HeldLines.{line-split}
+use Rattle.tmw_lines.proofs.BufferLines.{line-split}
 
 numerals : IsNumeralModel (AllDigits 10) (digits_value 10)
 numerals = numerals_by_value (AllDigits 10) tells_digits

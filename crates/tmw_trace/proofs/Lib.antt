@@ -1,5 +1,5 @@
-mod EventGiven
 mod EventLines
+mod FirstEvent
 mod FirstNumbers
 mod HeaderLines
 mod Shared

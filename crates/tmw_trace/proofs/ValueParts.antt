@@ -3,8 +3,8 @@ use Rattle.tmw_trace.proofs.Shared.{All, All-set, List, [], add-one, and_parts, 
 use Rattle.tmw_trace.specs.Values.{IsFirstValue, IsNoFirstValue}
 use Rattle.std.proofs.Math.Seq.{take-append_seam}
 use Rattle.std.proofs.lemmas.List.Sums.{prefix_len-le-length}
-use Rattle.tmw_lines.specs.Parts.{is_next}
-use Rattle.tmw_trace.specs.ValueTexts.{next-values}
+use Rattle.tmw_lines.specs.FreeParts.{is_next}
+use Rattle.tmw_trace.specs.ValueNames.{next-values}
 use Rattle.tmw_lines.proofs.Splits.{free-decimal, position_or_len-free, split_free}
 
 next-before : (stop : ℕ) (bytes : List ℕ) → is_next stop (drop (position_or_len (λ byte. byte == stop) bytes) bytes) ≡ true

@@ -1,8 +1,8 @@
-pub mod KindTexts
+pub mod KindNames
+pub mod Laws
 pub mod Lengths
-pub mod Law
 pub mod Start
 pub mod Text
 pub mod TextNames
-pub mod ValueTexts
+pub mod ValueNames
 pub mod Values

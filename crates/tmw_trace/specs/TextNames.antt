@@ -5,7 +5,7 @@ use Rattle.std.proofs.Math.Bool.{Bool-set}
 use Rattle.std.proofs.Math.Bridge.{le_prop}
 use Rattle.std.proofs.lemmas.Bool.{and_parts, and_from, eqb-true}
 use Rattle.std.proofs.lemmas.List.Elements.{All-take, recursion_from_All}
-use Rattle.tmw_lines.specs.Parts.{IsFree}
+use Rattle.tmw_lines.specs.FreeParts.{IsFree}
 use Rattle.tmw_trace.specs.Start.{are_zeros, is_start}
 use Rattle.tmw_events.specs.Text.{event_text, FitsKind}
 use Rattle.tmw_trace.specs.Text.{version_digit, initial_text, header_text, trace_grammar, FitsHeader}
@@ -15,8 +15,8 @@ use Rattle.tmw_events.specs.declared.registers.Registers.{Registers}
 use Rattle.tmw_trace.specs.declared.version.Version.{Version}
 use Rattle.tmw_trace.specs.declared.version.Version.TheVariants.{One, Two}
 use Rattle.tmw_lines.specs.Grammar.{IsNaming}
-use Rattle.tmw_trace.specs.KindTexts.{no_feed, kind_text-injective, free-kind_text}
-use Rattle.tmw_trace.specs.ValueTexts.{free-values_text, values_text-injective}
+use Rattle.tmw_trace.specs.KindNames.{no_feed, kind_text-injective, free-kind_text}
+use Rattle.tmw_trace.specs.ValueNames.{free-values_text, values_text-injective}
 use Rattle.tmw_events.proofs.Same.{same_ix}
 
 -- a number from 1 to 8 is one count of registers

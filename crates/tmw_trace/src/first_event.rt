@@ -1,6 +1,6 @@
 ghost use Rattle.std.specs.Prelude.{◌≡◌, ℕ, ◌+◌, ◌<◌, ◌≤◌, ◌^◌, ◌∷◌, ◌++◌, length, drop};
 ghost use Rattle.tmw_events.specs.Text.{digit, kind_text, FitsKind};
-ghost use Rattle.tmw_lines.specs.Given.{IsGiven};
+ghost use Rattle.tmw_lines.specs.GiveFirst.{IsGiven};
 ghost use Rattle.tmw_lines.specs.Text.{line};
 ghost use Rattle.tmw_trace.specs.Text.{trace_grammar};
 
@@ -8,7 +8,7 @@ use crate::event_line::speaks;
 use crate::first_number::first_number;
 use crate::version::Version;
 use tmw_events::{Event, Ix, Kind, ix_of};
-use tmw_lines::{Given, Taker};
+use tmw_lines::{GiveResult, Taker};
 
 /// The length of the longest line of an event whose number has at most nineteen digits.
 const LONGEST: usize = 26;
@@ -17,28 +17,33 @@ const LONGEST: usize = 26;
 /// pass. `Nothing` says nothing about the bytes: the line of an event may be too near the end of the bytes to be read
 /// here, or have too large a number.
 #[inline(always)]
-pub fn give_event<T: Taker<Event>>(version: Version, bytes: &[u8], taker: &mut T) -> Given
+pub fn give_event<T: Taker<Event>>(version: Version, bytes: &[u8], taker: &mut T) -> GiveResult
     requires { (count : ℕ) × (count < 2 ^ 40) × T.counts taker.old count }
     ensures { IsGiven trace_grammar T.takes T.lacks T.counts version bytes.now taker.old taker.new
         result }
 {
     if bytes.len() < LONGEST {
-        return Given::Nothing;
+        return GiveResult::Nothing;
     }
     match bytes {
         [thread, b' ', kind @ ..] => {
             let Some(thread) = ix_of(*thread) else {
-                return Given::Nothing;
+                return GiveResult::Nothing;
             };
             give_kind(version, thread, kind, taker)
         }
-        _ => Given::Nothing,
+        _ => GiveResult::Nothing,
     }
 }
 
 /// Gives the event of this thread whose kind's line these bytes begin with. Each letter has a call of its own, which knows the kind.
 #[inline(always)]
-fn give_kind<T: Taker<Event>>(version: Version, thread: Ix, bytes: &[u8], taker: &mut T) -> Given
+fn give_kind<T: Taker<Event>>(
+    version: Version,
+    thread: Ix,
+    bytes: &[u8],
+    taker: &mut T,
+) -> GiveResult
     requires long { 24 ≤ length bytes.now }
     requires counted { (count : ℕ) × (count < 2 ^ 40) × T.counts taker.old count }
     ensures { IsGiven trace_grammar T.takes T.lacks T.counts version (digit thread ∷ 32 ∷ bytes.now)
@@ -52,22 +57,22 @@ fn give_kind<T: Taker<Event>>(version: Version, thread: Ix, bytes: &[u8], taker:
         [b'A', b'\n', ..] => give(version, thread, Kind::A, bytes, 2, taker),
         [b'R', b' ', register, b'\n', ..] => {
             let Some(register) = ix_of(*register) else {
-                return Given::Nothing;
+                return GiveResult::Nothing;
             };
             give(version, thread, Kind::R(register), bytes, 4, taker)
         }
         [b'V', b' ', value @ ..] => {
             let Some((value, count)) = first_number(value) else {
-                return Given::Nothing;
+                return GiveResult::Nothing;
             };
             give(version, thread, Kind::V(value), bytes, 2 + count, taker)
         }
         [b'W', b' ', register, b' ', value @ ..] => {
             let Some(register) = ix_of(*register) else {
-                return Given::Nothing;
+                return GiveResult::Nothing;
             };
             let Some((value, count)) = first_number(value) else {
-                return Given::Nothing;
+                return GiveResult::Nothing;
             };
             give(
                 version,
@@ -80,10 +85,10 @@ fn give_kind<T: Taker<Event>>(version: Version, thread: Ix, bytes: &[u8], taker:
         }
         [b'N', b' ', register, b' ', value @ ..] => {
             let Some(register) = ix_of(*register) else {
-                return Given::Nothing;
+                return GiveResult::Nothing;
             };
             let Some((value, count)) = first_number(value) else {
-                return Given::Nothing;
+                return GiveResult::Nothing;
             };
             give(
                 version,
@@ -94,7 +99,7 @@ fn give_kind<T: Taker<Event>>(version: Version, thread: Ix, bytes: &[u8], taker:
                 taker,
             )
         }
-        _ => Given::Nothing,
+        _ => GiveResult::Nothing,
     }
 }
 
@@ -107,7 +112,7 @@ fn give<T: Taker<Event>>(
     bytes: &[u8],
     count: usize,
     taker: &mut T,
-) -> Given
+) -> GiveResult
     requires within { count ≤ 24 }
     requires long { 24 ≤ length bytes.now }
     requires line { bytes.now ≡ line (kind_text kind) ++ drop count bytes.now }
@@ -119,10 +124,10 @@ fn give<T: Taker<Event>>(
     // Only clauses speak of the bytes.
     let _bytes = bytes;
     if !speaks(version, kind) {
-        return Given::Nothing;
+        return GiveResult::Nothing;
     }
     match taker.take(Event { thread, kind }) {
-        Ok(()) => Given::Taken(2 + count),
-        Err(_) => Given::Refused(2 + count),
+        Ok(()) => GiveResult::Taken(2 + count),
+        Err(_) => GiveResult::Refused(2 + count),
     }
 }

@@ -1,3 +1,3 @@
-pub mod Closings
-pub mod Placing
+pub mod RecorderPlaces
+pub mod RestVerdict
 mod Shared

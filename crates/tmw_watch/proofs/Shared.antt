@@ -5,14 +5,14 @@ pub use Rattle.std.proofs.lemmas.List.Sorted.{All-permutation, IsPermutation-map
 pub use Rattle.std.specs.List.{All, SwappedAt}
 pub use Rattle.std.specs.List.Sorted.{IsPermutation}
 pub use Rattle.std.specs.Vec.Iter.{into_iter_items, into_iter_len}
-pub use Rattle.tmw_monitor.specs.Fitting.{Fits, rules_of}
+pub use Rattle.tmw_monitor.specs.Fits.{Fits, rules_of}
 pub use Rattle.tmw_pump.proofs.HeadlineProof.{gives_headline, gives_rest}
 pub use Rattle.tmw_pump.specs.Headline.{GivesHeadline, Headline, IsLogOf}
-pub use Rattle.tmw_pump.specs.Resting.{IsRested, RestIs, all_of, rest_in}
+pub use Rattle.tmw_pump.specs.Rest.{IsRested, RestIs, all_of, rest_in}
 pub use Rattle.tmw_pump.specs.declared.front.Front.{Front}
-pub use Rattle.tmw_ring.specs.Ends.{ReaderIs, RingIs, WriterIs, WriterOf}
-pub use Rattle.tmw_ring.specs.Settling.{AreInOrder, IsSettled}
-pub use Rattle.tmw_watch.specs.Closing.{AreAll, AreNotAll, HasEnded, IsClosed, IsJudged, IsLeft, IsMissing, IsUnjudged, writers_of}
-pub use Rattle.tmw_watch.specs.Opening.{AreOf, IsNewRecorder}
+pub use Rattle.tmw_ring.specs.RingEnds.{ReaderIs, RingIs, WriterIs, WriterOf}
+pub use Rattle.tmw_ring.specs.Settle.{AreInOrder, IsSettled}
+pub use Rattle.tmw_watch.specs.Close.{AreAll, AreNotAll, HasEnded, IsClosed, IsJudged, IsLeft, IsMissing, IsUnjudged, writers_of}
+pub use Rattle.tmw_watch.specs.Open.{AreOf, IsNewRecorder}
 pub use Rattle.tmw_watch.specs.WatchParts.{rest_of, watch_pump}
 pub use Rattle.tmw_watch.specs.declared.recorder.Recorder.{Recorder}

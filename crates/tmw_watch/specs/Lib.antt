@@ -1,3 +1,3 @@
-pub mod Closing
-pub mod Opening
+pub mod Close
+pub mod Open
 pub mod WatchParts

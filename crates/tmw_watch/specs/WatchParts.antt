@@ -2,11 +2,11 @@
 use Rattle.std.specs.Prelude.{ℕ}
 use Rattle.std.specs.Global.{Global}
 use Rattle.std.specs.declared.sync.Arc.{Arc}
-use Rattle.tmw_pump.specs.Pumping.{PumpIs, pump_front, pump_in}
-use Rattle.tmw_pump.specs.Resting.{RestIs, rest_in}
+use Rattle.tmw_pump.specs.Pump.{PumpIs, pump_front, pump_in}
+use Rattle.tmw_pump.specs.Rest.{RestIs, rest_in}
 use Rattle.tmw_pump.specs.declared.front.Front.{Front}
-use Rattle.tmw_ring.specs.Ends.{RingIs, WriterIs}
-use Rattle.tmw_watch.specs.declared.closing.Closing.{Closing}
+use Rattle.tmw_ring.specs.RingEnds.{RingIs, WriterIs}
+use Rattle.tmw_watch.specs.declared.leftover.Leftover.{Leftover}
 use Rattle.tmw_watch.specs.declared.recorder.Recorder.{Recorder}
 use Rattle.tmw_watch.specs.declared.watch.Watch.{Watch}
 
@@ -35,5 +35,5 @@ abbrev pub writer_of : Recorder → WriterIs
 writer_of recorder = recorder.writer
 
 -- what is left to be judged
-abbrev pub rest_of : Closing → RestIs
+abbrev pub rest_of : Leftover → RestIs
 rest_of closing = rest_in closing.rest

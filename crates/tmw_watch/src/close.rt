@@ -1,19 +1,19 @@
 //! The end of a watch, once all its recorders have come back.
 ghost use Rattle.std.specs.Prelude.{◌≡◌, ◌+◌, ◌++◌, ◌≤◌, [], All, length, IfOk, IfErr, vec_len, vec_capacity};
 ghost use Rattle.tmw_pump.specs.Headline.{IsLogOf};
-ghost use Rattle.tmw_pump.specs.Pumping.{reader_of};
-ghost use Rattle.tmw_pump.specs.Resting.{all_of, left_of, rest_front};
-ghost use Rattle.tmw_ring.specs.Ends.{WriterOf};
-ghost use Rattle.tmw_ring.specs.Settling.{AreInOrder, IsSettled};
-ghost use Rattle.tmw_watch.specs.Closing.{AreAll, HasEnded, IsClosed, IsUnclosed, writers_of};
-ghost use Rattle.tmw_watch.specs.Opening.{AreOf};
+ghost use Rattle.tmw_pump.specs.Pump.{reader_of};
+ghost use Rattle.tmw_pump.specs.Rest.{all_of, left_of, rest_front};
+ghost use Rattle.tmw_ring.specs.RingEnds.{WriterOf};
+ghost use Rattle.tmw_ring.specs.Settle.{AreInOrder, IsSettled};
+ghost use Rattle.tmw_watch.specs.Close.{AreAll, HasEnded, IsClosed, IsUnclosed, writers_of};
+ghost use Rattle.tmw_watch.specs.Open.{AreOf};
 ghost use Rattle.tmw_watch.specs.WatchParts.{recorder_count, rest_of, watch_front, watch_pump, watch_ring};
 
 use crate::close_error::CloseError;
-use crate::closing::Closing;
-use crate::order::in_order;
+use crate::leftover::Leftover;
 use crate::recorder::Recorder;
-use crate::report::Report;
+use crate::recorder_order::in_order;
+use crate::report::WatchReport;
 use crate::watch::Watch;
 use std::sync::Arc;
 use tmw_ring::Writer;
@@ -22,7 +22,7 @@ impl Watch {
     /// Closes a watch with all its recorders, in any order, and returns how many events were recorded and the verdict
     /// on them. The recorders must be this watch's. If it can't, it gives back all that it was given, or what is left
     /// to be judged of it.
-    pub fn close(self, recorders: Vec<Recorder>) -> Result<Report, CloseError>
+    pub fn close(self, recorders: Vec<Recorder>) -> Result<WatchReport, CloseError>
         requires { AreOf (watch_ring self).value recorders.items }
         ensures ok { IfOk result (IsClosed self recorders.items) }
         ensures err { IfErr result (IsUnclosed self recorders.items) }
@@ -52,7 +52,7 @@ impl Watch {
         self,
         recorders: Vec<Recorder>,
         room: Vec<Writer>,
-    ) -> Result<Closing, (Watch, Vec<Writer>)>
+    ) -> Result<Leftover, (Watch, Vec<Writer>)>
         requires of_ring { AreOf (watch_ring self).value recorders.items }
         requires all { AreAll (recorder_count self) recorders.items }
         requires empty { room.items ≡ [] }
@@ -74,7 +74,7 @@ impl Watch {
     }
 
     /// Ends the ring, with writer i at place i.
-    fn settle(self, writers: Vec<Writer>) -> Result<Closing, (Watch, Vec<Writer>)>
+    fn settle(self, writers: Vec<Writer>) -> Result<Leftover, (Watch, Vec<Writer>)>
         requires writers { All (WriterOf (watch_ring self).value) writers.items }
         requires count { length writers.items ≡ recorder_count self }
         requires order { AreInOrder writers.items }
@@ -92,7 +92,7 @@ impl Watch {
             recorders,
         } = self;
         match Arc::try_unwrap(ring) {
-            Ok(ring) => Ok(Closing::new(pump.settle(ring, writers))),
+            Ok(ring) => Ok(Leftover::new(pump.settle(ring, writers))),
             Err(ring) => Err((
                 Watch {
                     alloc,

@@ -1,4 +1,4 @@
-use crate::closing::Closing;
+use crate::leftover::Leftover;
 use crate::recorder::Recorder;
 use crate::watch::Watch;
 use std::fmt;
@@ -30,7 +30,7 @@ pub enum CloseError {
     },
     /// The ring has ended, and an allocation failed before all that it had left was judged, which can be tried again.
     #[error("an allocation failed before all was judged")]
-    Unjudged(Closing),
+    Unjudged(Leftover),
 }
 
 // Watches, recorders, writers and closings have no `Debug`, so only the case's name is shown.

@@ -4,19 +4,19 @@
 
 mod close;
 mod close_error;
-mod closing;
+mod leftover;
 mod open;
-mod order;
 mod recorder;
+mod recorder_order;
 mod report;
 mod settings;
 mod watch;
 
 pub use close_error::CloseError;
-pub use closing::Closing;
+pub use leftover::Leftover;
 pub use recorder::Recorder;
-pub use report::Report;
-pub use settings::Settings;
+pub use report::WatchReport;
+pub use settings::WatchSettings;
 pub use tmw_counts::Summary;
 pub use tmw_defs::Counts;
 pub use watch::Watch;

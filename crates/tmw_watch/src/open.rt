@@ -2,10 +2,10 @@
 ghost use Rattle.std.specs.Prelude.{◌≡◌, ◌<◌, ℕ, length, get_or, IfOk, IfErr};
 ghost use Rattle.tmw_ring.specs.NewRing.{AreNewWriters};
 ghost use Rattle.tmw_ring_defs.specs.Sizes.{IsNoRing};
-ghost use Rattle.tmw_watch.specs.Opening.{AreOf, IsNewRecorder, IsOpened};
+ghost use Rattle.tmw_watch.specs.Open.{AreOf, IsNewRecorder, IsOpened};
 
 use crate::recorder::Recorder;
-use crate::settings::Settings;
+use crate::settings::WatchSettings;
 use crate::watch::Watch;
 use std::alloc::{AllocError, Global};
 use std::sync::Arc;
@@ -17,7 +17,7 @@ impl Watch {
     /// Opens a watch, with its recorders in the order of their numbers. Nothing is recorded yet. Recording takes no
     /// memory beyond what is taken here. `BadSize`: the number of the cells or of the recorders is out of its range.
     /// `BadLimit`: these are not, but the limit is. `Memory`: an allocation failed.
-    pub fn open(alloc: Global, settings: Settings) -> Result<(Watch, Vec<Recorder>), RingFault>
+    pub fn open(alloc: Global, settings: WatchSettings) -> Result<(Watch, Vec<Recorder>), RingFault>
         ensures ok { IfOk result (λ opened. IsOpened settings opened.0 opened.1.items) }
         ensures err { IfErr result (IsNoRing settings.cells settings.recorders settings.limit) }
     {

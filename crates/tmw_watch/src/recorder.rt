@@ -1,8 +1,8 @@
 //! The end by which one thread records.
 ghost use Rattle.std.specs.Prelude.{◌≡◌, IfOk, IfErr};
-ghost use Rattle.tmw_ring.specs.Ends.{WriterOf};
-ghost use Rattle.tmw_ring.specs.Recording.{HasRecorded, IsRefusal};
-ghost use Rattle.tmw_ring.specs.Rooms.{HasFoundRoom, LacksRoom};
+ghost use Rattle.tmw_ring.specs.RingEnds.{WriterOf};
+ghost use Rattle.tmw_ring.specs.Record.{HasRecorded, IsRefusal};
+ghost use Rattle.tmw_ring.specs.Room.{HasFoundRoom, LacksRoom};
 
 use std::alloc::Global;
 use std::sync::Arc;

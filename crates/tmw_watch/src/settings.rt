@@ -3,7 +3,7 @@ use tmw_monitor::Bounds;
 
 /// What is watched, and how far.
 #[derive(Clone, Copy, PartialEq, Eq, Debug)]
-pub struct Settings {
+pub struct WatchSettings {
     /// How many registers the memory has.
     pub registers: Registers,
     /// What they hold at first, by their numbers. Of those that the memory does not have nothing is read.

@@ -1,12 +1,12 @@
 //! The end by which what the threads record is judged.
 ghost use Rattle.std.specs.Prelude.{◌≡◌, length, IfOk, OnErr, IsSome, IsTrue, ◌↔◌};
-ghost use Rattle.tmw_counts.specs.Summaries.{IsSummary};
-ghost use Rattle.tmw_pump.specs.Fronts.{TellsVerdict, WasRefusedMemory, front_part, held_of, judged_of, verdict_on};
+ghost use Rattle.tmw_counts.specs.Summary.{IsSummary};
+ghost use Rattle.tmw_pump.specs.Front.{TellsVerdict, WasRefusedMemory, front_part, held_of, judged_of, verdict_on};
 ghost use Rattle.tmw_pump.specs.Headline.{GivesHeadline};
-ghost use Rattle.tmw_pump.specs.Pumping.{HasPumped, IsPumped, pump_in, reader_of};
-ghost use Rattle.tmw_ring.specs.Ends.{ReaderOf};
+ghost use Rattle.tmw_pump.specs.Pump.{HasPumped, IsPumped, pump_in, reader_of};
+ghost use Rattle.tmw_ring.specs.RingEnds.{ReaderOf};
 
-use crate::report::Report;
+use crate::report::WatchReport;
 use std::alloc::{AllocError, Global};
 use std::sync::Arc;
 use tmw_counts::Summary;
@@ -47,14 +47,14 @@ impl Watch {
     }
 
     /// Returns how many events were judged so far, and the verdict on them.
-    pub fn report(&self) -> Report
+    pub fn report(&self) -> WatchReport
         ensures events { result.events ≡ length (judged_of (watch_front self.now)) }
         ensures verdict { TellsVerdict (watch_front self.now) result.verdict }
         ensures headline { GivesHeadline (watch_front self.now)
             (reader_of (watch_pump self.now)).taken (judged_of (watch_front self.now))
             result.verdict }
     {
-        Report {
+        WatchReport {
             events: self.pump.front().fed(),
             verdict: self.pump.verdict(),
         }

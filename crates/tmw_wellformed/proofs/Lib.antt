@@ -1,5 +1,5 @@
+pub mod HistorySteps
+pub mod PhaseTexts
 mod Shared
 pub mod TextSteps
-pub mod HistorySteps
-pub mod Deciding
-pub mod Tracking
+pub mod TrackerSteps

@@ -11,7 +11,7 @@ pub use Rattle.tmw_events.specs.declared.event.Event.{Event}
 pub use Rattle.tmw_events.specs.declared.event.Kind.{Kind}
 pub use Rattle.tmw_events.specs.declared.event.Kind.TheVariants.{A, C, K, N, R, T, V, W, X}
 pub use Rattle.tmw_wellformed.specs.Faults.{Refuses, asks, earlier, has_fault, lacks_register}
-pub use Rattle.tmw_wellformed.specs.Pending.{call_of, live_count, live_of, next_call, pending_call}
+pub use Rattle.tmw_wellformed.specs.PendingCalls.{call_of, live_count, live_of, next_call, pending_call}
 pub use Rattle.tmw_wellformed.specs.Phase.{is_live, next_phase, phase_in, phase_of, phase_within, takes, waits}
 pub use Rattle.tmw_wellformed.specs.declared.malformed.Malformed.{Malformed}
 pub use Rattle.tmw_wellformed.specs.declared.malformed.Malformed.TheVariants.{Busy, Idle, Mismatch, Register}

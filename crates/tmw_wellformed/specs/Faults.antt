@@ -7,7 +7,7 @@ use Rattle.tmw_events.specs.declared.event.Kind.TheVariants.{R, W, T, X, N}
 use Rattle.tmw_defs.specs.History.{answers, is_well_formed}
 use Rattle.tmw_wellformed.specs.declared.malformed.Malformed.{Malformed}
 use Rattle.tmw_wellformed.specs.declared.malformed.Malformed.TheVariants.{Register, Busy, Idle, Mismatch}
-use Rattle.tmw_wellformed.specs.Pending.{pending_call}
+use Rattle.tmw_wellformed.specs.PendingCalls.{pending_call}
 
 -- An operation's call, or a request. Every other event is an answer.
 abbrev pub asks : Kind → Bool

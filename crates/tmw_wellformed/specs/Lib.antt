@@ -1,5 +1,5 @@
-pub mod Pending
 pub mod Faults
 pub mod Notes
+pub mod PendingCalls
 pub mod Phase
-pub mod Tracks
+pub mod Tracker

@@ -7,7 +7,7 @@ use Rattle.tmw_wellformed.specs.declared.malformed.Malformed.{Malformed}
 use Rattle.tmw_wellformed.specs.declared.malformed.Malformed.TheVariants.{Busy, Idle, Mismatch}
 use Rattle.tmw_wellformed.specs.declared.phase.Phase.{Phase}
 use Rattle.tmw_wellformed.specs.declared.phase.Phase.TheVariants.{Between, Within, Reading, Writing, Committing, Aborting}
-use Rattle.tmw_wellformed.specs.Pending.{call_of}
+use Rattle.tmw_wellformed.specs.PendingCalls.{call_of}
 use Rattle.tmw_wellformed.specs.Faults.{asks}
 
 -- The phase in which this call is pending.

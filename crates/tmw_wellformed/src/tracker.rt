@@ -2,10 +2,10 @@ ghost use Rattle.std.specs.Prelude.{◌≡◌, ℕ, List, [], ◌∷◌, ◌++�
 ghost use Rattle.tmw_events.specs.declared.event.Event.{Event};
 ghost use Rattle.tmw_events.specs.declared.event.Kind.TheVariants.{X};
 ghost use Rattle.tmw_defs.specs.Cuts.{is_cut};
-ghost use Rattle.tmw_wellformed.specs.Pending.{live_count, pending_call};
+ghost use Rattle.tmw_wellformed.specs.PendingCalls.{live_count, pending_call};
 ghost use Rattle.tmw_wellformed.specs.Notes.{Notes};
 ghost use Rattle.tmw_wellformed.specs.Faults.{lacks_register, Refuses};
-ghost use Rattle.tmw_wellformed.specs.Tracks.{Tracks};
+ghost use Rattle.tmw_wellformed.specs.Tracker.{Tracks};
 
 use crate::malformed::Malformed;
 use crate::note::{Note, end_of};

@@ -1,3 +1,4 @@
+mod AfterFailure
 mod Alike
 mod Behind
 mod Outcomes
@@ -5,7 +6,6 @@ mod Part
 mod Shared
 mod ShownStates
 mod Single
-mod Taking
-mod Watching
+mod WindowTaker
 mod Windows
 mod Writes

@@ -2,7 +2,7 @@
 use Rattle.tmw_window.proofs.Shared.{All, Bool, Criterion, Event, FitsKind, FitsRegisters, IsTrue, List, Opacity, Placed, State, Strict, Txn, [], add_event, after, and_from, and_parts, false, is_text, is_well_formed, list_all, list_all-append, operations, outcomes_by, refl, slice_index_or, subst, sym, transactions, transactions_from, true, ℕ, ◌+◌, ◌∙◌, ◌∷◌, ◌≡◌, arith}
 use Rattle.std.proofs.lemmas.List.Sums.{list_all-from_AllPass}
 use Rattle.tmw_defs.specs.Outcomes.{end_state}
-use Rattle.tmw_defs.proofs.Held.{list_all-held}
+use Rattle.tmw_defs.proofs.Completions.{list_all-held}
 use Rattle.tmw_defs.proofs.Removals.{list_all-places}
 use Rattle.tmw_window.proofs.Writes.{writes_word, word-kind, is_kept, operations_kept, after_kept}
 

@@ -26,10 +26,10 @@ pub use Rattle.tmw_defs.specs.declared.verdict.Verdict.TheVariants.{Malformed, O
 pub use Rattle.tmw_defs.specs.declared.verdict.Why.TheVariants.{States, Transactions}
 pub use Rattle.tmw_events.specs.Text.{FitsKind}
 pub use Rattle.tmw_events.specs.declared.event.Event.{Event}
-pub use Rattle.tmw_monitor.specs.Fitting.{Fits, rules_for}
-pub use Rattle.tmw_monitor.specs.Holding.{AreLastOutcomes}
-pub use Rattle.tmw_window.specs.Keeping.{IsNext, KeepsSame, KeepsShown}
-pub use Rattle.tmw_window.specs.Shown.{IsShown, before_shown, shown_length}
+pub use Rattle.tmw_monitor.specs.Fits.{Fits, rules_for}
+pub use Rattle.tmw_monitor.specs.HoldsOpen.{AreLastOutcomes}
+pub use Rattle.tmw_window.specs.KeptWindow.{IsNext, KeepsSame, KeepsShown}
+pub use Rattle.tmw_window.specs.ShownEvents.{IsShown, before_shown, shown_length}
 pub use Rattle.tmw_window.specs.StatesLaw.{FitsRegisters, StatesLaw}
 pub use Rattle.tmw_window.specs.WindowLaw.{WindowLaw, at_end, from_state}
 pub use Rattle.tmw_window.specs.declared.kept_window.KeptWindow.{KeptWindow}

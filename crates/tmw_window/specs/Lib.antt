@@ -1,7 +1,7 @@
-pub mod Feeding
-pub mod Keeping
-pub mod Showing
-pub mod Shown
+pub mod KeptWindow
+pub mod LastWindow
+pub mod ShownEvents
+pub mod ShownWindow
 pub mod StatesLaw
-pub mod Watching
 pub mod WindowLaw
+pub mod WindowTaker

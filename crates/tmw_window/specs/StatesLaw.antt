@@ -6,7 +6,7 @@ use Rattle.tmw_events.specs.declared.event.Event.{Event}
 use Rattle.tmw_defs.specs.declared.verdict.Verdict.{Verdict}
 use Rattle.tmw_defs.specs.Opaque.{State}
 use Rattle.tmw_defs.specs.Verdict.{Rules, IsVerdict}
-use Rattle.tmw_window.specs.Shown.{IsShown}
+use Rattle.tmw_window.specs.ShownEvents.{IsShown}
 
 -- The state gives each of eight registers a value of 64 bits, and 0 to those that a run of so many registers doesn't have.
 pub record FitsRegisters (registers : ℕ) (state : State) : Type 0 where

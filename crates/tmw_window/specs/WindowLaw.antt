@@ -7,7 +7,7 @@ use Rattle.tmw_defs.specs.declared.verdict.Verdict.TheVariants.{OpaqueSoFar, Str
 use Rattle.tmw_defs.specs.History.{transactions}
 use Rattle.tmw_defs.specs.Opaque.{State}
 use Rattle.tmw_defs.specs.Verdict.{Rules, IsViolated, IsVerdict}
-use Rattle.tmw_window.specs.Shown.{IsShown}
+use Rattle.tmw_window.specs.ShownEvents.{IsShown}
 
 -- What a history is judged by that begins with this state, and else as another.
 abbrev pub from_state : Rules → State → Rules

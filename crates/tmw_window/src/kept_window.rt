@@ -2,12 +2,12 @@ ghost use Rattle.std.specs.Prelude.{◌≡◌, List, [], ◌∷◌, ◌++◌, If
 ghost use Rattle.tmw_events.specs.declared.event.Event.{Event};
 ghost use Rattle.tmw_defs.specs.Verdict.{Rules, IsVerdict};
 ghost use Rattle.tmw_defs.specs.declared.verdict.Verdict.{Verdict};
-ghost use Rattle.tmw_monitor.specs.Fitting.{Fits};
+ghost use Rattle.tmw_monitor.specs.Fits.{Fits};
 ghost use Rattle.tmw_monitor.specs.Monitor.{IsOpen, verdict_of};
 ghost use Rattle.tmw_monitor.specs.declared.monitor.Monitor.{Monitor};
 
-use crate::next_shown::NextShown;
-use crate::showing::Showing;
+use crate::shown_window::ShownWindow;
+use crate::window_change::WindowChange;
 use std::alloc::{AllocError, Global};
 use tmw_cuts::States;
 use tmw_events::Event;
@@ -23,8 +23,8 @@ pub struct KeptWindow {
 }
 
 impl KeptWindow {
-    ghost use Rattle.tmw_window.specs.Keeping.{HasPlaceFor, IsNext, KeepsSame, KeepsShown, events_of, from_of, states_of};
-    ghost use Rattle.tmw_window.specs.Showing.{IsShowing};
+    ghost use Rattle.tmw_window.specs.KeptWindow.{HasPlaceFor, IsNext, KeepsSame, KeepsShown, events_of, from_of, states_of};
+    ghost use Rattle.tmw_window.specs.ShownWindow.{IsShowing};
 
     /// Makes what is kept before the first event that the monitor is fed.
     pub fn new(alloc: Global, monitor: &Monitor) -> Result<KeptWindow, AllocError>
@@ -42,28 +42,28 @@ impl KeptWindow {
 
     /// Makes room for the event that the monitor takes next, and returns what that does with the window. If something
     /// is wrong already it succeeds.
-    pub fn make_room(&mut self, monitor: &Monitor) -> Result<NextShown, AllocError>
+    pub fn make_room(&mut self, monitor: &Monitor) -> Result<WindowChange, AllocError>
         ensures same { KeepsSame self.old self.new }
         ensures next { IfOk result (IsNext monitor.now) }
         ensures room { IfOk result (λ next. HasPlaceFor next self.new) }
         ensures stays { (IsOpen monitor.now → ⊥) → IsOk result }
     {
         if !monitor.is_open() {
-            return Ok(NextShown::None);
+            return Ok(WindowChange::None);
         }
         self.events.reserve(1)?;
         if !monitor.is_at_cut() {
-            return Ok(NextShown::GoesOn);
+            return Ok(WindowChange::GoesOn);
         }
         let states = monitor.outcomes().copy()?;
-        Ok(NextShown::Begins {
+        Ok(WindowChange::Begins {
             from: monitor.fed(),
             states,
         })
     }
 
     /// Takes the event that the monitor has taken, and keeps it unless something was wrong before it.
-    pub fn take(&mut self, next: NextShown, event: Event)
+    pub fn take(&mut self, next: WindowChange, event: Event)
         requires { HasPlaceFor next self.old }
         ensures { (rules : Rules) (history : List Event) (before : Monitor) (verdict : Verdict)
             → IsNext before next
@@ -72,14 +72,14 @@ impl KeptWindow {
             → KeepsShown rules (history ++ event ∷ []) verdict self.new }
     {
         match next {
-            NextShown::None => {}
-            NextShown::Begins { from, states } => {
+            WindowChange::None => {}
+            WindowChange::Begins { from, states } => {
                 self.from = from;
                 self.states = states;
                 self.events.clear();
                 self.events.push_reserved(event);
             }
-            NextShown::GoesOn => self.events.push_reserved(event),
+            WindowChange::GoesOn => self.events.push_reserved(event),
         }
     }
 
@@ -105,12 +105,12 @@ impl KeptWindow {
     }
 
     /// Returns what is shown of the run that the monitor was fed, if no event follows.
-    pub fn finish(self, monitor: &Monitor) -> Showing
+    pub fn finish(self, monitor: &Monitor) -> ShownWindow
         ensures { (rules : Rules) (history : List Event) → Fits rules history monitor.now
             → KeepsShown rules history (verdict_of monitor.now) self
             → IsShowing rules history result }
     {
-        Showing {
+        ShownWindow {
             fed: monitor.fed(),
             verdict: monitor.verdict(),
             broken: monitor.broken(),

@@ -2,11 +2,11 @@ ghost use Rattle.std.specs.Prelude.{◌≡◌, ◌<◌, ◌^◌, List, [], ◌�
 ghost use Rattle.tmw_events.specs.declared.event.Event.{Event};
 ghost use Rattle.tmw_defs.specs.Verdict.{Rules, IsVerdict};
 ghost use Rattle.tmw_cuts.specs.Members.{members};
-ghost use Rattle.tmw_monitor.specs.Fitting.{rules_for};
+ghost use Rattle.tmw_monitor.specs.Fits.{rules_for};
 ghost use Rattle.tmw_monitor.specs.Monitor.{IsOpen, fed_of};
 
 use crate::kept_window::KeptWindow;
-use crate::showing::Showing;
+use crate::shown_window::ShownWindow;
 use std::alloc::{AllocError, Global};
 use tmw_cuts::{State, States};
 use tmw_events::{Event, Registers};
@@ -21,9 +21,9 @@ pub struct LastWindow {
 }
 
 impl LastWindow {
-    ghost use Rattle.tmw_window.specs.Showing.{IsShowing};
-    ghost use Rattle.tmw_window.specs.Keeping.{events_of, from_of, states_of};
-    ghost use Rattle.tmw_window.specs.Watching.{Watches, monitor_of, window_of};
+    ghost use Rattle.tmw_window.specs.ShownWindow.{IsShowing};
+    ghost use Rattle.tmw_window.specs.KeptWindow.{events_of, from_of, states_of};
+    ghost use Rattle.tmw_window.specs.LastWindow.{Watches, monitor_of, window_of};
 
     /// Makes a judge of a run whose registers begin with these values, before its first event. Those that the run
     /// does not have are to be 0.
@@ -100,7 +100,7 @@ impl LastWindow {
     }
 
     /// Returns what is shown of the run, if no event follows.
-    pub fn finish(self) -> Showing
+    pub fn finish(self) -> ShownWindow
         ensures { (rules : Rules) (history : List Event) → Watches rules history self
             → IsShowing rules history result }
     {

@@ -1,15 +1,15 @@
 //! The place where a run went wrong: its last window, and the states from which that window begins.
 #![tactic(auto)]
 
-mod feeding;
 mod kept_window;
 mod last_window;
-mod law;
-mod next_shown;
-mod showing;
+mod laws;
+mod shown_window;
+mod window_change;
+mod window_taker;
 
 pub use kept_window::KeptWindow;
 pub use last_window::LastWindow;
-pub use law::{law_states, law_window};
-pub use next_shown::NextShown;
-pub use showing::Showing;
+pub use laws::{law_states, law_window};
+pub use shown_window::ShownWindow;
+pub use window_change::WindowChange;

@@ -1,5 +1,5 @@
-pub mod Kept
+pub mod OneEventMore
 pub mod Path
-pub mod Pushed
 mod Shared
-pub mod Turning
+pub mod TurnsAt
+pub mod WitnessChanges

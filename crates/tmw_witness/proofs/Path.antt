@@ -4,7 +4,7 @@ use Rattle.tmw_witness.proofs.Shared.{Below, Bool, Contains, Ends, HasWriter, Is
 use Rattle.tmw_search.proofs.Bits.{masks}
 use Rattle.tmw_search.proofs.LayerSteps.{leads-first}
 use Rattle.tmw_search.specs.Layers.{chosen}
-use Rattle.tmw_search.specs.Polygraph.{ShowsTransaction, ShowsTransactions}
+use Rattle.tmw_search.specs.LegalOrders.{ShowsTransaction, ShowsTransactions}
 use Rattle.tmw_search.proofs.Chosen.{chosen-zero, chosen_bits}
 
 -- where transaction j comes in the order

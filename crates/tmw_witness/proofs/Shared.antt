@@ -10,9 +10,9 @@ pub use Rattle.std.specs.List.{Contains}
 pub use Rattle.std.specs.Prelude.{slice_get, slice_set}
 pub use Rattle.tmw_cuts.proofs.Moves.{asked_on, ends_at}
 pub use Rattle.tmw_cuts.proofs.Pushes.{views_of-push}
-pub use Rattle.tmw_cuts.proofs.Standings.{found-begun, found-moved, live-next, moves}
+pub use Rattle.tmw_cuts.proofs.OneEventMore.{found-begun, found-moved, live-next, moves}
 pub use Rattle.tmw_cuts.proofs.TurnSteps.{found_lives, found_within}
-pub use Rattle.tmw_cuts.specs.Standing.{IsNext, StandsFor, count_of, view_of, views, views_of}
+pub use Rattle.tmw_cuts.specs.StandsFor.{IsNext, StandsFor, count_of, view_of, views, views_of}
 pub use Rattle.tmw_cuts.specs.Views.{View, bit, completed_mask, new_view, next_view, view}
 pub use Rattle.tmw_cuts.specs.declared.turn.Move.TheVariants.{Answer, Ask, Begin, End}
 pub use Rattle.tmw_defs.proofs.QuietProof.{left_out}
@@ -22,8 +22,8 @@ pub use Rattle.tmw_defs.specs.Outcomes.{Ends, Leads}
 pub use Rattle.tmw_events.specs.declared.event.Kind.TheVariants.{C}
 pub use Rattle.tmw_search.proofs.Bits.{bit_cases, same_place}
 pub use Rattle.tmw_search.proofs.LayerSteps.{slice_get_some}
-pub use Rattle.tmw_search.specs.Legal.{In}
+pub use Rattle.tmw_search.specs.NodeOrders.{In}
 pub use Rattle.tmw_search.proofs.WindowViews.{shown_at, shows-views_of}
-pub use Rattle.tmw_witness.specs.Turns.{PrecedesNone, TurnsAt}
-pub use Rattle.tmw_witness.specs.Witnessing.{Below, HasWriter, IsWitness, MayStand, PlacesThose, Stands, Witnesses, committed_of, rank_of, state_of}
+pub use Rattle.tmw_witness.specs.TurnsAt.{PrecedesNone, TurnsAt}
+pub use Rattle.tmw_witness.specs.Witness.{Below, HasWriter, IsWitness, MayStand, PlacesThose, Stands, Witnesses, committed_of, rank_of, state_of}
 pub use Rattle.tmw_witness.specs.declared.witness.Witness.{Witness}

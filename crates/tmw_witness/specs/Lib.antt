@@ -1,2 +1,2 @@
-pub mod Turns
-pub mod Witnessing
+pub mod TurnsAt
+pub mod Witness

@@ -1,8 +1,8 @@
 //! A serial order of the open window's transactions, updated by each event, so that a known order needs no search.
 #![tactic(auto)]
 
-mod explaining;
-mod following;
+mod explains;
+mod follow;
 mod replay;
 mod witness;
 

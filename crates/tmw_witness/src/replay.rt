@@ -3,21 +3,21 @@ ghost use Rattle.std.specs.List.{Contains};
 ghost use Rattle.tmw_events.specs.declared.event.Event.{Event};
 ghost use Rattle.tmw_defs.specs.Opaque.{State};
 ghost use Rattle.tmw_cuts.specs.Members.{members};
-ghost use Rattle.tmw_cuts.specs.Standing.{StandsFor, views_of};
+ghost use Rattle.tmw_cuts.specs.StandsFor.{StandsFor, views_of};
 ghost use Rattle.tmw_cuts.specs.Views.{view};
-ghost use Rattle.tmw_search.specs.Ended.{TellsEnd};
+ghost use Rattle.tmw_search.specs.EndStates.{TellsEnd};
 
 use crate::witness::Witness;
 use tmw_cuts::{State, States, Txn, Window};
 use tmw_defs::Criterion;
-use tmw_search::{Step, find_order, is_next, may_hold};
+use tmw_search::{SerialStep, find_order, is_next, may_hold};
 
 impl Witness {
-    ghost use Rattle.tmw_witness.specs.Witnessing.{PlacesThose, Witnesses};
-    ghost use Rattle.tmw_search.specs.Legal.{In};
+    ghost use Rattle.tmw_witness.specs.Witness.{PlacesThose, Witnesses};
+    ghost use Rattle.tmw_search.specs.NodeOrders.{In};
 
     /// Places a transaction after those of the mask, if it can stand there, and returns the mask with it.
-    fn place(&mut self, items: &[Txn], step: Step, mask: u8) -> Option<u8>
+    fn place(&mut self, items: &[Txn], step: SerialStep, mask: u8) -> Option<u8>
         requires { length items.now ≤ 8 }
         ensures known { self.new.known ≡ self.old.known }
         ensures placed { IfSome result (λ above. (starts : List State)
@@ -48,7 +48,7 @@ impl Witness {
 
     /// Takes this order in, from this state: step n is the one with n steps after it. The order is known if it is one
     /// of all transactions.
-    fn take(&mut self, items: &[Txn], start: &State, steps: &[Step; 8])
+    fn take(&mut self, items: &[Txn], start: &State, steps: &[SerialStep; 8])
         requires { length items.now ≤ 8 }
         ensures { (starts : List State) → Contains starts start.now
             → Witnesses starts (map view items.now) self.new }

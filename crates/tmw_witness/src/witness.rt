@@ -4,7 +4,7 @@ ghost use Rattle.tmw_events.specs.declared.event.Event.{Event};
 ghost use Rattle.tmw_defs.specs.History.{transactions};
 ghost use Rattle.tmw_defs.specs.Opaque.{State};
 ghost use Rattle.tmw_defs.specs.Outcomes.{Ends};
-ghost use Rattle.tmw_cuts.specs.Standing.{views_of};
+ghost use Rattle.tmw_cuts.specs.StandsFor.{views_of};
 
 use tmw_cuts::State;
 
@@ -25,7 +25,7 @@ pub struct Witness {
 }
 
 impl Witness {
-    ghost use Rattle.tmw_witness.specs.Witnessing.{Witnesses, state_of};
+    ghost use Rattle.tmw_witness.specs.Witness.{Witnesses, state_of};
 
     /// Makes the order of a window without a transaction, from this state.
     pub fn new(start: State) -> Witness

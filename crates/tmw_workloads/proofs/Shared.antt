@@ -11,4 +11,4 @@ pub use Rattle.tmw_events.specs.Text.{FitsKind, kind_text}
 pub use Rattle.tmw_events.specs.declared.event.Kind.{Kind}
 pub use Rattle.tmw_runs.specs.Scripts.{is_operation, is_request, is_transaction, script_of, scripts_of}
 pub use Rattle.tmw_workloads.specs.Json.{call_data, fields_data, list_data, number_data, script_data, transaction_data, workload_data}
-pub use Rattle.tmw_workloads.specs.Parts.{AreScripts, IsNoPart, IsOrder, IsScript, IsTransaction}
+pub use Rattle.tmw_workloads.specs.WorkloadParts.{AreScripts, IsNoPart, IsOrder, IsScript, IsTransaction}

@@ -1,3 +1,3 @@
 pub mod Json
-pub mod Parts
 pub mod Workload
+pub mod WorkloadParts

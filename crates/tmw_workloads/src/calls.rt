@@ -4,7 +4,7 @@ ghost use Rattle.serde_json.specs.View.{view};
 ghost use Rattle.tmw_events.specs.Text.{FitsKind};
 ghost use Rattle.tmw_runs.specs.Scripts.{is_operation, is_request, is_transaction};
 ghost use Rattle.tmw_workloads.specs.Json.{call_data};
-ghost use Rattle.tmw_workloads.specs.Parts.{IsNoPart};
+ghost use Rattle.tmw_workloads.specs.WorkloadParts.{IsNoPart};
 
 use serde_json::Value;
 use tmw_events::{Kind, Registers, kind_of};

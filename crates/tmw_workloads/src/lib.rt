@@ -2,17 +2,17 @@
 //! from JSON.
 #![tactic(auto)]
 
-mod array;
 mod calls;
 mod fault;
-mod fields;
+mod json_array;
+mod json_fields;
 mod order;
-mod read;
 mod registers;
 mod scripts;
 mod transaction;
+mod whole_workload;
 mod workload;
 
 pub use fault::WorkloadFault;
-pub use read::read_workload;
+pub use whole_workload::read_workload;
 pub use workload::Workload;

@@ -1,11 +1,11 @@
 ghost use Rattle.std.specs.Prelude.{◌≡◌, ◌<◌, IfOk, IfErr, IfSome, IfNone};
 ghost use Rattle.serde_json.specs.View.{view};
 ghost use Rattle.tmw_workloads.specs.Json.{list_data, number_data};
-ghost use Rattle.tmw_workloads.specs.Parts.{IsNoPart, IsOrder};
+ghost use Rattle.tmw_workloads.specs.WorkloadParts.{IsNoPart, IsOrder};
 ghost use Rattle.tmw_workloads.specs.declared.fault.WorkloadFault.TheVariants.{Json, Shape};
 
-use crate::array::values_of;
 use crate::fault::WorkloadFault;
+use crate::json_array::values_of;
 use serde_json::Value;
 use std::alloc::Global;
 

@@ -1,7 +1,7 @@
 ghost use Rattle.std.specs.Prelude.{◌≡◌, ◌<◌, ◌≤◌, IfSome, IfNone};
 ghost use Rattle.serde_json.specs.View.{view};
 ghost use Rattle.tmw_workloads.specs.Json.{number_data};
-ghost use Rattle.tmw_workloads.specs.Parts.{IsNoPart};
+ghost use Rattle.tmw_workloads.specs.WorkloadParts.{IsNoPart};
 
 use serde_json::Value;
 use tmw_events::Registers;

@@ -2,11 +2,11 @@ ghost use Rattle.std.specs.Prelude.{◌≡◌, IfOk, IfErr};
 ghost use Rattle.serde_json.specs.View.{view};
 ghost use Rattle.tmw_runs.specs.Scripts.{script_of, scripts_of};
 ghost use Rattle.tmw_workloads.specs.Json.{list_data, script_data};
-ghost use Rattle.tmw_workloads.specs.Parts.{AreScripts, IsNoPart, IsScript};
+ghost use Rattle.tmw_workloads.specs.WorkloadParts.{AreScripts, IsNoPart, IsScript};
 ghost use Rattle.tmw_workloads.specs.declared.fault.WorkloadFault.TheVariants.{Json, Shape};
 
-use crate::array::values_of;
 use crate::fault::WorkloadFault;
+use crate::json_array::values_of;
 use crate::transaction::read_transaction;
 use serde_json::Value;
 use std::alloc::Global;

@@ -1,12 +1,12 @@
 ghost use Rattle.std.specs.Prelude.{◌≡◌, IfOk, IfErr};
 ghost use Rattle.serde_json.specs.View.{view};
 ghost use Rattle.tmw_workloads.specs.Json.{transaction_data};
-ghost use Rattle.tmw_workloads.specs.Parts.{IsTransaction, IsNoPart};
+ghost use Rattle.tmw_workloads.specs.WorkloadParts.{IsTransaction, IsNoPart};
 ghost use Rattle.tmw_workloads.specs.declared.fault.WorkloadFault.TheVariants.{Json, Shape};
 
-use crate::array::values_of;
 use crate::calls::{is_transaction, read_kind};
 use crate::fault::WorkloadFault;
+use crate::json_array::values_of;
 use serde_json::Value;
 use std::alloc::Global;
 use tmw_events::{Kind, Registers};

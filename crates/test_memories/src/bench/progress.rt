@@ -66,7 +66,7 @@ fn tell_of(
     requires few { rounds ≤ 1000000000 }
 {
     let progress = Remembering::new(every);
-    let memory = Counting::new(Did::Done, Did::Abort, 7);
+    let memory = CallCounter::new(Did::Done, Did::Abort, 7);
     if let Some(workload) = told(rt.alloc(), UNASKED) {
         let settings = settings(64, limit, PATIENT, rounds);
         let _ = hunt(rt, rt.alloc(), &memory, &workload, settings, &progress);

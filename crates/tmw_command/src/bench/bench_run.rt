@@ -1,9 +1,9 @@
-use crate::drive::Driven;
+use crate::drive::DriveRun;
 
 /// What threads have made of a workload, with the header under which their log is written.
 #[derive(Debug, Drop)]
 pub struct BenchRun {
-    pub driven: Driven,
+    pub driven: DriveRun,
     /// How many rounds were begun.
     pub rounds: u64,
 }

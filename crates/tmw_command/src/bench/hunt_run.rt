@@ -1,12 +1,12 @@
 use tmw_counts::Summary;
 use tmw_drive::Ending;
-use tmw_show::Shown;
+use tmw_show::ShownTrace;
 
 /// What threads have made of a workload, with no event kept but those of the last window.
 #[derive(Drop)]
 pub struct HuntRun {
     /// The workload's registers, how many events the log has, the verdict on it, and its last window.
-    pub shown: Shown,
+    pub shown: ShownTrace,
     /// What the log has shown: up to the verdict's event, or all of it if nothing is wrong.
     pub summary: Summary,
     /// For each script, by its thread's number, how far it has come in the last round.

@@ -1,5 +1,5 @@
 use Rattle.std.proofs.Common.{All}
-use Rattle.tmw_ring.specs.Ends.{WriterOf}
+use Rattle.tmw_ring.specs.RingEnds.{WriterOf}
 use Rattle.test_ring.proofs.threads.start_both.Given as goal
 
 abbrev pub invariant-loop : goal.invariant-loop

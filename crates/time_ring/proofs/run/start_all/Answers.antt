@@ -1,6 +1,6 @@
 use Rattle.std.proofs.Common.{length, ap, List, arith}
 use Rattle.std.specs.Vec.Iter.{into_iter_items}
-use Rattle.tmw_ring.specs.Ends.{WriterIs}
+use Rattle.tmw_ring.specs.RingEnds.{WriterIs}
 use Rattle.time_ring.proofs.Rest.{of_rest}
 use Rattle.time_ring.proofs.run.start_all.Goals as goal
 

@@ -1,6 +1,6 @@
 use Rattle.std.proofs.Common.{◌≡◌, ◌≤◌, ◌+◌, length, All}
 use Rattle.std.specs.Vec.Iter.{into_iter_items, into_iter_len}
-use Rattle.tmw_ring.specs.Ends.{WriterOf}
+use Rattle.tmw_ring.specs.RingEnds.{WriterOf}
 use Rattle.time_ring.proofs.run.start_all.Given as goal
 
 abbrev pub invariant-loop-writer : goal.invariant-loop-writer

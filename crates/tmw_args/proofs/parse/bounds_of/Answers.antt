@@ -1,6 +1,6 @@
 -- The bounds are those of both numbers.
 use Rattle.tmw_args.proofs.Shared.{codes, count_in, found_of, refl, rows_of}
-use Rattle.tmw_args.proofs.Bounding.{with_both}
+use Rattle.tmw_args.proofs.Bounds.{with_both}
 use Rattle.tmw_args.proofs.parse.bounds_of.Goals as goal
 
 pub returns : goal.returns

@@ -1,6 +1,6 @@
 -- The settings are those of three numbers and of the bounds.
 use Rattle.tmw_args.proofs.Shared.{bounds_in, codes, count_in, found_of, refl, rows_of}
-use Rattle.tmw_args.proofs.Bounding.{with_all}
+use Rattle.tmw_args.proofs.Bounds.{with_all}
 use Rattle.tmw_args.proofs.parse.settings_of.Goals as goal
 
 pub returns : goal.returns

@@ -3,9 +3,9 @@ use Rattle.tmw_bench.proofs.OpaqueRounds.{all_opaque-append}
 use Rattle.tmw_bench.proofs.RoundsOver.{are_endings-map, over-log}
 use Rattle.tmw_bench.proofs.Whole.{is_benched, HasCome}
 use Rattle.tmw_drive.proofs.Workloads.{are_transactions-workload}
-use Rattle.tmw_pump.specs.Held.{listed}
-use Rattle.tmw_pump.specs.Keeping.{IsKept}
-use Rattle.tmw_pump.specs.Resting.{all_of, rest_in}
+use Rattle.tmw_pump.specs.HeldEvent.{listed}
+use Rattle.tmw_pump.specs.Keep.{IsKept}
+use Rattle.tmw_pump.specs.Rest.{all_of, rest_in}
 use Rattle.tmw_bench.proofs.bench.carry_out.Goals as goal
 
 pub play_rounds-requires-clause-can : goal.play_rounds-requires-clause-can

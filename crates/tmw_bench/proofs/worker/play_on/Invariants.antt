@@ -3,4 +3,4 @@ use Rattle.tmw_bench.proofs.Shared.{IsBetween, calls_of}
 use Rattle.tmw_bench.proofs.worker.play_on.Given as goal
 
 abbrev pub invariant-loop : goal.invariant-loop
-invariant-loop g l = IsBetween g.J.Giving.gave l.stage.ring.now (calls_of l.script) l.initial.worker l.worker
+invariant-loop g l = IsBetween g.J.MemoryAnswers.gave l.stage.ring.now (calls_of l.script) l.initial.worker l.worker

@@ -1,7 +1,7 @@
 -- The kind came after the thread and its space.
 use Rattle.std.proofs.Common.{[], ◌∷◌}
 use Rattle.tmw_events.specs.Text.{digit, kind_text}
-use Rattle.tmw_streams.proofs.Putting.{Puts-more, Puts-front}
+use Rattle.tmw_streams.proofs.Puts.{Puts-more, Puts-front}
 use Rattle.tmw_events.proofs.event_text.put_event.Goals as goal
 
 pub returns-in_err-put_all : goal.returns-in_err-put_all

@@ -1,5 +1,5 @@
 -- A trace is begun where its first line is read, and nothing is counted yet.
-use Rattle.tmw_judge.proofs.CountedParts.{judged-nothing}
+use Rattle.tmw_judge.proofs.CountedPart.{judged-nothing}
 use Rattle.tmw_judge.proofs.judge.begin.Goals as goal
 
 pub returns-clause-begins : goal.returns-clause-begins
@@ -10,7 +10,7 @@ returns-clause-begins g c =
       is = (
         c.in-Ok.header,
         read.2,
-        judged-nothing g.C.Counting.counts c.in-Ok.header c.args.bounds c.args.asked
+        judged-nothing g.C.Tally.counts c.in-Ok.header c.args.bounds c.args.asked
             c.in-Ok-monitors_for.monitors c.begin.result c.in-Ok-monitors_for.ensures c.begin.ensures,
       );
     }

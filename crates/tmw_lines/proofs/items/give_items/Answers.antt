@@ -1,6 +1,6 @@
 -- Each item that was read is given, and where memory is refused for one, no line is read after its line.
 use Rattle.tmw_lines.proofs.Shared.{arith, refl, subst, sym, ◌∙◌}
-use Rattle.tmw_lines.proofs.ItemsGiven.{HasGiven-none, HasGiven-held, HasGiven-push, lacks-held-last, lacks-next, count-next, gives-end, gives-fault, reads_on}
+use Rattle.tmw_lines.proofs.GiveItems.{HasGiven-none, HasGiven-held, HasGiven-push, lacks-held-last, lacks-next, count-next, gives-end, gives-fault, reads_on}
 use Rattle.tmw_lines.proofs.items.give_items.Goals as goal
 
 pub lines-init : goal.lines-init

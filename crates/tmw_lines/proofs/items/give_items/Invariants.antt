@@ -1,6 +1,6 @@
 -- What was told so far is what the reader of lines has read, and the taker was given its items.
 use Rattle.tmw_lines.proofs.Shared.{unread, ◌+◌, ◌≡◌}
-use Rattle.tmw_lines.proofs.ItemsGiven.{HasGiven}
+use Rattle.tmw_lines.proofs.GiveItems.{HasGiven}
 use Rattle.tmw_lines.proofs.items.give_items.Given as goal
 
 abbrev pub invariant-lines : goal.invariant-lines

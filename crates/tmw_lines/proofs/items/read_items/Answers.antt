@@ -1,5 +1,5 @@
 -- A list was given the items.
-use Rattle.tmw_lines.proofs.ItemsHeld.{reads-given}
+use Rattle.tmw_lines.proofs.VecTaker.{reads-given}
 use Rattle.tmw_lines.proofs.items.read_items.Goals as goal
 
 pub returns-clause-reads : goal.returns-clause-reads

@@ -1,5 +1,5 @@
 use Rattle.tmw_lines.proofs.Shared.{arith}
-use Rattle.tmw_lines.proofs.HeldLines.{length-left}
+use Rattle.tmw_lines.proofs.BufferLines.{length-left}
 use Rattle.tmw_lines.proofs.NextLines.{take_item-some, take_item-none}
 use Rattle.tmw_lines.proofs.next_line.take_item.Goals as goal
 

@@ -2,7 +2,7 @@
 use Rattle.tmw_monitor.proofs.Shared.{Begin, arith, drop, found-begun, inl, length-views_of, members, refl, transactions, uncut-next, views_of}
 use Rattle.tmw_defs.proofs.QuietProof.{left_out}
 use Rattle.tmw_cuts.proofs.Moves.{asked_on}
-use Rattle.tmw_witness.proofs.Pushed.{begun-pushed, completed-within, no_commit}
+use Rattle.tmw_witness.proofs.OneEventMore.{begun-pushed, completed-within, no_commit}
 use Rattle.tmw_monitor.proofs.AtOnce.{asked_quiet, open-fine}
 use Rattle.tmw_monitor.proofs.at_once.begin_at_once.Goals as goal
 

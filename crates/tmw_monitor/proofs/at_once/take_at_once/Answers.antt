@@ -4,9 +4,9 @@ use Rattle.tmw_events.specs.declared.event.Kind.{Kind}
 use Rattle.tmw_events.specs.declared.event.Kind.TheVariants.{K, N, R, V, W}
 use Rattle.tmw_defs.specs.declared.op.Op.TheVariants.{Add}
 use Rattle.tmw_defs.specs.History.{operation}
-use Rattle.tmw_cuts.proofs.Standings.{moves}
+use Rattle.tmw_cuts.proofs.OneEventMore.{moves}
 use Rattle.tmw_cuts.specs.declared.window.Window.{Window}
-use Rattle.tmw_witness.proofs.Pushed.{asks-kept}
+use Rattle.tmw_witness.proofs.OneEventMore.{asks-kept}
 use Rattle.tmw_monitor.specs.AtOnce.{StaysFine}
 use Rattle.tmw_monitor.proofs.AtOnce.{explained-fine}
 use Rattle.tmw_monitor.proofs.at_once.take_at_once.Goals as goal

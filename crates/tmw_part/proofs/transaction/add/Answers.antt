@@ -1,6 +1,6 @@
 -- The event joins the transaction that was found, or begins one where none was.
 use Rattle.tmw_part.proofs.Shared.{ap, longer, slice_set, ◌∙◌}
-use Rattle.tmw_part.proofs.Adding.{add_event-position, add_event-nowhere}
+use Rattle.tmw_part.proofs.Transactions.{add_event-position, add_event-nowhere}
 use Rattle.tmw_part.proofs.transaction.add.Goals as goal
 
 pub returns-in_ok-push-in-Some : goal.returns-in_ok-push-in-Some

@@ -1,6 +1,6 @@
 -- The search decides.
 use Rattle.tmw_plain_check.proofs.Shared.{Criterion, Ok, Weighs, ap, arith, length, subst, sym, ◌≤◌}
-use Rattle.tmw_plain_check.proofs.Weighing.{weighs_explained, weighs_completed}
+use Rattle.tmw_plain_check.proofs.Weights.{weighs_explained, weighs_completed}
 use Rattle.tmw_plain_check.proofs.judge.has_legal_order.Goals as goal
 
 pub returns-in-Opacity : goal.returns-in-Opacity

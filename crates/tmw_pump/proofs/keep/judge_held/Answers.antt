@@ -1,4 +1,4 @@
-use Rattle.tmw_pump.proofs.Keeping.{kept-same}
+use Rattle.tmw_pump.proofs.KeepSteps.{kept-same}
 use Rattle.tmw_pump.proofs.Turns.{came-more, came-same}
 use Rattle.tmw_pump.proofs.keep.judge_held.Goals as goal
 use Rattle.tmw_pump.proofs.Shared.{arith}

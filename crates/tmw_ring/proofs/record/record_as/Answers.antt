@@ -1,5 +1,5 @@
 use Rattle.tmw_ring.proofs.Shared.{HasRecorded, Kind, RingIs, RingSize, ap, false, is_full, is_spent, subst, sym, writer_in, writer_is, ◌∙◌, ◌≡◌, arith}
-use Rattle.tmw_ring.proofs.Recordings.{looks, looks-recorded}
+use Rattle.tmw_ring.proofs.RecordSteps.{looks, looks-recorded}
 use Rattle.tmw_ring.proofs.record.record_as.Goals as goal
 
 pub returns-then-is_spent-clause-err : goal.returns-then-is_spent-clause-err

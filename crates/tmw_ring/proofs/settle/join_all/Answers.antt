@@ -1,6 +1,6 @@
 use Rattle.tmw_ring.proofs.Shared.{List, Me, Parts, RingIs, WriterIs, ap, arith, into_iter_items, sym, ◌++◌, ◌∙◌}
 use Rattle.tmw_ring.proofs.Joins.{joins_both}
-use Rattle.tmw_ring.proofs.Returned.{of_all}
+use Rattle.tmw_ring.proofs.JoinParts.{of_all}
 use Rattle.tmw_ring.proofs.settle.join_all.Goals as goal
 
 pub join_seat-requires : goal.join_seat-requires

@@ -1,6 +1,6 @@
 use Rattle.tmw_search.proofs.Shared.{arith}
 use Rattle.tmw_search.proofs.Bits.{less_lt, masks}
-use Rattle.tmw_search.proofs.Completing.{more-next, more-part}
+use Rattle.tmw_search.proofs.AllCompletions.{more-next, more-part}
 use Rattle.tmw_search.proofs.completions.+add_completions.Goals as goal
 
 pub returns-then-left-eq0-clause-adds : goal.returns-then-left-eq0-clause-adds

@@ -1,7 +1,7 @@
 use Rattle.tmw_search.proofs.Shared.{arith, effects, ◌∙◌}
-use Rattle.tmw_search.proofs.Adding.{adds-first, adds-next}
+use Rattle.tmw_search.proofs.AddMembers.{adds-first, adds-next}
 use Rattle.tmw_search.proofs.Bits.{or-left, or-right}
-use Rattle.tmw_search.proofs.Completing.{EndsAtIndex, below-same, below-all, ends-read}
+use Rattle.tmw_search.proofs.AllCompletions.{EndsAtIndex, below-same, below-all, ends-read}
 use Rattle.tmw_search.proofs.completions.add_all.Goals.{then-index-eq0+in_ok-add_from+else-not-branch, else-index-eq0+else-differ}
 use Rattle.tmw_search.proofs.completions.add_all.Goals as goal
 

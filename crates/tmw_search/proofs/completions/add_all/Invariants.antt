@@ -1,6 +1,6 @@
 use Rattle.tmw_search.proofs.Shared.{Adds, Entails, effects, members, true, ◌≡◌}
-use Rattle.tmw_search.proofs.Adding.{OfFirst}
-use Rattle.tmw_search.proofs.Completing.{EndsAtIndex}
+use Rattle.tmw_search.proofs.AddMembers.{OfFirst}
+use Rattle.tmw_search.proofs.AllCompletions.{EndsAtIndex}
 use Rattle.tmw_search.proofs.completions.add_all.Given as goal
 
 abbrev pub invariant-loop-index : goal.invariant-loop-index

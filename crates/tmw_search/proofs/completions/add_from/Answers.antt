@@ -1,5 +1,5 @@
 use Rattle.tmw_search.proofs.Shared.{IfOk-weaker, IsTrue}
-use Rattle.tmw_search.proofs.Adding.{adds-to, adds-empty}
+use Rattle.tmw_search.proofs.AddMembers.{adds-to, adds-empty}
 use Rattle.tmw_search.proofs.completions.add_from.Goals as goal
 
 pub returns-then-not-reading-clause-adds : goal.returns-then-not-reading-clause-adds

@@ -1,5 +1,5 @@
 use Rattle.tmw_search.proofs.Shared.{IfOk-weaker, refl}
-use Rattle.tmw_search.proofs.Completing.{held-none, held-added}
+use Rattle.tmw_search.proofs.AllCompletions.{held-none, held-added}
 use Rattle.tmw_search.proofs.completions.add_held.Goals as goal
 
 pub returns-then-not-all_agree-clause-adds : goal.returns-then-not-all_agree-clause-adds

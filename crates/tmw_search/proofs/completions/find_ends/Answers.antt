@@ -1,7 +1,7 @@
 use Rattle.tmw_search.proofs.Shared.{arith, length-map}
-use Rattle.tmw_search.proofs.Answering.{begun}
-use Rattle.tmw_search.proofs.Completing.{ends-few, ends-many}
-use Rattle.tmw_search.proofs.Rooting.{marks-within}
+use Rattle.tmw_search.proofs.SearchAnswers.{begun}
+use Rattle.tmw_search.proofs.AllCompletions.{ends-few, ends-many}
+use Rattle.tmw_search.proofs.RootNode.{marks-within}
 use Rattle.tmw_search.proofs.completions.find_ends.Goals as goal
 
 pub add_completions-requires-clause-within : goal.add_completions-requires-clause-within

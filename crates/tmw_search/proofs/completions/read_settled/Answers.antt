@@ -1,4 +1,4 @@
-use Rattle.tmw_search.proofs.Reading.{follows-settled}
+use Rattle.tmw_search.proofs.ReadSteps.{follows-settled}
 use Rattle.tmw_search.proofs.completions.read_settled.Goals as goal
 
 pub returns-else-is_plain : goal.returns-else-is_plain

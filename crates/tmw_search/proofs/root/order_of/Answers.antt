@@ -1,5 +1,5 @@
 use Rattle.tmw_search.proofs.Shared.{arith, length-map, map, shift_is, view, ◌<◌}
-use Rattle.tmw_search.proofs.Rooting.{rows-none, rows-more, rows-order, rows-begin}
+use Rattle.tmw_search.proofs.RootNode.{rows-none, rows-more, rows-order, rows-begin}
 use Rattle.tmw_search.proofs.WindowViews.{shown_at}
 use Rattle.tmw_search.proofs.root.order_of.Goals as goal
 

@@ -1,5 +1,5 @@
 use Rattle.tmw_search.proofs.Shared.{map, view}
-use Rattle.tmw_search.proofs.Rooting.{Rows}
+use Rattle.tmw_search.proofs.RootNode.{Rows}
 use Rattle.tmw_search.proofs.root.order_of.Given as goal
 
 abbrev pub invariant-loop-place : goal.invariant-loop-place

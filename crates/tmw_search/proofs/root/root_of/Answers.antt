@@ -1,5 +1,5 @@
 use Rattle.tmw_search.proofs.Shared.{arith}
-use Rattle.tmw_search.proofs.Rooting.{held-member}
+use Rattle.tmw_search.proofs.RootNode.{held-member}
 use Rattle.tmw_search.proofs.root.root_of.Goals as goal
 
 pub returns-clause-root : goal.returns-clause-root

@@ -1,6 +1,6 @@
 use Rattle.tmw_search.proofs.Shared.{arith, inl, inr, opens}
 use Rattle.tmw_search.proofs.Nodes.{found-from, node-ordered, none-settled, none-with, found-less, found-clear, none-sides}
-use Rattle.tmw_search.proofs.Branching.{tries-none, tries-next, tries-all, result-with, fewer-given, fewer-ordered}
+use Rattle.tmw_search.proofs.Branches.{tries-none, tries-next, tries-all, result-with, fewer-given, fewer-ordered}
 use Rattle.tmw_search.proofs.search.+any.Goals.{then-branch+in-None-any, else-branch, then-precede+in-None-any-3, else-precede}
 use Rattle.tmw_search.proofs.search.+any.Goals as goal
 

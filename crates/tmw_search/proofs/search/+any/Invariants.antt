@@ -1,5 +1,5 @@
 use Rattle.tmw_search.proofs.Shared.{effects, opens, room, ◌+◌}
-use Rattle.tmw_search.proofs.Branching.{Tries}
+use Rattle.tmw_search.proofs.Branches.{Tries}
 use Rattle.tmw_search.proofs.search.+any.Given as goal
 
 abbrev pub decreases-any : goal.decreases-any

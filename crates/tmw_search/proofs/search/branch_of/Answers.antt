@@ -1,5 +1,5 @@
 use Rattle.tmw_search.proofs.Shared.{effects, eq-eqb, eqb-true, ◌∙◌}
-use Rattle.tmw_search.proofs.Branching.{branches-all, branches-with, branches-without, not-of}
+use Rattle.tmw_search.proofs.Branches.{branches-all, branches-with, branches-without, not-of}
 use Rattle.tmw_search.proofs.search.branch_of.Goals as goal
 
 pub returns-then-start-r-clause-branch : goal.returns-then-start-r-clause-branch

@@ -1,5 +1,5 @@
 use Rattle.tmw_search.proofs.Shared.{bit_or, effects, slice_index}
-use Rattle.tmw_search.proofs.Branching.{Branches}
+use Rattle.tmw_search.proofs.Branches.{Branches}
 use Rattle.tmw_search.proofs.search.branch_of.Given as goal
 
 abbrev pub invariant-loop-left : goal.invariant-loop-left

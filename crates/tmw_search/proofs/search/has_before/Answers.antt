@@ -1,5 +1,5 @@
 use Rattle.tmw_search.proofs.Shared.{slice_index}
-use Rattle.tmw_search.proofs.Branching.{one-before, some-not}
+use Rattle.tmw_search.proofs.Branches.{one-before, some-not}
 use Rattle.tmw_search.proofs.search.has_before.Goals as goal
 
 pub returns : goal.returns

@@ -1,6 +1,6 @@
 -- What was taken, or lacked, is the event whose line the bytes begin with.
 use Rattle.tmw_trace.proofs.Shared.{arith, is_spoken, true, ◌≡◌}
-use Rattle.tmw_trace.proofs.EventGiven.{event-line}
+use Rattle.tmw_trace.proofs.FirstEvent.{event-line}
 use Rattle.tmw_trace.proofs.first_event.give.Goals as goal
 
 pub returns-in-Ok : goal.returns-in-Ok

@@ -1,6 +1,6 @@
 -- The tracker tells what the event is to its transaction, and the counts follow.
 use Rattle.tmw_counts.proofs.Shared.{[], arith, both_ways, cases_lt, inl, inr, lt-ltb, ltb-true, refl, ◌++◌, ◌∷◌}
-use Rattle.tmw_counts.proofs.Counting.{counts-push}
+use Rattle.tmw_counts.proofs.CounterSteps.{counts-push}
 use Rattle.tmw_counts.proofs.counter.Counter.take.Goals as goal
 
 pub returns-clause-takes : goal.returns-clause-takes

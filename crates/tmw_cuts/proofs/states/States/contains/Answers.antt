@@ -1,6 +1,6 @@
 -- A binary search finds the state exactly where the set has it.
 use Rattle.tmw_cuts.proofs.Shared.{exact_bytes, nat_list_cmp_total}
-use Rattle.tmw_cuts.proofs.Rising.{found_by_search}
+use Rattle.tmw_cuts.proofs.StrictOrder.{found_by_search}
 use Rattle.tmw_cuts.proofs.states.States.contains.Goals as goal
 
 pub returns : goal.returns

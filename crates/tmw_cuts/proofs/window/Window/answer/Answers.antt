@@ -2,7 +2,7 @@
 use Rattle.tmw_cuts.proofs.Shared.{Answer, Some, View, [], ap, next_view, numbered, option_map, refl, rules, slice_get, views, with_op, ◌∙◌, ◌∷◌, ◌≡◌}
 use Rattle.tmw_cuts.proofs.Changes.{change-alike}
 use Rattle.tmw_cuts.proofs.Moves.{answered_live}
-use Rattle.tmw_cuts.proofs.Standings.{live-next, moves, stands-with}
+use Rattle.tmw_cuts.proofs.OneEventMore.{live-next, moves, stands-with}
 use Rattle.tmw_cuts.proofs.window.Window.answer.Goals as goal
 
 pub returns-clause-stands : goal.returns-clause-stands

@@ -3,7 +3,7 @@ use Rattle.tmw_cuts.proofs.Shared.{Ask, None, Some, [], ap, append-nil, change, 
 use Rattle.tmw_defs.specs.declared.status.Status.TheVariants.{Pending}
 use Rattle.tmw_cuts.proofs.Changes.{change-alike, change-nothing}
 use Rattle.tmw_cuts.proofs.Moves.{asked_live, asked_on}
-use Rattle.tmw_cuts.proofs.Standings.{live-next, moves, stands-with}
+use Rattle.tmw_cuts.proofs.OneEventMore.{live-next, moves, stands-with}
 use Rattle.tmw_cuts.proofs.window.Window.ask.Goals.{in-T, in_default}
 use Rattle.tmw_cuts.proofs.window.Window.ask.Goals as goal
 

@@ -1,7 +1,7 @@
 -- The event begins a transaction at the first free place.
 use Rattle.tmw_cuts.proofs.Shared.{Begin, None, Some, [], ap, arith, length, length-map, length-take-le, map, map-append, numbered, option_map, refl, rules, slice_set, sym, take, take_more_set, txns_of, view, views, ◌++◌, ◌+◌, ◌<◌, ◌∙◌, ◌∷◌, ◌≡◌}
 use Rattle.tmw_cuts.proofs.Moves.{asked_on}
-use Rattle.tmw_cuts.proofs.Standings.{moves, stands-with}
+use Rattle.tmw_cuts.proofs.OneEventMore.{moves, stands-with}
 use Rattle.tmw_cuts.proofs.window.Window.begin.Goals as goal
 
 pub returns-clause-stands : goal.returns-clause-stands

@@ -1,6 +1,6 @@
 -- At a cut no thread has an open transaction.
 use Rattle.tmw_cuts.proofs.Shared.{refl}
-use Rattle.tmw_cuts.proofs.Standings.{cleared}
+use Rattle.tmw_cuts.proofs.OneEventMore.{cleared}
 use Rattle.tmw_cuts.proofs.window.Window.clear.Goals as goal
 
 pub returns-clause-stands : goal.returns-clause-stands

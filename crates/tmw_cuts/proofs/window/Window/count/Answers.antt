@@ -1,6 +1,6 @@
 -- It shows as many transactions as are counted.
 use Rattle.tmw_cuts.proofs.Shared.{Window, ap, arith, count_of, length, length-map, length-take-le, sym, txns_of, view, ◌∙◌, ◌≡◌}
-use Rattle.tmw_cuts.proofs.Standings.{length-views_of}
+use Rattle.tmw_cuts.proofs.OneEventMore.{length-views_of}
 use Rattle.tmw_cuts.proofs.window.Window.count.Goals as goal
 
 counted : (w : Window) → w.count ≡ count_of w

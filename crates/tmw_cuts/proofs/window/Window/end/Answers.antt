@@ -3,7 +3,7 @@ use Rattle.tmw_cuts.proofs.Shared.{End, Event, Ix, List, Some, Window, [], ap, a
 use Rattle.tmw_defs.specs.declared.status.Status.{Status}
 use Rattle.tmw_cuts.specs.declared.txn.Txn.{Txn}
 use Rattle.tmw_cuts.proofs.Changes.{change-alike}
-use Rattle.tmw_cuts.proofs.Standings.{moves, stands-with}
+use Rattle.tmw_cuts.proofs.OneEventMore.{moves, stands-with}
 use Rattle.tmw_cuts.proofs.window.Window.end.Goals as goal
 
 with-end : (old : Window) (e : Event) (p : Ix) (status : Status) (slots : List Txn) → status ≡ status_after (Some e.kind)

@@ -1,7 +1,7 @@
 -- The thread's turn is the next, and those of the others stay.
 use Rattle.tmw_cuts.proofs.Shared.{Answer, Ask, Begin, End, IsNext, None, Some, refl, rules}
-use Rattle.tmw_cuts.proofs.Following.{follows-push}
-use Rattle.tmw_cuts.proofs.Standings.{moves}
+use Rattle.tmw_cuts.proofs.Follows.{follows-push}
+use Rattle.tmw_cuts.proofs.OneEventMore.{moves}
 use Rattle.tmw_cuts.proofs.window.Window.follow.Goals as goal
 
 pub returns-in-Begin-clause-ok : goal.returns-in-Begin-clause-ok

@@ -1,6 +1,6 @@
 -- The mask is full where each transaction has completed.
 use Rattle.tmw_cuts.proofs.Shared.{ap, arith, length-take-le, ◌%◌, ◌*◌, ◌+◌, ◌==◌, ◌^◌, ◌∙◌}
-use Rattle.tmw_cuts.proofs.Standings.{cut_shift}
+use Rattle.tmw_cuts.proofs.OneEventMore.{cut_shift}
 use Rattle.tmw_cuts.proofs.window.Window.is_cut.Goals as goal
 
 pub returns : goal.returns

@@ -1,6 +1,6 @@
 -- The mask is full with the place where each transaction has completed.
 use Rattle.tmw_cuts.proofs.Shared.{ap, arith, bit_or, length-take-le, ◌%◌, ◌*◌, ◌+◌, ◌==◌, ◌^◌, ◌∙◌}
-use Rattle.tmw_cuts.proofs.Standings.{cut_with}
+use Rattle.tmw_cuts.proofs.OneEventMore.{cut_with}
 use Rattle.tmw_cuts.proofs.window.Window.is_cut_with.Goals as goal
 
 pub returns : goal.returns

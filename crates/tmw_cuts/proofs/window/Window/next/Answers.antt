@@ -1,6 +1,6 @@
 -- The event is refused for the fault that it has by what the turn tells of the pending call.
 use Rattle.tmw_cuts.proofs.Shared.{Err, Event, Follows, IfErr, List, Malformed, Move, Ok, Refuses, Register, Result, after_call, ap, kept_in, lacks_register, pending_call, refuses-from, rejects_lacking, sym, turn_at, ℕ, ◌∙◌, ◌≡◌}
-use Rattle.tmw_cuts.proofs.Following.{refused}
+use Rattle.tmw_cuts.proofs.Follows.{refused}
 use Rattle.tmw_cuts.proofs.window.Window.next.Goals as goal
 
 pub returns-then-lacks_register-clause-err : goal.returns-then-lacks_register-clause-err

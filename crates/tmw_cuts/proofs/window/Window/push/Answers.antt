@@ -1,6 +1,6 @@
 -- An event that begins a transaction is noted so.
 use Rattle.tmw_cuts.proofs.Shared.{[], ap, begun_by, false, length, sym, transactions, true, ◌++◌, ◌+◌, ◌∙◌, ◌∷◌, ◌≡◌}
-use Rattle.tmw_cuts.proofs.Standings.{grows}
+use Rattle.tmw_cuts.proofs.OneEventMore.{grows}
 use Rattle.tmw_cuts.proofs.window.Window.push.Goals.{in-Begin, in_default-matches}
 use Rattle.tmw_cuts.proofs.window.Window.push.Goals as goal
 

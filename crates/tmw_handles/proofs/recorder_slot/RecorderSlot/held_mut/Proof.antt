@@ -8,7 +8,7 @@ use denote.Ref.{MutRef, mut_vals, mut_Tells}
 use denote.Triple.Entry.{on_entry}
 use Rattle.std.proofs.raw_atomic.Walks.{proved}
 use Rattle.std.proofs.VecSteps.Shapes.{after}
-use Rattle.tmw_handles.specs.Lending.{with_held}
+use Rattle.tmw_handles.specs.SlotLoan.{with_held}
 use mir.Raw.{raw as bare}
 use Rattle.tmw_handles.proofs.AsBoxes.{recorder_box as E, none_is_some}
 use Rattle.tmw_handles.specs.contracts.held_recorder.HeldRecorder as Held

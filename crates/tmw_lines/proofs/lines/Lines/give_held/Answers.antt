@@ -1,6 +1,6 @@
 -- The lines that were given are let go of.
 use Rattle.tmw_lines.proofs.Shared.{refl}
-use Rattle.tmw_lines.proofs.HeldGiven.{gives-held, lacks-held}
+use Rattle.tmw_lines.proofs.GiveHeld.{gives-held, lacks-held}
 use Rattle.tmw_lines.proofs.LinesRead.{IsReading-new, IsReading-over, IsReading-failed}
 use Rattle.tmw_lines.proofs.lines.Lines.give_held.Goals as goal
 

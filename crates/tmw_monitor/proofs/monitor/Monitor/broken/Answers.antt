@@ -1,10 +1,10 @@
 -- Where nothing is wrong, the history is well-formed, and else it is as told.
-use Rattle.tmw_monitor.proofs.Shared.{Broken, Contains, Event, List, None, Option, Some, TellsBroken, TellsFollowed, Window, inl, inr, members, ℕ}
-use Rattle.tmw_monitor.proofs.Opening.{follows_whole}
+use Rattle.tmw_monitor.proofs.Shared.{BrokenRule, Contains, Event, List, None, Option, Some, TellsBroken, TellsFollowed, Window, inl, inr, members, ℕ}
+use Rattle.tmw_monitor.proofs.OpenWindow.{follows_whole}
 use Rattle.tmw_monitor.proofs.SoFar.{so_far-or}
 use Rattle.tmw_monitor.proofs.monitor.Monitor.broken.Goals as goal
 
-told : (registers : ℕ) (history : List Event) (window : Window) (broken : Option Broken) → TellsFollowed registers history window broken
+told : (registers : ℕ) (history : List Event) (window : Window) (broken : Option BrokenRule) → TellsFollowed registers history window broken
     → TellsBroken registers history broken
 told registers history window None follows = follows.formed
 told registers history window (Some broken) is = is

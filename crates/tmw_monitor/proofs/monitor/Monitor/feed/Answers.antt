@@ -1,6 +1,6 @@
 -- What was taken at once left the history fine. What was not is of the history as before.
-use Rattle.tmw_monitor.proofs.Shared.{Event, Fits, IsTrue, List, Monitor, Open, Rules, StaysKept, [], err_from_is_err_and, false, inl, inr, so_far, sym, true, ◌++◌, ◌∙◌, ◌∷◌, ◌≡◌}
-use Rattle.tmw_monitor.proofs.Feeding.{fits-next, fits-kept}
+use Rattle.tmw_monitor.proofs.Shared.{Event, Fits, HistoryDigest, IsTrue, List, Monitor, Rules, StaysKept, [], err_from_is_err_and, false, inl, inr, so_far, sym, true, ◌++◌, ◌∙◌, ◌∷◌, ◌≡◌}
+use Rattle.tmw_monitor.proofs.FeedOpen.{fits-next, fits-kept}
 use Rattle.tmw_monitor.proofs.OnlyOpen.{keeps_only_open}
 use Rattle.tmw_monitor.proofs.SoFar.{so_far-or}
 use Rattle.tmw_monitor.proofs.monitor.Monitor.feed.Goals.{else-is_known-via-then-is_known+else-take_at_once, else-is_known-via-else-is_known}
@@ -14,7 +14,7 @@ fine-of rules history monitor known fits = elim (so_far-or monitor.criterion mon
   | inr final ↦ absurd (let k : true ≡ false = sym known ∙ (fits.forgets final).order in cc)
 ]
 
-fits-still : (rules : Rules) (history : List Event) (monitor : Monitor) (kept : Open)
+fits-still : (rules : Rules) (history : List Event) (monitor : Monitor) (kept : HistoryDigest)
     → IsTrue monitor.kept.witness.known → StaysKept monitor.kept kept → Fits rules history monitor
     → Fits rules history (record monitor { kept = kept })
 fits-still rules history monitor kept known stays fits =

@@ -1,7 +1,7 @@
 -- The next verdict is that of the history with the event, and where memory was refused the history fits as before.
 use Rattle.tmw_monitor.proofs.Shared.{[], arith, err_from_is_err_and, length, rules, so_far, ◌++◌, ◌∙◌, ◌∷◌, ◌≡◌}
-use Rattle.tmw_monitor.proofs.Breaking.{followed-forgot}
-use Rattle.tmw_monitor.proofs.Feeding.{fits-final, fits-next, fits-wrong, fits-kept}
+use Rattle.tmw_monitor.proofs.FirstBroken.{followed-forgot}
+use Rattle.tmw_monitor.proofs.FeedOpen.{fits-final, fits-next, fits-wrong, fits-kept}
 use Rattle.tmw_monitor.proofs.OnlyOpen.{keeps_only_open}
 use Rattle.tmw_monitor.proofs.monitor.Monitor.take.Goals as goal
 

@@ -1,7 +1,7 @@
 use Rattle.tmw_pump.proofs.Shared.{WasCounted, [], ap, arith, both_ways, is_open, length, length_push, refl, verdict_of, ◌++◌, ◌-◌, ◌<◌, ◌^◌, ◌∙◌, ◌∷◌, ◌≡◌}
-use Rattle.tmw_counts.proofs.Taking.{kept-ill, taken-formed}
-use Rattle.tmw_pump.proofs.CountingOn.{counted_next, counted_still}
-use Rattle.tmw_pump.proofs.Feeding.{few-held, room-fed, fed_on}
+use Rattle.tmw_counts.proofs.TakeEvent.{kept-ill, taken-formed}
+use Rattle.tmw_pump.proofs.CountOn.{counted_next, counted_still}
+use Rattle.tmw_pump.proofs.HeldEvent.{few-held, room-fed, fed_on}
 use Rattle.tmw_pump.proofs.front.Front.judge.Goals.{then-open, else-open}
 use Rattle.tmw_pump.proofs.front.Front.judge.Goals as goal
 

@@ -1,6 +1,6 @@
 -- Nothing was judged, so nothing was counted.
 use Rattle.tmw_pump.proofs.Shared.{Event, List, WasCounted, WasFed, [], ap, arith, length, subst, sym}
-use Rattle.tmw_pump.proofs.CountingOn.{counted_none}
+use Rattle.tmw_pump.proofs.CountOn.{counted_none}
 use Rattle.tmw_pump.proofs.front.Front.new.Goals as goal
 
 pub invariant_of-result : goal.invariant_of-result

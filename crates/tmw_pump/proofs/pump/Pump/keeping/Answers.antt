@@ -1,5 +1,5 @@
 use Rattle.tmw_pump.proofs.Shared.{rules, arith}
-use Rattle.tmw_pump.proofs.Keeping.{new_kept}
+use Rattle.tmw_pump.proofs.KeepSteps.{new_kept}
 use Rattle.tmw_pump.proofs.pump.Pump.keeping.Goals as goal
 
 pub invariant_of-result : goal.invariant_of-result

@@ -1,5 +1,5 @@
 use Rattle.tmw_pump.proofs.Shared.{Some, [], refl, rules, ◌∷◌, arith}
-use Rattle.tmw_pump.proofs.Keeping.{kept-came, was_kept}
+use Rattle.tmw_pump.proofs.KeepSteps.{kept-came, was_kept}
 use Rattle.tmw_pump.proofs.pump.Pump.next.Goals as goal
 
 pub returns-clause-kept : goal.returns-clause-kept

@@ -1,6 +1,6 @@
 use Rattle.tmw_pump.proofs.Shared.{HasPumped, ap, arith, err_from_is_err_and, inl, inr, pump_in, refl, subst, ℕ, ◌∙◌, ◌≡◌}
 use Rattle.tmw_pump.proofs.HeadlineProof.{gives_headline}
-use Rattle.tmw_pump.proofs.Keeping.{was_kept}
+use Rattle.tmw_pump.proofs.KeepSteps.{was_kept}
 use Rattle.tmw_pump.proofs.Turns.{fits-came, pumped-came, pumped-more, pumped-next, pumped-refused}
 use Rattle.tmw_pump.proofs.pump.Pump.pump.Goals as goal
 

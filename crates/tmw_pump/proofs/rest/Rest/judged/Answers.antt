@@ -1,5 +1,5 @@
 use Rattle.tmw_pump.proofs.Shared.{◌∙◌}
-use Rattle.tmw_pump.proofs.Keeping.{all_kept}
+use Rattle.tmw_pump.proofs.KeepSteps.{all_kept}
 use Rattle.tmw_pump.proofs.rest.Rest.judged.Goals as goal
 
 pub returns : goal.returns

@@ -1,5 +1,5 @@
 use Rattle.tmw_pump.proofs.Shared.{arith}
-use Rattle.tmw_pump.proofs.Keeping.{kept-came, was_kept}
+use Rattle.tmw_pump.proofs.KeepSteps.{kept-came, was_kept}
 use Rattle.tmw_pump.proofs.rest.Rest.next.Goals as goal
 
 pub returns-clause-kept : goal.returns-clause-kept

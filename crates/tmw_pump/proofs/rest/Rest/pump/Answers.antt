@@ -1,6 +1,6 @@
 use Rattle.tmw_pump.proofs.Shared.{arith, err_from_is_err_and, rest_in, ◌∙◌}
 use Rattle.tmw_pump.proofs.HeadlineProof.{gives_rest}
-use Rattle.tmw_pump.proofs.Keeping.{was_kept}
+use Rattle.tmw_pump.proofs.KeepSteps.{was_kept}
 use Rattle.tmw_pump.proofs.Turns.{few-came, fits-came, rested-more, rested-next, rested-refused}
 use Rattle.tmw_pump.proofs.rest.Rest.pump.Goals as goal
 

@@ -1,5 +1,5 @@
 use Rattle.tmw_ring.proofs.Shared.{arith}
-use Rattle.tmw_ring.proofs.NextLeft.{next_left, some_event}
+use Rattle.tmw_ring.proofs.NextEvent.{next_left, some_event}
 use Rattle.tmw_ring.proofs.settled.Settled.take.Goals as goal
 
 pub returns-clause-some : goal.returns-clause-some

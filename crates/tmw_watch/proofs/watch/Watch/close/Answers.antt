@@ -1,5 +1,5 @@
 use Rattle.tmw_watch.proofs.Shared.{IsPermutation, IsPermutation-map, Recorder, refl, rules, subst, sym, writers_of, ◌≡◌}
-use Rattle.tmw_watch.proofs.Closings.{ended_again, is_closed, is_left, of_ring_placed}
+use Rattle.tmw_watch.proofs.RestVerdict.{ended_again, is_closed, is_left, of_ring_placed}
 use Rattle.tmw_watch.proofs.watch.Watch.close.Goals as goal
 
 pub returns-in-Err-clause-err : goal.returns-in-Err-clause-err

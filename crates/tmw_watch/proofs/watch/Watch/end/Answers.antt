@@ -1,6 +1,6 @@
 use Rattle.tmw_watch.proofs.Shared.{All, WriterOf, subst, sym, ◌∙◌}
 use Rattle.std.proofs.lemmas.Result.{IfErr-weaker}
-use Rattle.tmw_watch.proofs.Closings.{ended_settled, of_ring-writers, writers-given}
+use Rattle.tmw_watch.proofs.RestVerdict.{ended_settled, of_ring-writers, writers-given}
 use Rattle.tmw_watch.proofs.watch.Watch.end.Goals as goal
 
 pub settle-requires-clause-writers : goal.settle-requires-clause-writers

@@ -1,7 +1,7 @@
 -- The event leads to the next phase of its thread, or is refused, by what the phase shows of the pending call.
 use Rattle.tmw_wellformed.proofs.Shared.{Between, Err, Ok, next_phase, refl, slice_index_or, sym, ◌∙◌, ◌≡◌}
 use Rattle.std.proofs.lemmas.Result.{err_from_is_err_and}
-use Rattle.tmw_wellformed.proofs.Tracking.{tracks-push, notes-push, refuses_lacking, refuses_next}
+use Rattle.tmw_wellformed.proofs.TrackerSteps.{tracks-push, notes-push, refuses_lacking, refuses_next}
 use Rattle.tmw_wellformed.proofs.tracker.Tracker.step.Goals as goal
 
 pub returns-clause-takes : goal.returns-clause-takes

@@ -1,6 +1,6 @@
 -- The monitor takes the event, and what is kept shows it.
 use Rattle.std.proofs.lemmas.Result.{err_from_is_err_and}
-use Rattle.tmw_window.proofs.Watching.{watches-kept}
+use Rattle.tmw_window.proofs.AfterFailure.{watches-kept}
 use Rattle.tmw_window.proofs.Windows.{kept-same}
 use Rattle.tmw_window.proofs.last_window.LastWindow.feed.Goals as goal
 

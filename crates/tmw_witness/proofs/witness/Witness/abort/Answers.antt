@@ -1,5 +1,5 @@
 use Rattle.tmw_witness.proofs.Shared.{inl, sym, ◌∙◌}
-use Rattle.tmw_witness.proofs.Kept.{left_out-kept}
+use Rattle.tmw_witness.proofs.WitnessChanges.{left_out-kept}
 use Rattle.tmw_witness.proofs.witness.Witness.abort.Goals as goal
 
 pub returns-else-is_held : goal.returns-else-is_held

@@ -1,5 +1,5 @@
 use Rattle.tmw_witness.proofs.Shared.{arith, inl, rules, sym, view, ◌∙◌}
-use Rattle.tmw_witness.proofs.Kept.{AreLong, left_out-kept, moved-kept}
+use Rattle.tmw_witness.proofs.WitnessChanges.{AreLong, left_out-kept, moved-kept}
 use Rattle.tmw_witness.proofs.witness.Witness.answer.Goals as goal
 
 pub returns-then-holds_at : goal.returns-then-holds_at

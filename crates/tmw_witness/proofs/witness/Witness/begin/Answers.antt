@@ -1,5 +1,5 @@
 use Rattle.tmw_witness.proofs.Shared.{rules}
-use Rattle.tmw_witness.proofs.Kept.{AreLong, begin-kept}
+use Rattle.tmw_witness.proofs.WitnessChanges.{AreLong, begin-kept}
 use Rattle.tmw_witness.proofs.witness.Witness.begin.Goals as goal
 
 pub returns-clause-stands : goal.returns-clause-stands

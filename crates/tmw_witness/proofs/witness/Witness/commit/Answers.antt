@@ -1,5 +1,5 @@
 use Rattle.tmw_witness.proofs.Shared.{State, after_writes, inr, rank_of, refl, rules, state_of, sym, view, ◌∙◌, ◌≡◌}
-use Rattle.tmw_witness.proofs.Kept.{left_out-kept, held-kept}
+use Rattle.tmw_witness.proofs.WitnessChanges.{left_out-kept, held-kept}
 use Rattle.tmw_witness.proofs.witness.Witness.commit.Goals as goal
 
 pub returns-then-is_held : goal.returns-then-is_held

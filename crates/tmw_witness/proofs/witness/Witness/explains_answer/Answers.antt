@@ -1,7 +1,7 @@
 -- The state of its rank has the answer.
 use Rattle.tmw_witness.proofs.Shared.{Answer, inl, left_out, live-next, moves, refl, view, views_of}
-use Rattle.tmw_witness.proofs.Kept.{left_out-kept, live-left_out}
-use Rattle.tmw_witness.proofs.Pushed.{no_commit, slot-shown, turns-next}
+use Rattle.tmw_witness.proofs.WitnessChanges.{left_out-kept, live-left_out}
+use Rattle.tmw_witness.proofs.OneEventMore.{no_commit, slot-shown, turns-next}
 use Rattle.tmw_witness.proofs.witness.Witness.explains_answer.Goals as goal
 
 pub returns-clause-stands : goal.returns-clause-stands

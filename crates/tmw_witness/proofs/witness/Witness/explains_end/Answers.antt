@@ -1,7 +1,7 @@
 -- One that is held and commits stands where it stood, and so does one that is left out and aborts, or writes nothing.
 use Rattle.tmw_witness.proofs.Shared.{C, End, append-nil, false, inl, inr, left_out, not-true, refl, sym, true, view, views_of, ◌∙◌, ◌≡◌}
-use Rattle.tmw_witness.proofs.Kept.{held-kept, left_out-kept}
-use Rattle.tmw_witness.proofs.Pushed.{slot-shown, turned, turns-next}
+use Rattle.tmw_witness.proofs.WitnessChanges.{held-kept, left_out-kept}
+use Rattle.tmw_witness.proofs.OneEventMore.{slot-shown, turned, turns-next}
 use Rattle.tmw_witness.proofs.witness.Witness.explains_end.Goals.{in-C, in_default}
 use Rattle.tmw_witness.proofs.witness.Witness.explains_end.Goals as goal
 

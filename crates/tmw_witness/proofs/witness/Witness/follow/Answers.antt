@@ -1,6 +1,6 @@
 -- The event's transaction turns, and the order goes on with it, or is not known any more.
 use Rattle.tmw_witness.proofs.Shared.{Answer, Begin, C, End, IsNext, Some, View, [], ap, append-nil, arith, asked_on, completed_mask, false, found-begun, left_out, length, length-append, moves, new_view, next_view, refl, status_after, sym, true, view, views_of, ◌++◌, ◌∙◌, ◌∷◌, ◌≡◌}
-use Rattle.tmw_witness.proofs.Pushed.{asks-kept, begun-pushed, completed-within, no_commit, turned, turned-shown}
+use Rattle.tmw_witness.proofs.OneEventMore.{asks-kept, begun-pushed, completed-within, no_commit, turned, turned-shown}
 use Rattle.tmw_witness.proofs.witness.Witness.follow.Goals.{in-C, in_default}
 use Rattle.tmw_witness.proofs.witness.Witness.follow.Goals as goal
 

@@ -1,5 +1,5 @@
 use Rattle.tmw_witness.proofs.Shared.{End, cases_Bool, false, inl, inr, is_over, refl, view, views_of, ◌≡◌}
-use Rattle.tmw_witness.proofs.Pushed.{slot-shown, turns-still}
+use Rattle.tmw_witness.proofs.OneEventMore.{slot-shown, turns-still}
 use Rattle.tmw_witness.proofs.witness.Witness.hold_pending.Goals as goal
 
 pub returns-in-Pending-clause-stands : goal.returns-in-Pending-clause-stands

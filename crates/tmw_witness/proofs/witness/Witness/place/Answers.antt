@@ -1,5 +1,5 @@
 use Rattle.tmw_witness.proofs.Shared.{arith, bit, cases_Bool, inl, inr, ltb-true, refl, rules, shown_at, sym, ◌<◌, ◌≡◌}
-use Rattle.tmw_witness.proofs.Kept.{AreLong, replayed-more}
+use Rattle.tmw_witness.proofs.WitnessChanges.{AreLong, replayed-more}
 use Rattle.tmw_witness.proofs.witness.Witness.place.Goals as goal
 
 pub returns-clause-placed : goal.returns-clause-placed

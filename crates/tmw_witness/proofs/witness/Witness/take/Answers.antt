@@ -1,6 +1,6 @@
 use Rattle.tmw_witness.proofs.Shared.{ap, arith, bit_at, bit_at_ones, eqb-true, length, length-map, map, mod-eq_of_lt, rules, view, ℕ, ◌%◌, ◌*◌, ◌+◌, ◌-◌, ◌^◌, ◌∙◌, ◌≡◌, ◌≤◌}
 use Rattle.std.proofs.Math.Pow.{pow_mono}
-use Rattle.tmw_witness.proofs.Kept.{placed-all}
+use Rattle.tmw_witness.proofs.WitnessChanges.{placed-all}
 use Rattle.tmw_witness.proofs.witness.Witness.take.Goals as goal
 
 pub loop-left-preserved : goal.loop-left-preserved

@@ -1,9 +1,0 @@
-use Rattle.tmw_bench.proofs.Leads.{gone_on-none, gone_on-then}
-use Rattle.tmw_bench.proofs.judging.judge_up_to.Goals as goal
-use Rattle.tmw_bench.proofs.Shared.{arith}
-
-pub loop-init : goal.loop-init
-loop-init g c = (c.requires, gone_on-none c.args.pump.now)
-
-pub loop-preserved : goal.loop-preserved
-loop-preserved g c = grind (arith, gone_on-then)

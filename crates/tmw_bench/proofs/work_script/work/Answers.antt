@@ -1,0 +1,25 @@
+use Rattle.tmw_bench.proofs.Shared.{Answer, Call, calls_of, sym, ◌∙◌, arith, rules}
+use Rattle.tmw_bench.proofs.CallsLeft.{calls_left-goes_on}
+use Rattle.tmw_bench.proofs.Works.{played-called, played-new, worked-none_left, worked-refused}
+use Rattle.tmw_bench.proofs.work_script.work.Goals as goal
+
+pub loop-call-init : goal.loop-call-init
+loop-call-init g c = search (rules, played-new, calls_of)
+
+pub returns-in-Some-step-clause-worked : goal.returns-in-Some-step-clause-worked
+returns-in-Some-step-clause-worked g c =
+    let gives : Call → Answer → Type 0 = λ call answer. (goal.Tm-dyn g c.args.memory.now).gives c.args.memory.now.1 call answer in
+    worked-refused gives (calls_of c.args.script.now) c.loop-call.player c.in-Some.call c.in-Some-step.refused c.args.writer.now c.loop-call.writer
+    c.step.new.writer c.loop-call.invariant.2 (sym c.next.ensures.next ∙ c.in-Some.is) c.in-Some-step.ensures.stopped
+
+pub loop-call-smaller : goal.loop-call-smaller
+loop-call-smaller g c = grind (arith, calls_left-goes_on, calls_of)
+
+pub loop-call-preserved : goal.loop-call-preserved
+loop-call-preserved g c = grind (arith, played-called, calls_of)
+
+pub returns-clause-worked : goal.returns-clause-worked
+returns-clause-worked g c =
+    let gives : Call → Answer → Type 0 = λ call answer. (goal.Tm-dyn g c.args.memory.now).gives c.args.memory.now.1 call answer in
+    worked-none_left gives (calls_of c.args.script.now) c.loop-call.player c.args.writer.now c.loop-call.writer c.loop-call.invariant.2
+    (sym c.next.ensures.next ∙ c.in_default.is)

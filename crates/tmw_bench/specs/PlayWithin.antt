@@ -1,0 +1,31 @@
+-- What workers are given, and how a bench may fail.
+use Rattle.std.specs.Prelude.{◌≡◌, ◌<◌, ℕ, List, Option, Some, IsTrue, length, get_or}
+use Rattle.tmw_bench.specs.declared.fault.BenchFault.{BenchFault}
+use Rattle.tmw_bench.specs.declared.fault.BenchFault.TheVariants.{Registers, Ring, Memory, Spawn}
+use Rattle.tmw_drive.specs.Drive.{script_at}
+use Rattle.tmw_events.specs.declared.event.Kind.{Kind}
+use Rattle.tmw_ring.specs.declared.refused.Refused.{Refused}
+use Rattle.tmw_runs.specs.Scripts.{are_transactions}
+use Rattle.tmw_tm.specs.Answers.{Call, Answer}
+
+-- Each answer that the first relation gives, the other gives too.
+abbrev pub GivesWithin : (Call → Answer → Type 0) → (Call → Answer → Type 0) → Type 0
+GivesWithin gives more = (call : Call) (answer : Answer) → gives call answer → more call answer
+
+-- Each thread's script is of transactions.
+abbrev pub AreTransactions : List (List (List Kind)) → Type 0
+AreTransactions scripts = (registers : ℕ) × ((thread : ℕ) → IsTrue (are_transactions registers (script_at scripts thread)))
+
+-- Some thread was stopped.
+pub record SomeStop (stops : List (Option Refused)) : Type 0 where
+  pub thread : ℕ
+  pub low : thread < length stops
+  pub refused : Refused
+  pub stopped : (fallback : Option Refused) → get_or stops thread fallback ≡ Some refused
+
+-- The fault is not one of the workload's size or of the ring's: memory or a thread was refused.
+abbrev pub IsOfThreads : BenchFault → Type 0
+IsOfThreads Registers = ⊥
+IsOfThreads (Ring fault) = ⊥
+IsOfThreads Memory = Unit {0}
+IsOfThreads Spawn = Unit {0}

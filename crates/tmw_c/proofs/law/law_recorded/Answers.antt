@@ -1,6 +1,0 @@
-use Rattle.tmw_c.proofs.OneKind.{one_kind}
-use Rattle.tmw_c.proofs.TurnsClosed.{never_malformed_closed}
-use Rattle.tmw_c.proofs.law.law_recorded.Goals as goal
-
-pub returns : goal.returns
-returns c = record { one_kind = one_kind; formed = never_malformed_closed }

@@ -1,5 +1,0 @@
-use Rattle.tmw_defs.proofs.CriteriaLawProof.{criteria_law}
-use Rattle.tmw_defs.proofs.both_criteria.law_criteria.Goals as goal
-
-pub returns : goal.returns
-returns c = criteria_law

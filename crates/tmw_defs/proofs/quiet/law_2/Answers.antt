@@ -1,5 +1,0 @@
-use Rattle.tmw_defs.proofs.QuietLaws.{quiet_law}
-use Rattle.tmw_defs.proofs.quiet.law_2.Goals as goal
-
-pub returns : goal.returns
-returns c = quiet_law

@@ -1,6 +1,0 @@
--- The law, by its proof for every history.
-use Rattle.tmw_defs.proofs.TextsProof.{texts_law}
-use Rattle.tmw_defs.proofs.texts.law_texts.Goals as goal
-
-pub returns : goal.returns
-returns c = texts_law

@@ -1,0 +1,58 @@
+-- While not all verdicts are final, each event that was read is fed.
+use Rattle.tmw_judge.proofs.Shared.{ap, failures_after, refl, sym, ◌∙◌, arith}
+use Rattle.tmw_judge.proofs.FeedFirst.{HasFed-none, HasFed-push, feeds-end, feeds-fault, feeds-final, feeds-lack, reads_on, room-next}
+use Rattle.tmw_judge.proofs.feed_first.feed_first.Goals as goal
+
+pub loop-lines-init : goal.loop-lines-init
+loop-lines-init g c = (HasFed-none, refl)
+
+pub take-requires : goal.take-requires
+take-requires g c =
+    let given = rw c.in-Ok-Some.field-0-is at c.in-Ok-Some.ensures.item in
+    room-next c.loop-lines.invariant.0 c.next.new.self given.0 c.in-Ok-Some.event given.2 c.requires
+
+pub loop-lines-smaller : goal.loop-lines-smaller
+loop-lines-smaller g c = rw c.in-Ok-Some.field-0-is at c.in-Ok-Some.ensures.falls
+
+pub loop-lines-preserved : goal.loop-lines-preserved
+loop-lines-preserved g c =
+    let given = rw c.in-Ok-Some.field-0-is at c.in-Ok-Some.ensures.item in (
+      HasFed-push c.loop-lines.invariant.0 (sym c.loop-lines-test.ensures) c.next.new.source c.next.new.self
+          c.take.new.self given.0 c.in-Ok-Some.event given.1 given.2 c.in-Ok.ensures.taken,
+      c.in-Ok-Some.ensures.well ∙ c.loop-lines.invariant.1,
+    )
+
+pub returns-in_default-clause-feeds : goal.returns-in_default-clause-feeds
+returns-in_default-clause-feeds g c =
+    let given = rw c.in-Ok-Some.field-0-is at c.in-Ok-Some.ensures.item in
+    feeds-lack c.loop-lines.invariant.0 (sym c.loop-lines-test.ensures) _ (g.S.Source.from.ended c.next.new.source)
+    c.next.new.source c.next.new.self c.take.new.self given.0 c.in-Ok-Some.event given.1 given.2
+
+pub returns-in_default-clause-failures : goal.returns-in_default-clause-failures
+returns-in_default-clause-failures g c = c.in-Ok-Some.ensures.well ∙ c.loop-lines.invariant.1
+
+pub returns-in-Ok-None-clause-feeds : goal.returns-in-Ok-None-clause-feeds
+returns-in-Ok-None-clause-feeds g c =
+    let given = rw c.in-Ok-None.field-0-is at c.in-Ok-None.ensures.end in
+    feeds-end c.loop-lines.invariant.0 (sym c.loop-lines-test.ensures) tt (g.S.Source.from.ended c.next.new.source)
+    c.next.new.source c.next.new.self given.0 given.1 given.2
+
+pub returns-in-Ok-None-clause-failures : goal.returns-in-Ok-None-clause-failures
+returns-in-Ok-None-clause-failures g c = c.in-Ok-None.ensures.well ∙ c.loop-lines.invariant.1
+
+pub returns-in-Err-clause-feeds : goal.returns-in-Err-clause-feeds
+returns-in-Err-clause-feeds g c =
+    let given = c.in-Err.ensures.at_line in
+    feeds-fault c.loop-lines.invariant.0 (sym c.loop-lines-test.ensures) _ (g.S.Source.from.ended c.next.new.source)
+    c.next.new.source c.next.new.self given.0 c.in-Err.fault given.1 given.2
+
+pub returns-in-Err-clause-failures : goal.returns-in-Err-clause-failures
+returns-in-Err-clause-failures g c =
+    let reading = reads_on c.loop-lines.invariant.0 c.requires in
+    c.in-Err.ensures.failed reading ∙ ap (failures_after c.in-Err.fault) c.loop-lines.invariant.1
+
+pub returns-clause-feeds : goal.returns-clause-feeds
+returns-clause-feeds g c = grind (arith, feeds-final)
+
+pub returns-clause-failures : goal.returns-clause-failures
+returns-clause-failures g c = c.loop-lines.invariant.1

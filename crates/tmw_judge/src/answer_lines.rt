@@ -1,0 +1,100 @@
+ghost use Rattle.std.specs.Prelude.{◌≡◌, IfOk, string_bytes};
+ghost use Rattle.tmw_judge.specs.Judge.{report_lines, report_status};
+ghost use Rattle.tmw_judge.specs.Tally.{all_open};
+ghost use Rattle.tmw_judge.specs.Answer.{are_malformed, is_malformed, judged_lines, remark_of, shows_nothing, told_verdicts};
+
+use crate::by_criterion::ByCriterion;
+use crate::judge_result::JudgeResult;
+use crate::report::Report;
+use std::alloc::{AllocError, Global};
+use tmw_counts::is_open;
+use tmw_monitor::Verdict;
+use tmw_report::{
+    Remark, both_status, nothing_shown_if, report_strict, report_text, status_of, summary_text,
+};
+
+/// Makes the lines that report what was found, a line for each report, and that by opacity first.
+pub fn report_lines(alloc: Global, reports: &ByCriterion<Report>) -> Result<String, AllocError>
+    ensures { IfOk result (λ lines. string_bytes lines ≡ report_lines reports.now) }
+{
+    match reports {
+        ByCriterion::Opacity(report) => report_text(alloc, report.events, &report.verdict),
+        ByCriterion::Strict(report) => report_strict(alloc, report.events, &report.verdict),
+        ByCriterion::Both(opacity, strict) => {
+            let mut lines = report_text(alloc, opacity.events, &opacity.verdict)?;
+            let second = report_strict(alloc, strict.events, &strict.verdict)?;
+            lines.push_str(second.as_str())?;
+            Ok(lines)
+        }
+    }
+}
+
+/// Makes the reports' lines, and behind them that of the counts, if there are counts.
+pub fn judged_lines(alloc: Global, answer: &JudgeResult) -> Result<String, AllocError>
+    ensures { IfOk result (λ lines. string_bytes lines ≡ judged_lines answer.now) }
+{
+    let mut lines = report_lines(alloc, &answer.reports)?;
+    if let Some(summary) = &answer.summary {
+        let last = summary_text(alloc, &summary.counts)?;
+        lines.push_str(last.as_str())?;
+    }
+    Ok(lines)
+}
+
+/// Returns the exit status of the reports.
+pub const fn status_of_reports(reports: &ByCriterion<Report>) -> u8
+    ensures { result ≡ report_status reports.now }
+{
+    match reports {
+        ByCriterion::Opacity(report) | ByCriterion::Strict(report) => status_of(&report.verdict),
+        ByCriterion::Both(opacity, strict) => both_status(&opacity.verdict, &strict.verdict),
+    }
+}
+
+/// Returns what is remarked of the run: that it shows nothing, or which event fits no run although not each line reports it.
+pub fn remark_of(answer: &JudgeResult) -> Option<Remark>
+    ensures { result ≡ remark_of answer.now }
+{
+    match answer.broken {
+        Some(broken) if !are_malformed(&answer.reports) => Some(Remark::Broken(broken.at)),
+        _ => nothing_shown_if(shows_nothing(answer)),
+    }
+}
+
+/// Returns whether each report says that the run is malformed.
+const fn are_malformed(reports: &ByCriterion<Report>) -> bool
+    ensures { result ≡ are_malformed (told_verdicts reports.now) }
+{
+    match reports {
+        ByCriterion::Opacity(report) | ByCriterion::Strict(report) => is_malformed(&report.verdict),
+        ByCriterion::Both(opacity, strict) => {
+            is_malformed(&opacity.verdict) && is_malformed(&strict.verdict)
+        }
+    }
+}
+
+const fn is_malformed(verdict: &Verdict) -> bool
+    ensures { result ≡ is_malformed verdict.now }
+{
+    matches!(verdict, Verdict::Malformed(_))
+}
+
+/// Returns whether nothing is wrong by any criterion, and the counts tell that no two transactions overlapped.
+const fn shows_nothing(answer: &JudgeResult) -> bool
+    ensures { result ≡ shows_nothing answer.now }
+{
+    match &answer.summary {
+        Some(summary) => all_open(&answer.reports) && summary.none_overlapped,
+        None => false,
+    }
+}
+
+/// Returns whether nothing is wrong by any criterion.
+const fn all_open(reports: &ByCriterion<Report>) -> bool
+    ensures { result ≡ all_open (told_verdicts reports.now) }
+{
+    match reports {
+        ByCriterion::Opacity(report) | ByCriterion::Strict(report) => is_open(&report.verdict),
+        ByCriterion::Both(opacity, strict) => is_open(&opacity.verdict) && is_open(&strict.verdict),
+    }
+}

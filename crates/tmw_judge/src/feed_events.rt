@@ -1,0 +1,58 @@
+ghost use Rattle.std.specs.Prelude.{◌≡◌, ◌≢◌, ◌++◌, IfErr, OnOk};
+ghost use Rattle.tmw_lines.specs.Lines.{IsOver, HasFailed};
+ghost use Rattle.tmw_lines.specs.TextFault.{reading_failures};
+ghost use Rattle.tmw_lines.specs.declared.text_fault.TextFault.TheVariants.{Memory};
+ghost use Rattle.tmw_judge.specs.FeedEvents.{AreFedAllRead, AreFedSoMany, FeedsEvents, TakeEvents, LackAnEvent};
+ghost use Rattle.std.proofs.Common.{append_assoc, append-nil};
+
+use crate::judges::Judges;
+use crate::monitors::any_open;
+use crate::tally::Tally;
+use std::alloc::AllocError;
+use tmw_events::Event;
+use tmw_lines::{Taker, TextFault, give_items};
+use tmw_streams::Source;
+use tmw_trace::TraceLines;
+
+/// Judges take events by being fed them. Each event is counted while some verdict says that nothing is wrong.
+impl<C: Tally> Taker<Event> for Judges<C> {
+    ghost takes = { TakeEvents C.counts };
+
+    ghost lacks = { LackAnEvent C.counts };
+
+    ghost counts = { AreFedSoMany C.counts };
+
+    #[inline(always)]
+    fn take(&mut self, event: Event) -> Result<(), AllocError> {
+        let open = any_open(&self.monitors);
+        C::feed(&mut self.monitors, event)?;
+        if open {
+            self.counting.take(event);
+        }
+        Ok(())
+    }
+
+    ghost takes_none = { λ judges header bounds asked history fed. Prim.rw (append-nil history) fed };
+
+    ghost takes_more = { λ a b c xs ys taken more header bounds asked history fed. Prim.rw (← append_assoc history xs ys)
+        (more header bounds asked (history ++ xs) (taken header bounds asked history fed)) };
+}
+
+/// Reads the remaining events, up to the source's end or the first fault, and feeds each to the judges as its line
+/// is read. The reader then returns that end or fault again. `Memory` follows a failed allocation for the event read
+/// last: at most 4,096 bytes were read after its line.
+pub fn feed_events<S: Source, C: Tally>(
+    lines: &mut TraceLines,
+    source: &mut S,
+    judges: &mut Judges<C>,
+) -> Result<(), TextFault>
+    requires { AreFedAllRead C.counts lines.old judges.old }
+    ensures feeds { FeedsEvents S.from C.counts (S.from.ended source.new) source.old source.new
+        lines.old lines.new judges.old judges.new result }
+    ensures failures { S.from.failures source.new ≡ reading_failures result
+        (S.from.failures source.old) }
+    ensures over { OnOk result (IsOver lines.new) }
+    ensures stays { IfErr result (λ fault. fault ≢ Memory → HasFailed lines.new fault) }
+{
+    give_items(lines, source, judges)
+}

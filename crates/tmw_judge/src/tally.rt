@@ -1,0 +1,142 @@
+//! What is counted of the events that are judged: nothing, or what a history has shown.
+use crate::by_criterion::ByCriterion;
+use crate::monitors::feed_copy;
+use std::alloc::AllocError;
+use tmw_counts::{Counter, Summary};
+use tmw_events::{Event, Registers};
+use tmw_monitor::Monitor;
+
+/// Counts the events of a history, one after another, and feeds them to monitors. Its type tells what these mostly judge by, so that
+/// their steps are inlined into the reading of each kind's line, and an event is no value in memory.
+pub trait Tally: Drop {
+    ghost use Rattle.std.specs.Prelude.{◌<◌, ◌-◌, ◌^◌, ℕ, Bool, List, [], ◌∷◌, ◌++◌, length, IsTrue, IsFalse};
+    ghost use Rattle.tmw_monitor.specs.Monitor.{fed_of};
+    ghost use Rattle.tmw_judge.specs.ByCriterion.{Each};
+    ghost use Rattle.tmw_judge.specs.FeedEvents.{FeedsEach};
+    ghost use Rattle.tmw_defs.specs.History.{is_well_formed};
+    ghost use Rattle.tmw_events.specs.declared.event.Event.{Event};
+    ghost use Rattle.tmw_judge.specs.Tally.{HasSummary};
+
+    /// Whether it counts.
+    ghost counted: { Bool };
+
+    /// It has counted this history of a run with so many registers.
+    ghost counts: { ℕ → List Event → Self → Type 0 };
+
+    /// Makes one for a run with so many registers, before its first event.
+    fn begin(registers: Registers) -> Self
+        ensures { counts registers.number [] result };
+
+    /// Counts the next event where the history stays well-formed with it, and else none. The history has fewer than
+    /// 2^64 - 1 events.
+    fn take(&mut self, event: Event)
+        ensures formed { (registers : ℕ) (history : List Event) → length history < 2 ^ 64 - 1
+            → IsTrue (is_well_formed registers (history ++ event ∷ []))
+            → counts registers history self.old
+            → counts registers (history ++ event ∷ []) self.new }
+        ensures ill_formed { (registers : ℕ) (history : List Event) → length history < 2 ^ 64 - 1
+            → IsFalse (is_well_formed registers (history ++ event ∷ []))
+            → counts registers history self.old → counts registers history self.new };
+
+    /// Feeds an event to each monitor. After a failed allocation none has taken it, or of two the first alone.
+    fn feed(monitors: &mut ByCriterion<Monitor>, event: Event) -> Result<(), AllocError>
+        requires { Each (λ _ monitor. fed_of monitor < 2 ^ 40) monitors.old }
+        ensures { FeedsEach monitors.old monitors.new event result };
+
+    /// Returns what the counted history has shown, if it counts.
+    fn summary(&self) -> Option<Summary>
+        ensures { (registers : ℕ) (history : List Event) → counts registers history self.now
+            → HasSummary counted history result };
+}
+
+/// Counts nothing.
+#[derive(Drop)]
+pub struct NoTally;
+
+impl Tally for NoTally {
+    ghost use Rattle.std.specs.Prelude.{false};
+
+    ghost counted = { false };
+
+    ghost counts = { λ registers history counting. Unit {0} };
+
+    #[inline(always)]
+    fn begin(_registers: Registers) -> NoTally {
+        NoTally
+    }
+
+    #[inline(always)]
+    fn take(&mut self, _event: Event) {}
+
+    #[inline(always)]
+    fn feed(monitors: &mut ByCriterion<Monitor>, event: Event) -> Result<(), AllocError> {
+        if let ByCriterion::Opacity(monitor) = monitors {
+            monitor.feed(event)?;
+            return Ok(());
+        }
+        feed_copy(monitors, event)
+    }
+
+    fn summary(&self) -> Option<Summary> {
+        None
+    }
+}
+
+/// Counts nothing, of a history that is judged by strict serializability.
+#[derive(Drop)]
+pub struct StrictNoTally;
+
+impl Tally for StrictNoTally {
+    ghost use Rattle.std.specs.Prelude.{false};
+
+    ghost counted = { false };
+
+    ghost counts = { λ registers history counting. Unit {0} };
+
+    #[inline(always)]
+    fn begin(_registers: Registers) -> StrictNoTally {
+        StrictNoTally
+    }
+
+    #[inline(always)]
+    fn take(&mut self, _event: Event) {}
+
+    #[inline(always)]
+    fn feed(monitors: &mut ByCriterion<Monitor>, event: Event) -> Result<(), AllocError> {
+        if let ByCriterion::Strict(monitor) = monitors {
+            monitor.feed(event)?;
+            return Ok(());
+        }
+        feed_copy(monitors, event)
+    }
+
+    fn summary(&self) -> Option<Summary> {
+        None
+    }
+}
+
+impl Tally for Counter {
+    ghost use Rattle.tmw_counts.specs.Counter.{CountsSo};
+    ghost use Rattle.std.specs.Prelude.{true};
+
+    ghost counted = { true };
+
+    ghost counts = { CountsSo };
+
+    fn begin(registers: Registers) -> Counter {
+        Counter::new(registers)
+    }
+
+    fn take(&mut self, event: Event) {
+        let _refused = self.take(event);
+    }
+
+    #[inline(always)]
+    fn feed(monitors: &mut ByCriterion<Monitor>, event: Event) -> Result<(), AllocError> {
+        NoTally::feed(monitors, event)
+    }
+
+    fn summary(&self) -> Option<Summary> {
+        Some(self.summary())
+    }
+}

@@ -1,5 +1,0 @@
-use Rattle.tmw_lines.proofs.Shared.{arith, drop_all}
-use Rattle.tmw_lines.proofs.splitting.length_before.Goals as goal
-
-pub returns : goal.returns
-returns c = grind (arith, drop_all)

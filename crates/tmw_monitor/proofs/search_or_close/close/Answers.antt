@@ -1,0 +1,45 @@
+-- No outcome is a violation, and else the set becomes that of the outcomes.
+use Rattle.tmw_monitor.proofs.Shared.{Contains, Criterion, Ends, EndsOf, Event, IfSome, List, None, Option, Some, State, States, Witness, Witnesses, [], arith, ends-by, false, inr, members, refl, subst, sym, transactions, true, views_of, ◌∙◌, ◌∷◌, ◌≡◌}
+use Rattle.std.specs.Borrow.{Bor}
+use Rattle.std.specs.Option.{option_map}
+use Rattle.tmw_monitor.proofs.search_or_close.close.Goals as goal
+
+first_of : (xs : List State) → (xs ≡ [] → ⊥) → (x : State) × Contains xs x
+first_of [] some = absurd (some refl)
+first_of (x ∷ xs) some = (x, (0, omega arith, refl))
+
+none_in : (x : State) → Contains [] x → ⊥
+none_in x (k, within, is) = absurd (omega arith)
+
+-- an end that the serial order leads to is one by the criterion
+known_by : (criterion : Criterion) (states : States) (w : Witness) (found : Option (Bor State))
+    → IfSome found (λ end. (starts : List State) (events : List Event) → Witnesses starts (views_of events) w
+    → Ends (Contains starts) (transactions events) end.now)
+    → (events : List Event) → Witnesses (members states) (views_of events) w
+    → IfSome (option_map (λ end. end.now) found) (EndsOf criterion states events)
+known_by criterion states w None leads events was = tt
+known_by criterion states w (Some end) leads events was =
+    ends-by criterion (Contains (members states)) (transactions events) end.now (leads (members states) events was)
+
+pub returns-then-not-branch-clause-ok : goal.returns-then-not-branch-clause-ok
+returns-then-not-branch-clause-ok c quiet events stands cut was =
+    let old = c.args.kept.now in
+    let known = known_by c.args.criterion old.states old.witness c.known_end.result c.known_end.ensures.end events was in
+    let found = rw c.if-not-branch.true at (c.in_ok-replace_by_outcomes.ensures.ok events stands (rw c.copied-known.ensures known)) in
+    (stands, cut, found.0)
+
+pub returns-then-is_empty-clause-ok : goal.returns-then-is_empty-clause-ok
+returns-then-is_empty-clause-ok c quiet events stands cut was =
+    let old = c.args.kept.now in
+    let known = known_by c.args.criterion old.states old.witness c.known_end.result c.known_end.ensures.end events was in
+    let found = rw c.if-not-branch.false at (c.in_ok-replace_by_outcomes.ensures.ok events stands (rw c.copied-known.ensures known)) in
+    (stands, λ end is. none_in end (subst (λ (xs : List State). Contains xs end) (c.is_empty.ensures.0 c.if-is_empty.true) ((found.1 end).1 is)))
+
+pub returns-clause-ok : goal.returns-clause-ok
+returns-clause-ok c quiet events stands cut was =
+    let old = c.args.kept.now in
+    let known = known_by c.args.criterion old.states old.witness c.known_end.result c.known_end.ensures.end events was in
+    let found = rw c.if-not-branch.false at (c.in_ok-replace_by_outcomes.ensures.ok events stands (rw c.copied-known.ensures known)) in
+    let ends = members c.replace_by_outcomes.new.states in
+    let (end, some) = first_of ends (λ empty. let bad : false ≡ true = sym c.if-is_empty.false ∙ c.is_empty.ensures.1 empty in absurd (cc)) in
+    inr (record { cut = cut; exact = found.1; end = end; some = some; few = found.0; stands = c.clear.ensures.stands events stands cut; witness = c.begin_again.ensures })

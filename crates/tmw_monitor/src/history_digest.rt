@@ -1,0 +1,35 @@
+ghost use Rattle.std.specs.Prelude.{List, ℕ};
+
+use std::alloc::Global;
+use tmw_cuts::{States, Window};
+use tmw_witness::Witness;
+
+/// What is kept of a history in which nothing is wrong: no event.
+#[derive(Debug, Drop)]
+pub struct HistoryDigest {
+    /// The history's outcomes at its last cut.
+    pub states: States,
+    /// The transactions since, and where each thread is.
+    pub window: Window,
+    /// A serial order of these transactions, where one is known.
+    pub witness: Witness,
+}
+
+impl HistoryDigest {
+    ghost use Rattle.tmw_events.specs.declared.event.Event.{Event};
+    ghost use Rattle.tmw_cuts.specs.StandsFor.{Follows};
+    ghost use Rattle.tmw_monitor.specs.Fits.{KeepsNothing};
+
+    /// Forgets the history, and frees what was kept of it. Where the threads are stays.
+    #[cold]
+    #[inline(never)]
+    pub fn forget(&mut self, alloc: Global)
+        ensures nothing { KeepsNothing self.new }
+        ensures follows { (registers : ℕ) (history : List Event)
+            → Follows registers history self.old.window → Follows registers history self.new.window }
+    {
+        self.states = States::empty(alloc);
+        self.window.clear();
+        self.witness.forget();
+    }
+}

@@ -1,0 +1,75 @@
+ghost use Rattle.std.specs.Prelude.{◌≡◌, ℕ, [], Bool, List, IfOk, OnErr, IsTrue, IsFalse};
+ghost use Rattle.tmw_events.specs.declared.event.Event.{Event};
+ghost use Rattle.tmw_defs.specs.Cuts.{is_cut};
+ghost use Rattle.tmw_defs.specs.Opaque.{State};
+ghost use Rattle.tmw_cuts.specs.Members.{members};
+ghost use Rattle.tmw_cuts.specs.StandsFor.{StandsFor, views_of};
+ghost use Rattle.tmw_search.specs.EndStates.{EndsOf};
+ghost use Rattle.tmw_witness.specs.Witness.{Witnesses};
+ghost use Rattle.tmw_monitor.specs.OutcomeCheck.{Tells};
+
+use crate::history_digest::HistoryDigest;
+use crate::outcome_check::OutcomeCheck;
+use std::alloc::{AllocError, Global};
+use tmw_cuts::States;
+use tmw_defs::Criterion;
+use tmw_search::replace_by_outcomes;
+use tmw_witness::Witness;
+
+/// Weighs the events of a window at no cut, from the outcomes at its beginning. A serial order is looked for if none is known,
+/// and is kept if it is one of all transactions.
+pub fn search(criterion: Criterion, kept: &mut HistoryDigest) -> OutcomeCheck
+    ensures tells { (cap : ℕ) (quiet : Bool) (events : List Event)
+        → StandsFor kept.old.window events → IsFalse (is_cut events)
+        → Witnesses (members kept.old.states) (views_of events) kept.old.witness
+        → Tells criterion kept.old.states cap quiet events kept.new result }
+    ensures registers { kept.new.window.registers ≡ kept.old.window.registers }
+{
+    if kept.witness.is_known() {
+        return OutcomeCheck::Outcome;
+    }
+    if kept.witness.finds(criterion, &kept.states, &kept.window) {
+        OutcomeCheck::Outcome
+    } else {
+        OutcomeCheck::NoOutcome
+    }
+}
+
+/// Weighs the events of a window at a cut, from the outcomes at its beginning. The set becomes that of the outcomes at the cut,
+/// if these are at most `cap`, and the window is cleared.
+pub fn close(
+    criterion: Criterion,
+    alloc: Global,
+    kept: &mut HistoryDigest,
+    cap: u8,
+) -> Result<OutcomeCheck, AllocError>
+    ensures ok { IfOk result (λ found. (quiet : Bool) (events : List Event)
+        → StandsFor kept.old.window events → IsTrue (is_cut events)
+        → Witnesses (members kept.old.states) (views_of events) kept.old.witness
+        → Tells criterion kept.old.states cap quiet events kept.new found) }
+    ensures registers { kept.new.window.registers ≡ kept.old.window.registers }
+    ensures states { OnErr result (members kept.new.states ≡ members kept.old.states) }
+    ensures window { OnErr result (kept.new.window ≡ kept.old.window) }
+{
+    // An outcome that is known is mostly the only one, and then nothing is searched.
+    let known = kept.witness.known_end().copied();
+    if !replace_by_outcomes(criterion, alloc, &mut kept.states, &kept.window, cap, known)? {
+        return Ok(OutcomeCheck::TooMany);
+    }
+    if kept.states.is_empty() {
+        return Ok(OutcomeCheck::NoOutcome);
+    }
+    begin_again(&mut kept.witness, &kept.states);
+    kept.window.clear();
+    Ok(OutcomeCheck::Outcome)
+}
+
+/// Begins with a window without a transaction, from the first of these states.
+fn begin_again(witness: &mut Witness, starts: &States)
+    ensures { Witnesses (members starts.now) [] witness.new }
+{
+    match starts.get(0) {
+        Some(start) => witness.restart(&start),
+        None => witness.forget(),
+    }
+}

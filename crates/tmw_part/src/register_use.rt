@@ -1,0 +1,106 @@
+ghost use Rattle.std.specs.Prelude.{◌≡◌, None};
+ghost use Rattle.tmw_defs.specs.History.{operations};
+ghost use Rattle.tmw_cuts.specs.RegisterUse.{writes, left_by};
+ghost use Rattle.tmw_part.specs.ReasonSteps.{needs};
+ghost use Rattle.tmw_part.specs.UnlikeAnswers.{answer_of, first_unlike, known_after};
+
+use crate::transaction::TextOperations;
+use tmw_defs::Op;
+use tmw_events::Kind;
+
+/// Whether the operations of a transaction need the register to hold the value before them.
+pub(crate) fn needs(register: u8, value: u64, text: &[Kind]) -> bool
+    ensures { result ≡ needs register value (operations text.now) }
+{
+    for op in TextOperations(text) {
+        match op {
+            Op::Read(other, read) if other.number == register && read == value => return true,
+            Op::Write(other, _value) if other.number == register => return false,
+            Op::Add(other, _added, read) if other.number == register => return read == value,
+            _ => {}
+        }
+    }
+    false
+}
+
+/// The value of the register that the first operation on it needs before them, if it needs one. Which it is decides only
+/// which steps are tried.
+pub(crate) fn needed_of(register: u8, text: &[Kind]) -> Option<u64> {
+    let first = TextOperations(text).find(|op| match op {
+        Op::Read(other, _) | Op::Add(other, _, _) | Op::Write(other, _) => other.number == register,
+    });
+    match first {
+        Some(Op::Read(_, value) | Op::Add(_, _, value)) => Some(value),
+        _ => None,
+    }
+}
+
+/// The value that the operations of a transaction leave in the register, if they write or add to it.
+pub(crate) fn left_by(register: u8, text: &[Kind]) -> Option<u64>
+    ensures { result ≡ left_by register None (operations text.now) }
+{
+    let mut left = None;
+    for op in TextOperations(text) {
+        match op {
+            Op::Write(other, value) if other.number == register => left = Some(value),
+            Op::Add(other, added, value) if other.number == register => {
+                left = Some(value.wrapping_add(added));
+            }
+            _ => {}
+        }
+    }
+    left
+}
+
+/// Whether one of the operations of a transaction writes or adds to the register.
+pub(crate) fn writes(register: u8, text: &[Kind]) -> bool
+    ensures { result ≡ writes register (operations text.now) }
+{
+    for op in TextOperations(text) {
+        match op {
+            Op::Write(other, _) | Op::Add(other, _, _) if other.number == register => return true,
+            _ => {}
+        }
+    }
+    false
+}
+
+/// The value that the operation was answered of the register.
+fn answer_of(register: u8, op: Op) -> Option<u64>
+    ensures { result ≡ answer_of register op }
+{
+    match op {
+        Op::Read(other, value) | Op::Add(other, _, value) if other.number == register => Some(
+            value,
+        ),
+        _ => None,
+    }
+}
+
+/// What the register holds after the operation, where this is known before it.
+pub(crate) fn known_after(register: u8, known: Option<u64>, op: Op) -> Option<u64>
+    ensures { result ≡ known_after register known op }
+{
+    match op {
+        Op::Read(other, value) | Op::Write(other, value) if other.number == register => Some(value),
+        Op::Add(other, added, value) if other.number == register => Some(value.wrapping_add(added)),
+        _ => known,
+    }
+}
+
+/// Finds the first operation of a transaction that was answered another value of the register than those before it
+/// make it expect. Returns what was to be expected, and what was answered.
+pub(crate) fn find_unlike(register: u8, text: &[Kind]) -> Option<(u64, u64)>
+    ensures { result ≡ first_unlike register None (operations text.now) }
+{
+    let mut known = None;
+    for op in TextOperations(text) {
+        if let (Some(expected), Some(read)) = (known, answer_of(register, op)) {
+            if expected != read {
+                return Some((expected, read));
+            }
+        }
+        known = known_after(register, known, op);
+    }
+    None
+}

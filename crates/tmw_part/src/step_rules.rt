@@ -1,0 +1,267 @@
+ghost use Rattle.std.specs.Prelude.{◌≡◌, ◌==◌, ◌<◌, ◌&&◌, Some, length, not, slice_index};
+ghost use Rattle.std.specs.List.{list_all, list_any, range_with_len};
+ghost use Rattle.tmw_defs.specs.Opaque.{precedes};
+ghost use Rattle.tmw_part.specs.ReasonSteps.{comes_not_else, contradicts, follows, has_place, has_writer, is_asked, is_before, is_excluded, is_held, is_known_rival, is_left_by_none, is_only, is_rival, may_come_from, stands_between};
+ghost use Rattle.tmw_part.specs.IsPart.{txn_at};
+
+use crate::by_steps::{begins_before, ends_before, is_before, is_given, is_supplied};
+use crate::question::Question;
+use crate::reason_step::{Contradiction, ReasonStep, ValueSource};
+use crate::register_use::{find_unlike, left_by, needs, writes};
+use crate::transaction::{Transaction, precedes, status_of};
+use tmw_cuts::State;
+use tmw_defs::{Criterion, Status};
+use tmw_events::Kind;
+
+/// The text of the transaction at this place.
+pub(crate) fn text_at(transactions: &[Transaction], place: usize) -> &[Kind]
+    ensures { result.now ≡ (txn_at transactions.now place).text }
+{
+    match transactions.get(place) {
+        Some(transaction) => &transaction.text,
+        None => &[],
+    }
+}
+
+/// Whether the transaction at this place is held in each order.
+fn is_held(judged: &Question, steps: &[ReasonStep], place: usize) -> bool
+    ensures { result ≡ is_held judged.now.transactions.now steps.now place }
+{
+    let text = text_at(judged.transactions, place);
+    status_of(text) == Status::Committed || is_supplied(steps, place)
+}
+
+/// Whether each order has the transaction at this place.
+fn has_place(judged: &Question, steps: &[ReasonStep], place: usize) -> bool
+    ensures { let w = judged.now in
+        result ≡ has_place w.criterion w.transactions.now steps.now place }
+{
+    match judged.criterion {
+        Criterion::Opacity => place < judged.transactions.len(),
+        Criterion::Strict => is_held(judged, steps, place),
+    }
+}
+
+/// Whether one of the states has this value in the register.
+fn has_value(states: &[State], register: u8, value: u64) -> bool
+    requires { register < 8 }
+    ensures { result ≡ list_any (λ state. slice_index state register == value) states.now }
+{
+    states.iter().any(|state| state[register as usize] == value)
+}
+
+/// Whether a reader's value may come from this writer, or from the start, as far as one can tell without an order.
+fn may_come_from(judged: &Question, source: &ValueSource, writer: Option<usize>) -> bool
+    ensures { let w = judged.now in
+        result ≡ may_come_from w.states.now w.transactions.now source.now writer }
+{
+    let register = source.register.get();
+    match writer {
+        None => has_value(judged.states, register, source.value),
+        Some(place) => {
+            let text = text_at(judged.transactions, place);
+            place != source.reader
+                && matches!(status_of(text), Status::Committed | Status::Pending)
+                && left_by(register, text) == Some(source.value)
+        }
+    }
+}
+
+/// Whether the transaction is held, changes the source's register and is neither the reader nor the writer.
+fn is_rival(judged: &Question, steps: &[ReasonStep], source: &ValueSource, place: usize) -> bool
+    ensures { result ≡ is_rival judged.now.transactions.now steps.now source.now place }
+{
+    let text = text_at(judged.transactions, place);
+    place != source.reader
+        && source.writer != Some(place)
+        && is_held(judged, steps, place)
+        && writes(source.register.get(), text)
+}
+
+/// Whether the transaction is a rival that by these steps stands between the writer and the reader.
+fn stands_between(
+    judged: &Question,
+    steps: &[ReasonStep],
+    source: &ValueSource,
+    place: usize,
+) -> bool
+    ensures { result ≡ stands_between judged.now.transactions.now steps.now source.now place }
+{
+    is_rival(judged, steps, source, place)
+        && begins_before(steps, source.writer, place)
+        && is_before(steps, place, source.reader)
+}
+
+/// Whether by these steps a rival stands between the writer and the reader.
+fn is_overwritten(judged: &Question, steps: &[ReasonStep], source: &ValueSource) -> bool
+    ensures { let ts = judged.now.transactions.now in
+        result ≡ list_any (stands_between ts steps.now source.now) (range_with_len 0 (length ts)) }
+{
+    (0..judged.transactions.len()).any(|place| stands_between(judged, steps, source, place))
+}
+
+/// Whether by these steps the value can't come from there: the reader stands before the writer, or a rival stands
+/// between the two.
+fn is_excluded(judged: &Question, steps: &[ReasonStep], source: &ValueSource) -> bool
+    ensures { result ≡ is_excluded judged.now.transactions.now steps.now source.now }
+{
+    ends_before(steps, source.reader, source.writer) || is_overwritten(judged, steps, source)
+}
+
+/// Whether each order has the reader, which needs the register to hold the value.
+fn is_asked(judged: &Question, steps: &[ReasonStep], source: &ValueSource) -> bool
+    ensures { let w = judged.now in
+        result ≡ is_asked w.criterion w.transactions.now steps.now source.now }
+{
+    let text = text_at(judged.transactions, source.reader);
+    has_place(judged, steps, source.reader) && needs(source.register.get(), source.value, text)
+}
+
+/// Whether the value can't come from this writer, unless it is the source's own.
+fn comes_not_else(
+    judged: &Question,
+    steps: &[ReasonStep],
+    source: &ValueSource,
+    writer: Option<usize>,
+) -> bool
+    ensures { let w = judged.now in
+        result ≡ comes_not_else w.states.now w.transactions.now steps.now source.now writer }
+{
+    let other = ValueSource { writer, ..*source };
+    writer == source.writer
+        || !may_come_from(judged, source, writer)
+        || is_excluded(judged, steps, &other)
+}
+
+/// Whether the value comes from no other transaction than the source's own writer.
+fn from_no_other(judged: &Question, steps: &[ReasonStep], source: &ValueSource) -> bool
+    ensures { let w = judged.now in result ≡ list_all
+        (λ a. comes_not_else w.states.now w.transactions.now steps.now source.now (Some a))
+        (range_with_len 0 (length w.transactions.now)) }
+{
+    (0..judged.transactions.len()).all(|place| comes_not_else(judged, steps, source, Some(place)))
+}
+
+/// Whether the value comes from nowhere but the source's own writer.
+fn is_only(judged: &Question, steps: &[ReasonStep], source: &ValueSource) -> bool
+    ensures { let w = judged.now in
+        result ≡ is_only w.states.now w.transactions.now steps.now source.now }
+{
+    comes_not_else(judged, steps, source, None) && from_no_other(judged, steps, source)
+}
+
+/// Whether no transaction can have left the value.
+fn is_from_none(judged: &Question, source: &ValueSource) -> bool
+    ensures { let w = judged.now in result ≡ list_all
+        (λ a. not (may_come_from w.states.now w.transactions.now source.now (Some a)))
+        (range_with_len 0 (length w.transactions.now)) }
+{
+    (0..judged.transactions.len()).all(|place| !may_come_from(judged, source, Some(place)))
+}
+
+/// Whether neither the start nor any transaction can have left the value.
+fn is_left_by_none(judged: &Question, source: &ValueSource) -> bool
+    ensures { let w = judged.now in
+        result ≡ is_left_by_none w.states.now w.transactions.now source.now }
+{
+    !may_come_from(judged, source, None) && is_from_none(judged, source)
+}
+
+/// Whether each order has the reader, which needs the value, and nobody can have left it.
+fn is_without_source(judged: &Question, steps: &[ReasonStep], source: &ValueSource) -> bool
+    ensures { let w = judged.now in
+        result ≡ (is_asked w.criterion w.transactions.now steps.now source.now
+        && is_left_by_none w.states.now w.transactions.now source.now) }
+{
+    is_asked(judged, steps, source) && is_left_by_none(judged, source)
+}
+
+/// Whether the one transaction precedes the other in real time, by their places.
+pub(crate) fn precedes_at(transactions: &[Transaction], one: usize, other: usize) -> bool
+    ensures { let ts = transactions.now in
+        result ≡ precedes (txn_at ts one) (txn_at ts other) }
+{
+    match (transactions.get(one), transactions.get(other)) {
+        (Some(first), Some(second)) => precedes(first, second),
+        _ => false,
+    }
+}
+
+/// Whether the transaction is a rival of a source that is known, and leaves this value, which is another.
+fn is_known_rival(
+    judged: &Question,
+    steps: &[ReasonStep],
+    source: &ValueSource,
+    place: usize,
+    left: u64,
+) -> bool
+    ensures { let w = judged.now in
+        result ≡ is_known_rival w.transactions.now steps.now source.now place left }
+{
+    let text = text_at(judged.transactions, place);
+    is_given(steps, source)
+        && is_rival(judged, steps, source, place)
+        && left_by(source.register.get(), text) == Some(left)
+        && left != source.value
+}
+
+/// Whether by these steps the rival stands before the reader, where the value comes from a transaction.
+fn is_late(steps: &[ReasonStep], source: &ValueSource, rival: usize) -> bool
+    ensures { result
+        ≡ (has_writer source.now && is_before steps.now rival source.now.reader) }
+{
+    source.writer.is_some() && is_before(steps, rival, source.reader)
+}
+
+/// Tells whether the step follows from these.
+pub(crate) fn follows(judged: &Question, steps: &[ReasonStep], step: &ReasonStep) -> bool
+    ensures { let w = judged.now in
+        result ≡ follows w.criterion w.states.now w.transactions.now steps.now step.now }
+{
+    match *step {
+        ReasonStep::RealTime(one, other) => one != other
+            && precedes_at(judged.transactions, one, other),
+        ReasonStep::From(source) => {
+            is_asked(judged, steps, &source)
+                && may_come_from(judged, &source, source.writer)
+                && is_only(judged, steps, &source)
+        }
+        ReasonStep::ReadFirst(source, rival, left) => {
+            is_known_rival(judged, steps, &source, rival, left)
+                && begins_before(steps, source.writer, rival)
+        }
+        ReasonStep::ChangedFirst(rival, left, source) => {
+            is_known_rival(judged, steps, &source, rival, left) && is_late(steps, &source, rival)
+        }
+        ReasonStep::Through(one, between, other) => {
+            has_place(judged, steps, between)
+                && is_before(steps, one, between)
+                && is_before(steps, between, other)
+        }
+    }
+}
+
+/// Tells whether these steps contradict each other so.
+pub(crate) fn contradicts(judged: &Question, steps: &[ReasonStep], end: &Contradiction) -> bool
+    ensures { let w = judged.now in
+        result ≡ contradicts w.criterion w.states.now w.transactions.now steps.now end.now }
+{
+    match *end {
+        Contradiction::Cycle(place) => {
+            has_place(judged, steps, place) && is_before(steps, place, place)
+        }
+        Contradiction::NoSource(reader, register, value) => {
+            let source = ValueSource {
+                reader,
+                register,
+                value,
+                writer: None,
+            };
+            is_without_source(judged, steps, &source)
+        }
+        Contradiction::Unlike(reader, register, expected, read) => {
+            let unlike = find_unlike(register.get(), text_at(judged.transactions, reader));
+            has_place(judged, steps, reader) && unlike == Some((expected, read))
+        }
+    }
+}

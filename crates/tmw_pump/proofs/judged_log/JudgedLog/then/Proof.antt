@@ -1,0 +1,62 @@
+-- The list that `then` makes has one event more.
+use Rattle.tmw_pump.proofs.Steps.{ !, Args, Calls, Fun, Goes-none_ref, Logic, Loops, Meets, Memory, Routine, SProp, Stays, Tables, Ura, Val, Walks, WpFn, WpFn-mono, [], agg, alive, alloc_all, done, emp, ends_at, ent, enter, entered, free_all, fst∗, look_at, move, no_more, on_entry, owns, pass_all, pure_i, qed, raw, refl, returns, says, sets, stay_none_ref, suffices, tables, tables_of, triple_of, via, vnil, vptr, vstruct, walk_Meets, walk_of, walked, ‵, ◌$◌, ◌++◌, ◌∵◌, ◌∷◌}
+use mir.Syntax.{named}
+use base.Fml.{Fml}
+use contract.Lifetimes.{Lfts, Shares}
+use denote.Exit.{yes}
+use denote.Ref.{shr_vals, shr_Tells}
+use denote.Signature.{plain, types_at}
+use Rattle.tmw_pump.specs.contracts.judged_log.JudgedLog.then.Key.{name as key}
+use Rattle.tmw_pump.specs.contracts.judged_log.JudgedLog.then as f
+use Rattle.tmw_pump.proofs.judged_log.JudgedLog.then.Statement as stated
+use Rattle.tmw_pump.proofs.judged_log.JudgedLog.then.Code as code
+use Rattle.tmw_pump.specs.contracts.judged_log.JudgedLog as made
+use Rattle.tmw_events.specs.contracts.event.Event as event
+
+abbrev stayed : Stays (f.ended).signature.params (f.ended).kept
+stayed = (stay_none_ref (0 ∷ []) tt (plain (λ _. made.the_row)) yes, (stay_none_ref (1 ∷ []) tt (plain (λ _. event.the_row)) yes, tt))
+
+module _ {M : Type 1} {𝓤 : Ura M} (𝓛 : Logic 𝓤) (mem : Memory → SProp 𝓤) (run : Routine → Fun 𝓤) (C : Calls 𝓤 𝓛.H) (Λ : Loops 𝓤 𝓛.H) where
+  open 𝓛 use {H}
+
+  module _ (κs : Lfts 2) (qs : Shares 2) (a : Args f.signature κs) where
+    abbrev before : Val
+    before = vptr a.0.ref_ptr.0 a.0.ref_ptr.1
+
+    abbrev given : Val
+    given = vptr a.1.0.ref_ptr.0 a.1.0.ref_ptr.1
+
+    abbrev bound : (walk_of 𝓛 f.ended stayed (f.clauses 𝓛 mem run)).Ghost
+    bound = ((κs, qs, tt, a, (before ∷ [], (given ∷ [], tt))), tt)
+
+    abbrev passed : Fml
+    passed = owns (types_at f.signature.params κs) a (before ∷ [], (given ∷ [], tt))
+
+    walk : ent 𝓤 (on_entry 𝓛 f.signature κs qs a (before ∷ [], (given ∷ [], tt)))
+        (WpFn 𝓤 H C Λ code.function (before ∷ given ∷ []) ((walk_of 𝓛 f.ended stayed (f.clauses 𝓛 mem run)).post bound))
+    walk =
+        qed 𝓛 (raw (alive 𝓛 f.signature κs qs) ∷ ‵ passed ∷ []) ∵ enter ! C Λ code.function (before ∷ given ∷ []) _ $
+        alloc_all ! (λ l. pass_all ! refl ((tt, tt), ((tt, tt), tt)) $ sets ! (agg ! (no_more !)) refl (tt, tt) $
+        returns ! (look_at ! 0 refl) $ free_all ! refl $
+        suffices ! _ (ends_at 𝓛 f.ended stayed (f.clauses 𝓛 mem run) bound (vstruct vnil) (record { items = a.0.now.items ++ a.1.0.now ∷ [] }) (tt, (tt, tt)) (tt, (tt, tt))) $
+        says ! refl $ pure_i ! (made.the_row.own_val (record { items = a.0.now.items ++ a.1.0.now ∷ [] }) (vstruct vnil ∷ [])) ((λ vss. (tt, tt)), tt) ((tt, (refl, tt)), tt) $
+        move ! (1 ∷ 2 ∷ 0 ∷ []) $ done !)
+
+  walks : Walks 𝓛 f.ended stayed (WpFn 𝓤 H C Λ code.function) (f.clauses 𝓛 mem run)
+  walks =
+      walked 𝓛 f.ended stayed (f.clauses 𝓛 mem run) (WpFn 𝓤 H C Λ code.function) (λ κs. (shr_vals, (shr_vals, tt)))
+      (λ κs. (shr_Tells (named 0) κs.0 made.the_row, (shr_Tells (named 1) κs.1.0 event.the_row, tt)))
+      (λ κs qs bounds a g are. via 𝓤 _ (fst∗ 𝓤 _ (emp 𝓤)) (walk κs qs a))
+
+meets : {M : Type 1} {𝓤 : Ura M} (𝓛 : Logic 𝓤) (mem : Memory → SProp 𝓤) (run : Routine → Fun 𝓤) (𝓣 : Tables 𝓤 𝓛.H)
+    → Meets 𝓛 f.signature (WpFn 𝓤 𝓛.H 𝓣.C 𝓣.Λ code.function) (f.spec 𝓛 mem run)
+meets {𝓤 = 𝓤} 𝓛 mem run 𝓣 =
+    walk_Meets 𝓛 f.ended stayed (Goes-none_ref 𝓛 2 (0 ∷ []) tt (plain (λ _. made.the_row)) yes, (Goes-none_ref 𝓛 2 (1 ∷ []) tt (plain (λ _. event.the_row)) yes, tt)) (f.clauses 𝓛 mem run) (WpFn 𝓤 𝓛.H 𝓣.C 𝓣.Λ code.function)
+    (WpFn-mono 𝓤 𝓛.H 𝓛.laws 𝓣 code.function) (walks 𝓛 mem run 𝓣.C 𝓣.Λ)
+
+pub then_spec : {M : Type 1} → stated.statement M
+unfolding tables_of
+then_spec 𝓤 𝓛 𝓜 𝓡 wired =
+    entered 𝓤 𝓛.H (triple_of 𝓛 f.signature (f.spec 𝓛 𝓜.mem 𝓡.returns))
+    (tables 𝓤 𝓛.H 𝓜 𝓡 𝓡.env).C (tables 𝓤 𝓛.H 𝓜 𝓡 𝓡.env).Λ key code.function (code.unfolded 𝓤 𝓛.H 𝓜 𝓡 wired)
+    (meets 𝓛 𝓜.mem 𝓡.returns (tables_of 𝓤 𝓛.H 𝓜 (tables 𝓤 𝓛.H 𝓜 𝓡 𝓡.env)))

@@ -1,5 +1,0 @@
-use Rattle.tmw_ring_defs.proofs.RunsRoom.{room_law}
-use Rattle.tmw_ring_defs.proofs.ring.law_room.Goals as goal
-
-pub returns : goal.returns
-returns c = room_law

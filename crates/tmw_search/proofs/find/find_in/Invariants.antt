@@ -1,5 +1,0 @@
-use Rattle.tmw_search.proofs.Shared.{NoneExplains, take}
-use Rattle.tmw_search.proofs.find.find_in.Given as goal
-
-abbrev pub invariant-loop-start : goal.invariant-loop-start
-invariant-loop-start l = NoneExplains l.fn.criterion l.items (take l.start-index l.starts)

@@ -1,9 +1,0 @@
-use Rattle.tmw_search.proofs.Shared.{bit_at, ◌≡◌, In, Leaves, effects, ℕ, ◌<◌}
-use Rattle.tmw_search.proofs.reads.written_by.Given as goal
-
-abbrev pub invariant-loop-left : goal.invariant-loop-left
-invariant-loop-left l =
-    (k r : ℕ) → k < 8 → r < 8 → In l.mask k → Leaves (effects l.items) k r → (bit_at l.left k ≡ 0) → In l.written r
-
-abbrev pub decreases-loop-left : goal.decreases-loop-left
-decreases-loop-left l = l.left

@@ -1,0 +1,29 @@
+-- When transactions that have ended leave the same state in all their legal serial orders: each register has one writer, or there are
+-- no blind writes to it, so that each writer reads the version before its own and the versions form one chain.
+use Rattle.std.specs.Prelude.{◌&&◌, ◌≤◌, ◌⊎◌, ℕ, Bool, true, false, not, List, IsTrue}
+use Rattle.std.specs.List.{list_all, count_by}
+use Rattle.tmw_defs.specs.declared.op.Op.{Op}
+use Rattle.tmw_defs.specs.declared.status.Status.{Status}
+use Rattle.tmw_defs.specs.declared.status.Status.TheVariants.{Committed}
+use Rattle.tmw_cuts.specs.Views.{View}
+use Rattle.tmw_cuts.specs.RegisterUse.{writes, needs}
+
+abbrev pub is_committed : Status → Bool
+is_committed Committed = true
+is_committed _ = false
+
+-- It has committed and writes the register.
+abbrev pub is_writer : ℕ → Status → List Op → Bool
+is_writer r status ops = is_committed status && writes r ops
+
+-- It does so without a read of the register before.
+abbrev pub is_blind_writer : ℕ → Status → List Op → Bool
+is_blind_writer r status ops = is_writer r status ops && not (needs r ops)
+
+-- Each register is written by at most one committed transaction, or by none without a read of it before.
+abbrev pub IsForced : {A : Type 0} → (A → Status) → (A → List Op) → List A → Type 0
+IsForced status ops xs = (r : ℕ) → (count_by (λ x. is_writer r (status x) (ops x)) xs ≤ 1)
+    ⊎ IsTrue (list_all (λ x. not (is_blind_writer r (status x) (ops x))) xs)
+
+abbrev pub AreForced : List View → Type 0
+AreForced xs = IsForced (λ x. x.status) (λ x. x.ops) xs

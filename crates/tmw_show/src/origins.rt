@@ -1,0 +1,70 @@
+//! The sentence that tells where a value comes from that no serial order explains.
+ghost use Rattle.std.specs.Prelude.{◌≡◌, ◌+◌, ◌<◌, ◌^◌, IfOk, IfSome, length, string_bytes};
+ghost use Rattle.tmw_show.specs.Sentences.{fate_text, origin_text, told_by};
+
+use crate::transaction_names::TransactionName;
+use crate::value_names::Value;
+use std::alloc::{AllocError, Global};
+use tmw_events::{Event, Ix};
+use tmw_part::{Contradiction, Fate, Origin, find_origin};
+
+/// What became of what a transaction put there.
+fn fate_text(fate: Fate) -> &'static str
+    ensures { result.now ≡ fate_text fate }
+{
+    match fate {
+        Fate::GivenUp => ", and aborted",
+        Fate::Unasked => ", and had not asked to commit",
+        Fate::Overwritten => ", then another value",
+        Fate::Stays => "",
+    }
+}
+
+/// Tells where a value comes from in a window before which so many events stand.
+fn origin_text(
+    alloc: Global,
+    values: &[u64],
+    before: u128,
+    register: Ix,
+    value: u64,
+    origin: Option<Origin>,
+) -> Result<String, AllocError>
+    requires { IfSome origin (λ found. before + (found.place + 1) < 2 ^ 128) }
+    ensures { IfOk result (λ text. string_bytes text
+        ≡ origin_text values.now before register.number value origin) }
+{
+    let (value, register) = (Value(values, value), register.get());
+    let Some(origin) = origin else {
+        return format!(in alloc;
+            "no earlier event of this window puts {value} into register {register}"
+        );
+    };
+    let writer = TransactionName(origin.writer);
+    let event = before + (origin.place as u128 + 1);
+    let fate = fate_text(origin.fate);
+    format!(in alloc; "{writer} put {value} into register {register} at event {event}{fate}")
+}
+
+/// Returns the text that tells where the value comes from of the read that no order explains, if what the steps come to
+/// has one. So many events stand before the window. These values have names.
+pub fn told_by(
+    alloc: Global,
+    values: &[u64],
+    before: u128,
+    events: &[Event],
+    end: &Contradiction,
+) -> Result<String, AllocError>
+    requires { before + length events.now < 2 ^ 128 }
+    ensures { IfOk result (λ text. string_bytes text
+        ≡ told_by values.now before events.now end.now) }
+{
+    let (reader, register, value, expected) = match *end {
+        Contradiction::Cycle(_place) => return Ok(String::new(alloc)),
+        Contradiction::NoSource(reader, register, value) => (reader, register, value, None),
+        Contradiction::Unlike(reader, register, expected, read) => {
+            (reader, register, read, Some(expected))
+        }
+    };
+    let origin = find_origin(alloc, events, register, value, expected, reader)?;
+    origin_text(alloc, values, before, register, value, origin)
+}

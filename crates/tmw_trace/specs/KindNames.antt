@@ -1,0 +1,40 @@
+-- A text names its kind: two kinds with one text are one kind, and no kind's text has a line feed.
+use Rattle.std.proofs.Common.{◌≡◌, ℕ, ◌+◌, ◌==◌, true, false, not, drop, get_or, refl, ap, ◌∙◌, arith}
+use Rattle.std.proofs.lemmas.Bool.{and_from}
+use Rattle.std.proofs.lemmas.Bool.Decides.{nat_tests}
+use Rattle.std.proofs.lemmas.Fmt.{decimal_injective}
+use Rattle.tmw_lines.specs.FreeParts.{IsFree}
+use Rattle.tmw_events.specs.Text.{kind_text, FitsKind}
+use Rattle.tmw_events.specs.declared.event.Kind.{Kind}
+use Rattle.tmw_events.specs.declared.event.Kind.TheVariants.{R, V, W, K, T, C, X, A, N}
+use Rattle.tmw_lines.proofs.Splits.{free-decimal}
+use Rattle.tmw_events.proofs.Same.{same_ix}
+
+pub kind_text-injective : (k m : Kind) → FitsKind k → FitsKind m → kind_text k ≡ kind_text m → k ≡ m
+kind_text-injective (R r) (R s) f g is = ap R (same_ix r s (omega (arith, ap (λ xs. get_or xs 2 0) is)))
+kind_text-injective (V v) (V w) f g is = ap V (decimal_injective v w f g (ap (λ xs. drop 2 xs) is))
+kind_text-injective (W r v) (W s w) f g is =
+    ap (λ x. W x v) (same_ix r s (omega (arith, ap (λ xs. get_or xs 2 0) is))) ∙ ap (λ x. W s x) (decimal_injective v w f g (ap (λ xs. drop 4 xs) is))
+kind_text-injective K K f g is = refl
+kind_text-injective T T f g is = refl
+kind_text-injective C C f g is = refl
+kind_text-injective X X f g is = refl
+kind_text-injective A A f g is = refl
+kind_text-injective (N r v) (N s w) f g is =
+    ap (λ x. N x v) (same_ix r s (omega (arith, ap (λ xs. get_or xs 2 0) is))) ∙ ap (λ x. N s x) (decimal_injective v w f g (ap (λ xs. drop 4 xs) is))
+kind_text-injective _ _ f g is = absurd (omega (arith, ap (λ xs. get_or xs 0 0) is))
+
+-- a digit is no line feed
+pub no_feed : (n : ℕ) → not (48 + n == 10) ≡ true
+no_feed n = let other : (48 + n == 10) ≡ false = grind (arith, nat_tests) in rw other refl
+
+pub free-kind_text : (k : Kind) → FitsKind k → IsFree 10 (kind_text k)
+free-kind_text (R r) f = and_from _ true (no_feed r.number) refl
+free-kind_text (V v) f = free-decimal 10 v (omega arith) f
+free-kind_text (W r v) f = and_from _ _ (no_feed r.number) (free-decimal 10 v (omega arith) f)
+free-kind_text (N r v) f = and_from _ _ (no_feed r.number) (free-decimal 10 v (omega arith) f)
+free-kind_text K f = refl
+free-kind_text T f = refl
+free-kind_text C f = refl
+free-kind_text X f = refl
+free-kind_text A f = refl
