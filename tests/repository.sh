@@ -73,8 +73,8 @@ if [ $# -eq 0 ]; then
 CHANGELOG.md
 bindings/rust/Cargo.toml
 crates/*/specs/Version.antt
+crates/*/src/command_run.rt
 crates/*/src/program.rt
-crates/*/src/run.rt
 END
 fi
 end_rows

@@ -18,8 +18,8 @@
 #include <sys/wait.h>
 #include <unistd.h>
 #include "orders/clocks.c"
-#include "orders/places.c"
+#include "orders/simulation.c"
 #include "orders/lines.c"
-#include "orders/told.c"
+#include "orders/findings.c"
 #include "orders/races.c"
 #include "orders/model.c"

@@ -1,4 +1,4 @@
-/* What the bench (step_calls.c) has for the objects that are linked with the memory: those of this folder. */
+/* What the bench (instrumented_calls.c) has for the objects that are linked with the memory: those of this folder. */
 #ifndef STEP_H
 #define STEP_H
 #include "orders.h"

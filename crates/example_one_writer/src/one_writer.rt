@@ -4,7 +4,7 @@ ghost use Rattle.example_one_writer.specs.Registers.{registers_of};
 use std::array;
 use std::sync::atomic::AtomicU64;
 use std::sync::atomic::Ordering::SeqCst;
-use tmw_events::{Ix, Registers};
+use tmw_events::{Ix, MOST_REGISTERS, Registers};
 use tmw_tm::{Did, Entry, Got, Tm, Tx};
 
 /// A memory to which one transaction at a time writes, from its first write to its end.
@@ -15,7 +15,7 @@ use tmw_tm::{Did, Entry, Got, Tm, Tx};
 pub struct OneWriter {
     registers: Registers,
     sequence: AtomicU64,
-    values: [AtomicU64; 8],
+    values: [AtomicU64; MOST_REGISTERS],
 }
 
 impl OneWriter {

@@ -4,7 +4,7 @@ use Rattle.std.specs.Global.{Vec}
 use Rattle.tmw_c.specs.Judge.{IsTold}
 use Rattle.tmw_c.specs.Open.{AreEmpty}
 use Rattle.tmw_c.specs.declared.call_status.CallStatus.{CallStatus}
-use Rattle.tmw_c.specs.declared.call_status.CallStatus.TheVariants.{Done, NoHandle, Missing, Memory, Leftover}
+use Rattle.tmw_c.specs.declared.call_status.CallStatus.TheVariants.{Done, NoHandle, Missing, Memory, Closing}
 use Rattle.tmw_c.specs.declared.c_verdict.CVerdict.{CVerdict}
 use Rattle.tmw_handles.specs.HandleContent.{HasNumber, recorder_in}
 use Rattle.tmw_handles.specs.declared.held_recorder.HeldRecorder.{HeldRecorder}
@@ -131,7 +131,7 @@ IsNeither Closed = Unit {0}
 abbrev pub IsUnended : (old new : HeldWatch) → (olds news : List RecorderHandle) → CallStatus → Type 0
 IsUnended old new olds news Missing = LacksRecorders old new olds news
 IsUnended old new olds news Memory = HadNoRoom old new olds news ⊎ WasLeft old new olds news ⊎ IsStillLeft old new olds news
-IsUnended old new olds news Leftover = WasShared old new olds news ⊎ (IsNeither old × IsSame old new olds news)
+IsUnended old new olds news Closing = WasShared old new olds news ⊎ (IsNeither old × IsSame old new olds news)
 IsUnended old new olds news _ = ⊥
 
 -- What the handle held was closed. It holds nothing now, and the caller is told the number of all events and the verdict on them.

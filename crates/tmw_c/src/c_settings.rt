@@ -3,7 +3,7 @@ ghost use Rattle.std.specs.Prelude.{◌≡◌, IfOk, IfErr, IfSome, IfNone, IsTr
 ghost use Rattle.tmw_c.specs.Open.{AreSettings, BeginsWell, HasBounds, HasRegisters, IsUnwanted, IsWanted};
 
 use crate::call_status::CallStatus;
-use tmw_events::Registers;
+use tmw_events::{MOST_REGISTERS, Registers};
 use tmw_monitor::Bounds;
 use tmw_watch::WatchSettings;
 
@@ -14,7 +14,7 @@ pub struct CSettings {
     /// How many registers the memory has: 1 to 8.
     pub registers: u64,
     /// What they hold at first, by their numbers. Those that the memory does not have are to be 0.
-    pub start: [u64; 8],
+    pub start: [u64; MOST_REGISTERS],
     /// How many transactions a window may have: 1 to 8.
     pub window: u64,
     /// How many outcomes there may be at a cut: 1 to 64.

@@ -1,5 +1,5 @@
 //! A function for each kind of event. It records as the function that takes a letter does, and tells no place.
-#![tactic(auto, using(crate::proofs::Telling::tells))]
+#![tactic(auto, using(crate::proofs::StatusNumbers::tells))]
 
 ghost use Rattle.tmw_c.specs.Record.{IsRecordingUntold};
 ghost use Rattle.tmw_c.specs.Statuses.{Tells};

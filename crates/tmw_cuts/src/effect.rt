@@ -10,15 +10,15 @@ ghost use Rattle.tmw_cuts.specs.RegisterUse.{writes, needs};
 use crate::mask::lowest;
 use crate::states::State;
 use tmw_defs::Op;
-use tmw_events::Ix;
+use tmw_events::{Ix, MOST_REGISTERS};
 
 /// What operations that follow one another need of the registers and what they leave there, however many they are.
 #[derive(Clone, Copy, Debug)]
 pub struct Effect {
     /// What each register that they need was answered first.
-    pub needs: [u64; 8],
+    pub needs: State,
     /// What each register that they write or add to holds after them.
-    pub leaves: [u64; 8],
+    pub leaves: State,
     /// Which registers they read or add to before they write or add to them, as a mask.
     pub needed: u8,
     /// Which registers they write or add to, as a mask.
@@ -44,8 +44,8 @@ impl Effect {
         ensures { IsEffectOf result [] }
     {
         Effect {
-            needs: [0; 8],
-            leaves: [0; 8],
+            needs: [0; MOST_REGISTERS],
+            leaves: [0; MOST_REGISTERS],
             needed: 0,
             left: 0,
             agrees: true,

@@ -18,5 +18,5 @@ pub use operation_of::{operation, status_after};
 pub use operations::Operations;
 pub use states::{State, States};
 pub use turn::{Move, Stage, Turn};
-pub use txn::Txn;
+pub use txn::{MOST_TRANSACTIONS, Txn};
 pub use window::Window;

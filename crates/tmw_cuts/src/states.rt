@@ -8,9 +8,10 @@ ghost use Rattle.tmw_defs.specs.Opaque.{zeros};
 
 use std::alloc::{AllocError, Global};
 use std::cmp::Ordering;
+use tmw_events::MOST_REGISTERS;
 
 /// What each register holds. Registers that the run does not have hold 0.
-pub type State = [u64; 8];
+pub type State = [u64; MOST_REGISTERS];
 
 /// A set of states.
 #[derive(Debug, Drop)]
@@ -36,7 +37,7 @@ impl States {
     pub fn zeros(alloc: Global) -> Result<States, AllocError>
         ensures { IfOk result (λ states. members states ≡ zeros ∷ []) }
     {
-        States::only(alloc, [0; 8])
+        States::only(alloc, [0; MOST_REGISTERS])
     }
 
     /// Makes the set of this state.

@@ -8,7 +8,7 @@ ghost use Rattle.tmw_events.specs.declared.event.Kind.{Kind};
 ghost use Rattle.tmw_events.specs.declared.ix.Ix.{Ix};
 
 use tmw_defs::Op;
-use tmw_events::{Ix, Kind};
+use tmw_events::{Ix, Kind, MOST_THREADS};
 use tmw_wellformed::Malformed;
 
 /// What of a thread is open or pending.
@@ -152,7 +152,7 @@ impl Turn {
 
 /// Takes a call of the thread's transaction, which is at the place.
 #[inline(always)]
-pub(crate) fn ask(turns: &mut [Turn; 8], thread: Ix, place: Ix, call: Kind)
+pub(crate) fn ask(turns: &mut [Turn; MOST_THREADS], thread: Ix, place: Ix, call: Kind)
     ensures { IsTrue (asks call) → Turns turns.old turns.new thread (Some (place, Some call)) }
 {
     turns[thread.get() as usize].ask(place, call);
@@ -160,7 +160,7 @@ pub(crate) fn ask(turns: &mut [Turn; 8], thread: Ix, place: Ix, call: Kind)
 
 /// Takes the answer to the thread's pending call.
 #[inline(always)]
-pub(crate) fn go_on(turns: &mut [Turn; 8], thread: Ix)
+pub(crate) fn go_on(turns: &mut [Turn; MOST_THREADS], thread: Ix)
     ensures { (place : Ix) (call : Option Kind) → kept_of turns.old thread.number ≡ Some (place, call)
         → Turns turns.old turns.new thread (Some (place, None)) }
 {
@@ -169,7 +169,7 @@ pub(crate) fn go_on(turns: &mut [Turn; 8], thread: Ix)
 
 /// Takes the end of the thread's transaction.
 #[inline(always)]
-pub(crate) fn end(turns: &mut [Turn; 8], thread: Ix)
+pub(crate) fn end(turns: &mut [Turn; MOST_THREADS], thread: Ix)
     ensures { Turns turns.old turns.new thread None }
 {
     turns[thread.get() as usize].stage = Stage::Between;

@@ -12,6 +12,9 @@ use crate::states::State;
 use tmw_defs::{Op, Status};
 use tmw_events::Kind;
 
+/// How many transactions a window has at most.
+pub const MOST_TRANSACTIONS: usize = 8;
+
 /// A transaction of a window.
 #[derive(Debug, Drop)]
 pub struct Txn {

@@ -6,9 +6,9 @@ ghost use Rattle.tmw_cuts.specs.Views.{view, with_op, with_status};
 use crate::mark::Mark;
 use crate::operation_of::status_after;
 use crate::turn::{self, Move, Turn};
-use crate::txn::Txn;
+use crate::txn::{MOST_TRANSACTIONS, Txn};
 use tmw_defs::{Op, Status};
-use tmw_events::{Event, Ix, Kind, Registers};
+use tmw_events::{Event, Ix, Kind, MOST_THREADS, Registers};
 use tmw_wellformed::{Malformed, Note};
 
 /// The transactions of the events since the last cut, which are at most eight, and where each thread is. It holds no event, and no
@@ -17,9 +17,9 @@ use tmw_wellformed::{Malformed, Note};
 pub struct Window {
     /// The registers of the run.
     pub registers: Registers,
-    turns: [Turn; 8],
+    turns: [Turn; MOST_THREADS],
     /// The places of the transactions.
-    slots: [Txn; 8],
+    slots: [Txn; MOST_TRANSACTIONS],
     /// How many of them are used.
     count: u8,
     /// Those that have committed or aborted, as a mask.
@@ -29,7 +29,7 @@ pub struct Window {
 }
 
 /// Fills the places before there is a transaction.
-fn no_txns() -> [Txn; 8]
+fn no_txns() -> [Txn; MOST_TRANSACTIONS]
     ensures { length result ≡ 8 }
 {
     [
@@ -45,7 +45,7 @@ fn no_txns() -> [Txn; 8]
 }
 
 /// Makes transactions that show the same.
-fn copy_txns(slots: &[Txn; 8]) -> [Txn; 8]
+fn copy_txns(slots: &[Txn; MOST_TRANSACTIONS]) -> [Txn; MOST_TRANSACTIONS]
     ensures shown { map view result ≡ map view slots.now }
     ensures eight { length result ≡ 8 }
 {
@@ -58,7 +58,7 @@ fn copy_txns(slots: &[Txn; 8]) -> [Txn; 8]
 
 /// Gives the transaction at the place one more operation.
 #[inline(always)]
-fn put_op(slots: &mut [Txn; 8], place: Ix, op: Op)
+fn put_op(slots: &mut [Txn; MOST_TRANSACTIONS], place: Ix, op: Op)
     ensures shown { (count : ℕ) → count ≤ 8 → map view (take count slots.new)
         ≡ change place.number (with_op op) (map view (take count slots.old)) }
     ensures eight { length slots.new ≡ 8 }
@@ -68,7 +68,7 @@ fn put_op(slots: &mut [Txn; 8], place: Ix, op: Op)
 
 /// Gives the transaction at the place this status.
 #[inline(always)]
-fn put_status(slots: &mut [Txn; 8], place: Ix, status: Status)
+fn put_status(slots: &mut [Txn; MOST_TRANSACTIONS], place: Ix, status: Status)
     ensures shown { (count : ℕ) → count ≤ 8 → map view (take count slots.new)
         ≡ change place.number (with_status status) (map view (take count slots.old)) }
     ensures eight { length slots.new ≡ 8 }
@@ -113,7 +113,7 @@ impl Window {
     {
         Window {
             registers,
-            turns: [Turn::between(); 8],
+            turns: [Turn::between(); MOST_THREADS],
             slots: no_txns(),
             count: 0,
             completed: 0,

@@ -1,4 +1,4 @@
--- Whether transactions have a legal serial order, by trying each as the next one. That this decides it is proved in proofs/Decision.
+-- Whether transactions have a legal serial order, by trying each as the next one. That this decides it is proved in proofs/DecisionProof.
 use Rattle.std.specs.Prelude.{◌&&◌, ◌||◌, ℕ, zero, suc, Bool, true, false, not, List, [], ◌∷◌, length, remove, slice_get, Option, Some, None}
 use Rattle.std.specs.List.{list_all}
 use Rattle.tmw_defs.specs.History.{Txn, operations}

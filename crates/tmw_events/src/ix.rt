@@ -1,6 +1,9 @@
 ghost use Rattle.std.specs.Prelude.{◌≡◌, ◌<◌};
 ghost use Rattle.std.specs.Prelude.{IfSome, IsSome, ◌↔◌};
 
+/// How many threads a run has at most.
+pub const MOST_THREADS: usize = 8;
+
 /// The number of a thread or of a register: 0 to 7.
 #[derive(Clone, Copy, PartialEq, Eq, PartialOrd, Ord, Debug)]
 pub struct Ix {

@@ -1,5 +1,8 @@
 ghost use Rattle.std.specs.Prelude.{◌≡◌, ◌<◌, ◌≤◌, IfSome, IsSome, ◌↔◌};
 
+/// How many registers a run has at most.
+pub const MOST_REGISTERS: usize = 8;
+
 /// How many registers a run has: 1 to 8. They are numbered from 0.
 #[derive(Clone, Copy, PartialEq, Eq, PartialOrd, Ord, Debug)]
 pub struct Registers {

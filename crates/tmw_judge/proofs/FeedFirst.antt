@@ -1,5 +1,5 @@
 -- Reading on to the event at which all verdicts are final.
-use Rattle.tmw_judge.proofs.Shared.{AreFedAllRead, AreFedSoMany, AreJudged, AreOpen, AreOpenBefore, AreReadFirst, Asked, BadHeader, BadLine, Bounds, CountsFor, Cut, Err, Event, FailsAtLine, FailsHolding, FeedsFirst, FromSource, GivesEnd, GivesItem, HasRead, Header, Io, IsReading, Judges, Lines, List, Memory, Ok, TakeEvents, Tells, Tells-more, Tells-none, TextFault, TooLong, Version, [], any_open, append-nil, append_assoc, arith, false, inl, inr, length-append, sym, trace_grammar, true, verdicts_of, ℕ, ◌++◌, ◌<◌, ◌^◌, ◌∙◌, ◌∷◌, ◌≡◌}
+use Rattle.tmw_judge.proofs.Shared.{AreFedAllRead, AreFedSoMany, AreJudged, AreOpen, AreOpenBefore, AreReadFirst, Asked, BadHeader, BadLine, Bounds, CountsFor, Cut, Err, Event, FailsAtLine, FailsHolding, FeedsFirst, FromSource, HasRead, Header, Io, IsReading, Judges, Lines, List, Memory, None, Ok, ReadsNext, Some, TakeEvents, Tells, Tells-more, Tells-none, TextFault, TooLong, Version, [], any_open, append-nil, append_assoc, arith, false, inl, inr, length-append, sym, trace_grammar, true, verdicts_of, ℕ, ◌++◌, ◌<◌, ◌^◌, ◌∙◌, ◌∷◌, ◌≡◌}
 use Rattle.tmw_lines.proofs.LinesRead.{fails-holding}
 use Rattle.tmw_judge.proofs.FeedEvents.{fed-so_many}
 use Rattle.tmw_judge.proofs.FirstOpen.{AreOpenBefore-push, open-fed}
@@ -44,20 +44,19 @@ module _ {S C : Type 0} {From : FromSource S} {Counts : CountsFor C} {a : S} {li
     pub reads_on : AreFedAllRead Counts lines judges → IsReading now
     reads_on all = (fed-all all).read.reading
 
-    -- there is room for the event of a line more
-    pub room-next : (next : Lines Version) (bytes : List ℕ) (event : Event) → GivesItem trace_grammar now next bytes event
-        → AreFedAllRead Counts lines judges → (count : ℕ) × (count < 2 ^ 40) × AreFedSoMany Counts fed count
-    room-next next bytes event gives all =
-        let so = fed-all all in
-        let more = (gives so.header so.history so.bytes so.read).are_lines.few in
-        let was = so.read.counted in
-        (now.count, omega (arith, more, was, length-append so.history (event ∷ [])), fed-so_many Counts now fed so)
+    module _ {c : S} {next : Lines Version} {event : Event} (r : ReadsNext trace_grammar From b c now next (Ok (Some event))) where
+      -- there is room for the event of a line more
+      pub room-next : AreFedAllRead Counts lines judges → (count : ℕ) × (count < 2 ^ 40) × AreFedSoMany Counts fed count
+      room-next all =
+          let so = fed-all all in
+          let more = (r.is so.header so.history so.bytes so.read).are_lines.few in
+          let was = so.read.counted in
+          (now.count, omega (arith, more, was, length-append so.history (event ∷ [])), fed-so_many Counts now fed so)
 
-    read-one : (next : Lines Version) (bytes : List ℕ) (event : Event) → GivesItem trace_grammar now next bytes event
-        → (header : Header) (given : List Event) (earlier : List ℕ) → HasRead trace_grammar lines header given earlier
-        → HasRead trace_grammar next header ((given ++ h.events) ++ event ∷ []) (earlier ++ (h.bytes ++ bytes))
-    read-one next bytes event gives header given earlier r =
-        rw (← append_assoc earlier h.bytes bytes) (gives header (given ++ h.events) (earlier ++ h.bytes) (h.read header given earlier r))
+      read-one : (header : Header) (given : List Event) (earlier : List ℕ) → HasRead trace_grammar lines header given earlier
+          → HasRead trace_grammar next header ((given ++ h.events) ++ event ∷ []) (earlier ++ (h.bytes ++ r.bytes))
+      read-one header given earlier read =
+          rw (← append_assoc earlier h.bytes r.bytes) (r.is header (given ++ h.events) (earlier ++ h.bytes) (h.read header given earlier read))
 
     -- all verdicts are final
     pub feeds-final : {Done : Type 0} (done : Done) (Ended : Type 0) → any_open (verdicts_of fed.monitors) ≡ false
@@ -86,14 +85,14 @@ module _ {S C : Type 0} {From : FromSource S} {Counts : CountsFor C} {a : S} {li
           AreOpenBefore-push header bounds asked (given ++ h.events) event (open_now header bounds asked given was)
 
       -- one event more was fed
-      pub HasFed-push : (c : S) (next : Lines Version) (after : Judges C) (bytes : List ℕ) (event : Event) → Tells From b bytes c
-          → GivesItem trace_grammar now next bytes event → TakeEvents Counts fed (event ∷ []) after
+      pub HasFed-push : {c : S} {next : Lines Version} {event : Event} (after : Judges C)
+          → ReadsNext trace_grammar From b c now next (Ok (Some event)) → TakeEvents Counts fed (event ∷ []) after
           → HasFed From Counts a c lines next judges after
-      HasFed-push c next after bytes event told gives taken = record {
-        bytes = h.bytes ++ bytes;
+      HasFed-push {c = c} {event = event} after r taken = record {
+        bytes = h.bytes ++ r.bytes;
         events = h.events ++ event ∷ [];
-        told = Tells-more From a b c h.bytes bytes h.told told;
-        read = λ header given earlier r. rw (← append_assoc given h.events (event ∷ [])) (read-one next bytes event gives header given earlier r);
+        told = Tells-more From a b c h.bytes r.bytes h.told r.told;
+        read = λ header given earlier was. rw (← append_assoc given h.events (event ∷ [])) (read-one r header given earlier was);
         taken = λ header bounds asked history was. rw (← append_assoc history h.events (event ∷ []))
             (taken header bounds asked (history ++ h.events) (h.taken header bounds asked history was));
         before = λ header bounds asked given was open_before. rw (← append_assoc given h.events (event ∷ []))
@@ -101,33 +100,33 @@ module _ {S C : Type 0} {From : FromSource S} {Counts : CountsFor C} {a : S} {li
       }
 
       -- memory was refused for it
-      pub feeds-lack : (Done : Type 0) (Ended : Type 0) (c : S) (next : Lines Version) (after : Judges C) (bytes : List ℕ) (event : Event)
-          → Tells From b bytes c → GivesItem trace_grammar now next bytes event
-          → FeedsFirst {Done = Done} From Counts Ended a c lines next judges after (Err Memory)
-      feeds-lack Done Ended c next after bytes event told gives = record {
-        bytes = h.bytes ++ bytes;
+      pub feeds-lack : {c : S} {next : Lines Version} {event : Event} (Done : Type 0) (after : Judges C)
+          → ReadsNext trace_grammar From b c now next (Ok (Some event))
+          → FeedsFirst {Done = Done} From Counts (From.ended c) a c lines next judges after (Err Memory)
+      feeds-lack {c = c} {event = event} Done after r = record {
+        bytes = h.bytes ++ r.bytes;
         events = h.events;
-        told = Tells-more From a b c h.bytes bytes h.told told;
-        fed = λ header bounds asked given earlier r was open_before. (
-          record { last = event; read = read-one next bytes event gives header given earlier r },
-          open_on header bounds asked given event was,
+        told = Tells-more From a b c h.bytes r.bytes h.told r.told;
+        fed = λ header bounds asked given earlier was judged open_before. (
+          record { last = event; read = read-one r header given earlier was },
+          open_on header bounds asked given event judged,
         );
       }
 
       -- the end was read
-      pub feeds-end : {Done : Type 0} (done : Done) (Ended : Type 0) (c : S) (next : Lines Version) (bytes : List ℕ) → Tells From b bytes c
-          → GivesEnd trace_grammar Ended now bytes
-          → FeedsFirst From Counts Ended a c lines next judges fed (Ok done)
-      feeds-end done Ended c next bytes told ends = record {
-        bytes = h.bytes ++ bytes;
+      pub feeds-end : {c : S} {next : Lines Version} {Done : Type 0} (done : Done)
+          → ReadsNext trace_grammar From b c now next (Ok None)
+          → FeedsFirst From Counts (From.ended c) a c lines next judges fed (Ok done)
+      feeds-end {c = c} done r = record {
+        bytes = h.bytes ++ r.bytes;
         events = h.events;
-        told = Tells-more From a b c h.bytes bytes h.told told;
-        fed = λ header bounds asked given earlier r was open_before.
-            let read = h.read header given earlier r in
-            let end = ends header (given ++ h.events) (earlier ++ h.bytes) read in
+        told = Tells-more From a b c h.bytes r.bytes h.told r.told;
+        fed = λ header bounds asked given earlier was judged open_before.
+            let read = h.read header given earlier was in
+            let end = r.is.0 header (given ++ h.events) (earlier ++ h.bytes) read in
             inr record {
-              read = record { ended = end.0; are_lines = read.are_lines; text = sym (append_assoc earlier h.bytes bytes) ∙ end.1 };
-              judged = h.taken header bounds asked given was;
+              read = record { ended = end.0; are_lines = read.are_lines; text = sym (append_assoc earlier h.bytes r.bytes) ∙ end.1 };
+              judged = h.taken header bounds asked given judged;
               open_one = is;
             };
       }
@@ -159,13 +158,13 @@ module _ {S C : Type 0} {From : FromSource S} {Counts : CountsFor C} {a : S} {li
           (fails-now Ended next bytes TooLong fails header given earlier r, open_now header bounds asked given was)
 
       -- a fault was read
-      pub feeds-fault : (Done : Type 0) (Ended : Type 0) (c : S) (next : Lines Version) (bytes : List ℕ) (fault : TextFault)
-          → Tells From b bytes c → FailsAtLine trace_grammar Ended now next bytes fault
-          → FeedsFirst {Done = Done} From Counts Ended a c lines next judges fed (Err fault)
-      feeds-fault Done Ended c next bytes fault told fails = record {
-        bytes = h.bytes ++ bytes;
+      pub feeds-fault : {c : S} {next : Lines Version} {fault : TextFault} (Done : Type 0)
+          → ReadsNext trace_grammar From b c now next (Err fault)
+          → FeedsFirst {Done = Done} From Counts (From.ended c) a c lines next judges fed (Err fault)
+      feeds-fault {c = c} {next = next} {fault = fault} Done r = record {
+        bytes = h.bytes ++ r.bytes;
         events = h.events;
-        told = Tells-more From a b c h.bytes bytes h.told told;
-        fed = λ header bounds asked given earlier r was open_before.
-            fault-now Done Ended next bytes fault fails header bounds asked given earlier r was;
+        told = Tells-more From a b c h.bytes r.bytes h.told r.told;
+        fed = λ header bounds asked given earlier was judged open_before.
+            fault-now Done (From.ended c) next r.bytes fault r.is.0 header bounds asked given earlier was judged;
       }

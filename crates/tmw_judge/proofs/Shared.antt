@@ -10,7 +10,7 @@ pub use Rattle.tmw_defs.specs.declared.criterion.Asked.{Asked}
 pub use Rattle.tmw_defs.specs.declared.verdict.Verdict.{Verdict}
 pub use Rattle.tmw_events.specs.declared.event.Event.{Event}
 pub use Rattle.tmw_lines.specs.ReadItems.{AreReadFor, FailsBehind, FailsHolding}
-pub use Rattle.tmw_lines.specs.Lines.{FailsAtLine, GivesEnd, GivesItem, HasRead, IsReading, format_by, unread, unread_bytes}
+pub use Rattle.tmw_lines.specs.Lines.{FailsAtLine, HasRead, IsReading, ReadsNext, format_by, unread, unread_bytes}
 pub use Rattle.tmw_lines.specs.Text.{front_of}
 pub use Rattle.tmw_lines.specs.TextFault.{HasTextFault, failures_after}
 pub use Rattle.tmw_lines.specs.declared.lines.Lines.{Lines}

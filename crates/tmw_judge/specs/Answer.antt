@@ -23,7 +23,7 @@ use Rattle.tmw_report.specs.CommandRun.{AnswersTextFault}
 use Rattle.tmw_report.specs.Quote.{RemarksTrace}
 use Rattle.tmw_report.specs.Remark.{IsRemarkedRun, nothing_shown_if}
 use Rattle.tmw_report.specs.declared.remark.Remark.{Remark}
-use Rattle.tmw_report.specs.declared.remark.Remark.TheVariants.{BrokenRule as IsBroken}
+use Rattle.tmw_report.specs.declared.remark.Remark.TheVariants.{Broken as IsBroken}
 use Rattle.tmw_report.specs.SummaryLine.{summary_text}
 use Rattle.tmw_judge.specs.declared.judge_result.JudgeResult.{JudgeResult}
 use Rattle.tmw_judge.specs.declared.by_criterion.ByCriterion.{ByCriterion}

@@ -1,5 +1,5 @@
 -- Reading on to the end: a taker was given the items of the lines read so far.
-use Rattle.tmw_lines.proofs.Shared.{AreGiven, BadHeader, BadLine, Cut, Err, FailsAtLine, FromSource, GivesAll, GivesEnd, GivesItem, GivesItems, Grammar, HasBegunToRead, HasRead, Io, IsReading, LacksLast, Lines, List, Memory, Ok, ReadsToFault, Tells, Tells-more, Tells-none, TextFault, TooLong, [], append-nil, append_assoc, arith, length-append, sym, ℕ, ◌++◌, ◌+◌, ◌∙◌, ◌∷◌, ◌≡◌}
+use Rattle.tmw_lines.proofs.Shared.{AreGiven, BadHeader, BadLine, Cut, Err, FailsAtLine, FromSource, GivesAll, GivesItems, Grammar, HasBegunToRead, HasRead, Io, IsReading, LacksLast, Lines, List, Memory, None, Ok, ReadsNext, ReadsToFault, Some, Tells, Tells-more, Tells-none, TextFault, TooLong, [], append-nil, append_assoc, arith, length-append, sym, ℕ, ◌++◌, ◌+◌, ◌∙◌, ◌∷◌, ◌≡◌}
 use Rattle.tmw_lines.proofs.LinesRead.{fails-holding}
 
 -- the items of all lines read since were taken
@@ -68,70 +68,63 @@ module _ {F H E S T : Type 0} {grammar : Grammar F H E} {From : FromSource S}
     }
 
     -- one line more was read
-    read-one : (next : Lines F) (bytes : List ℕ) (item : E) → GivesItem grammar now next bytes item
-        → (header : H) (given : List E) (earlier : List ℕ) → HasRead grammar lines header given earlier
-        → HasRead grammar next header ((given ++ h.items) ++ item ∷ []) (earlier ++ (h.bytes ++ bytes))
-    read-one next bytes item gives header given earlier r =
-        rw (← append_assoc earlier h.bytes bytes)
-        (gives header (given ++ h.items) (earlier ++ h.bytes) (h.read header given earlier r))
+    module _ {c : S} {next : Lines F} {item : E} (r : ReadsNext grammar From b c now next (Ok (Some item))) where
+      read-one : (header : H) (given : List E) (earlier : List ℕ) → HasRead grammar lines header given earlier
+          → HasRead grammar next header ((given ++ h.items) ++ item ∷ []) (earlier ++ (h.bytes ++ r.bytes))
+      read-one header given earlier read =
+          rw (← append_assoc earlier h.bytes r.bytes)
+          (r.is header (given ++ h.items) (earlier ++ h.bytes) (h.read header given earlier read))
 
-    -- it is counted
-    pub count-next : (next : Lines F) (bytes : List ℕ) (item : E) → GivesItem grammar now next bytes item
-        → HasBegunToRead grammar lines → next.count ≡ now.count + 1
-    count-next next bytes item gives begun =
-        let read = h.read begun.header begun.items begun.bytes begun.read in
-        let was = read.counted in
-        let is = (read-one next bytes item gives begun.header begun.items begun.bytes begun.read).counted in
-        omega (arith, was, is, length-append (begun.items ++ h.items) (item ∷ []))
+      -- it is counted
+      pub count-next : HasBegunToRead grammar lines → next.count ≡ now.count + 1
+      count-next begun =
+          let was = (h.read begun.header begun.items begun.bytes begun.read).counted in
+          let is = (read-one begun.header begun.items begun.bytes begun.read).counted in
+          omega (arith, was, is, length-append (begun.items ++ h.items) (item ∷ []))
 
-    -- and its item was taken
-    pub HasGiven-push : (more : (x y z : T) (xs ys : List E) → Takes x xs y → Takes y ys z → Takes x (xs ++ ys) z)
-        → (c : S) (next : Lines F) (after : T) (bytes : List ℕ) (item : E) → Tells From b bytes c
-        → GivesItem grammar now next bytes item → Takes between (item ∷ []) after
-        → HasGiven grammar From Takes a c lines next before after
-    HasGiven-push more c next after bytes item told gives taken = record {
-      bytes = h.bytes ++ bytes;
-      items = h.items ++ item ∷ [];
-      told = Tells-more From a b c h.bytes bytes h.told told;
-      taken = more before between after h.items (item ∷ []) h.taken taken;
-      read = λ header given earlier r. rw (← append_assoc given h.items (item ∷ []))
-          (read-one next bytes item gives header given earlier r);
-    }
+      -- and its item was taken
+      pub HasGiven-push : (more : (x y z : T) (xs ys : List E) → Takes x xs y → Takes y ys z → Takes x (xs ++ ys) z)
+          → (after : T) → Takes between (item ∷ []) after → HasGiven grammar From Takes a c lines next before after
+      HasGiven-push more after taken = record {
+        bytes = h.bytes ++ r.bytes;
+        items = h.items ++ item ∷ [];
+        told = Tells-more From a b c h.bytes r.bytes h.told r.told;
+        taken = more before between after h.items (item ∷ []) h.taken taken;
+        read = λ header given earlier read. rw (← append_assoc given h.items (item ∷ [])) (read-one header given earlier read);
+      }
 
-    -- and memory was refused for its item
-    pub lacks-next : (Done : Type 0) (Ended : Type 0) (Lacks : T → E → T → Type 0) (c : S) (next : Lines F) (after : T)
-        (bytes : List ℕ) (item : E) → Tells From b bytes c → GivesItem grammar now next bytes item
-        → Lacks between item after
-        → GivesAll {Done = Done} grammar From Ended Takes Lacks a c lines next before after (Err Memory)
-    lacks-next Done Ended Lacks c next after bytes item told gives lacks = record {
-      bytes = h.bytes ++ bytes;
-      items = h.items;
-      told = Tells-more From a b c h.bytes bytes h.told told;
-      given = record {
-        last = item;
-        between = between;
-        read = read-one next bytes item gives;
-        taken = h.taken;
-        lacks = lacks;
-      };
-    }
+      -- and memory was refused for its item
+      pub lacks-next : (Done : Type 0) (Lacks : T → E → T → Type 0) (after : T) → Lacks between item after
+          → GivesAll {Done = Done} grammar From (From.ended c) Takes Lacks a c lines next before after (Err Memory)
+      lacks-next Done Lacks after lacks = record {
+        bytes = h.bytes ++ r.bytes;
+        items = h.items;
+        told = Tells-more From a b c h.bytes r.bytes h.told r.told;
+        given = record {
+          last = item;
+          between = between;
+          read = read-one;
+          taken = h.taken;
+          lacks = lacks;
+        };
+      }
 
     -- the end was read
-    pub gives-end : {Done : Type 0} (done : Done) (Ended : Type 0) (Lacks : T → E → T → Type 0) (c : S) (next : Lines F)
-        (bytes : List ℕ) → Tells From b bytes c → GivesEnd grammar Ended now bytes
-        → GivesAll grammar From Ended Takes Lacks a c lines next before between (Ok done)
-    gives-end done Ended Lacks c next bytes told ends = record {
-      bytes = h.bytes ++ bytes;
+    pub gives-end : {c : S} {next : Lines F} {Done : Type 0} (done : Done) (Lacks : T → E → T → Type 0)
+        → ReadsNext grammar From b c now next (Ok None)
+        → GivesAll grammar From (From.ended c) Takes Lacks a c lines next before between (Ok done)
+    gives-end {c = c} done Lacks r = record {
+      bytes = h.bytes ++ r.bytes;
       items = h.items;
-      told = Tells-more From a b c h.bytes bytes h.told told;
+      told = Tells-more From a b c h.bytes r.bytes h.told r.told;
       given = (
-        λ header given earlier r.
-            let read = h.read header given earlier r in
-            let end = ends header (given ++ h.items) (earlier ++ h.bytes) read in
+        λ header given earlier was.
+            let read = h.read header given earlier was in
+            let end = r.is.0 header (given ++ h.items) (earlier ++ h.bytes) read in
             record {
               ended = end.0;
               are_lines = read.are_lines;
-              text = sym (append_assoc earlier h.bytes bytes) ∙ end.1;
+              text = sym (append_assoc earlier h.bytes r.bytes) ∙ end.1;
             },
         h.taken,
       );
@@ -155,13 +148,12 @@ module _ {F H E S T : Type 0} {grammar : Grammar F H E} {From : FromSource S}
     given-fault Done Ended Lacks next bytes TooLong begun fails = (fault-behind Ended next bytes TooLong fails, h.taken)
 
     -- a fault was read
-    pub gives-fault : (Done : Type 0) (Ended : Type 0) (Lacks : T → E → T → Type 0) (c : S) (next : Lines F) (bytes : List ℕ)
-        (fault : TextFault) → HasBegunToRead grammar lines → Tells From b bytes c
-        → FailsAtLine grammar Ended now next bytes fault
-        → GivesAll {Done = Done} grammar From Ended Takes Lacks a c lines next before between (Err fault)
-    gives-fault Done Ended Lacks c next bytes fault begun told fails = record {
-      bytes = h.bytes ++ bytes;
+    pub gives-fault : {c : S} {next : Lines F} {fault : TextFault} (Done : Type 0) (Lacks : T → E → T → Type 0)
+        → HasBegunToRead grammar lines → ReadsNext grammar From b c now next (Err fault)
+        → GivesAll {Done = Done} grammar From (From.ended c) Takes Lacks a c lines next before between (Err fault)
+    gives-fault {c = c} {next = next} {fault = fault} Done Lacks begun r = record {
+      bytes = h.bytes ++ r.bytes;
       items = h.items;
-      told = Tells-more From a b c h.bytes bytes h.told told;
-      given = given-fault Done Ended Lacks next bytes fault begun fails;
+      told = Tells-more From a b c h.bytes r.bytes h.told r.told;
+      given = given-fault Done (From.ended c) Lacks next r.bytes fault begun r.is.0;
     }

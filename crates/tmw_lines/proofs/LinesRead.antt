@@ -1,21 +1,10 @@
 -- What a reader of lines has read, after one line more.
-use Rattle.tmw_lines.proofs.Shared.{All-push, AreLines, BadHeader, BadLine, Cut, FailsAtLine, FailsBehind, FailsHolding, Grammar, HasBegun, HasFailed, HasLineFault, HasRead, HasTextFault, Io, IsItemLine, IsNew, IsOver, IsReading, Lines, List, Memory, TextFault, TooLong, [], ap, append-nil, append_assoc, arith, bytes_of, flat_map-append, inr, items_text, length, length-append, length-take, line, lines_text, sym, ℕ, ◌++◌, ◌+◌, ◌<◌, ◌^◌, ◌∙◌, ◌∷◌, ◌≡◌, ◌≤◌}
+use Rattle.tmw_lines.proofs.Shared.{All-push, AreLines, BadHeader, BadLine, Cut, FailsAtLine, FailsBehind, FailsHolding, Grammar, HasBegun, HasLineFault, HasRead, HasTextFault, Io, IsItemLine, Lines, List, Memory, TextFault, TooLong, [], ap, append-nil, append_assoc, arith, bytes_of, flat_map-append, inr, items_text, length, length-append, length-take, line, lines_text, sym, ℕ, ◌++◌, ◌+◌, ◌<◌, ◌^◌, ◌∙◌, ◌∷◌, ◌≡◌, ◌≤◌}
 use Rattle.tmw_lines.specs.declared.line_buffer.LineBuffer.{LineBuffer}
 use Rattle.tmw_lines.specs.declared.lines.ReaderState.TheVariants.{Reading}
 
 pub few-held : (held : LineBuffer) → length (bytes_of held) ≤ 4096
 few-held held = simp length-take (omega (arith, held.within))
-
--- a reader that has begun to read has neither ended nor failed
-module _ {F : Type 0} (lines : Lines F) (reading : IsReading lines) where
-  pub IsReading-new : IsNew lines → ⊥
-  IsReading-new new = let other = sym reading ∙ new.state in absurd (cc)
-
-  pub IsReading-over : IsOver lines → ⊥
-  IsReading-over over = let other = sym reading ∙ over in absurd (cc)
-
-  pub IsReading-failed : (fault : TextFault) → HasFailed lines fault → ⊥
-  IsReading-failed fault failed = let other = sym reading ∙ failed in absurd (cc)
 
 module _ {F H E : Type 0} (grammar : Grammar F H E) where
   AreLines-push : (header : H) (items : List E) (item : E) → AreLines grammar header items

@@ -17,7 +17,7 @@ pub use Rattle.tmw_lines.specs.LineBuffer.{bytes_of}
 pub use Rattle.tmw_lines.specs.GiveItems.{AreGiven, GivesAll, ReadsToFault}
 pub use Rattle.tmw_lines.specs.ReadItems.{AreReadFor, FailsBehind, FailsHolding, HasBegunToRead, ReadsItems}
 pub use Rattle.tmw_lines.specs.NextLine.{HasLineFault, IsItemLine, ReadsHeader, ReadsLine}
-pub use Rattle.tmw_lines.specs.Lines.{FailsAtLine, GivesEnd, GivesItem, HasFailed, HasRead, IsNew, IsOver, IsReading, unread}
+pub use Rattle.tmw_lines.specs.Lines.{FailsAtLine, HasRead, IsReading, ReadsNext, unread}
 pub use Rattle.tmw_lines.specs.LongLine.{HasFeed, Skips}
 pub use Rattle.tmw_lines.specs.FreeParts.{IsFree, is_next}
 pub use Rattle.tmw_lines.specs.LinePiece.{IsSeen}

@@ -1,5 +1,5 @@
 -- What a reader of lines has read, and what each of its calls gives.
-use Rattle.std.specs.Prelude.{◌≡◌, ℕ, ◌≤◌, List, [], ◌∷◌, ◌++◌, length}
+use Rattle.std.specs.Prelude.{◌≡◌, ℕ, ◌≤◌, Option, Some, None, Result, Ok, Err, List, [], ◌∷◌, ◌++◌, length}
 use Rattle.tmw_lines.specs.Grammar.{Grammar, lines_text, AreLines}
 use Rattle.tmw_lines.specs.LineBuffer.{bytes_of}
 use Rattle.tmw_lines.specs.NextLine.{HasLineFault}
@@ -9,6 +9,8 @@ use Rattle.tmw_lines.specs.declared.lines.Lines.{Lines}
 use Rattle.tmw_lines.specs.declared.lines.ReaderState.{ReaderState}
 use Rattle.tmw_lines.specs.declared.lines.ReaderState.TheVariants.{New, Reading, Over, Failed}
 use Rattle.tmw_lines.specs.declared.text_fault.TextFault.{TextFault}
+use Rattle.tmw_streams.specs.Streams.{FromSource}
+use Rattle.tmw_streams.specs.Transfers.{Tells}
 
 -- how far it has come
 abbrev pub state_of : {F : Type 0} → Lines F → ReaderState
@@ -80,3 +82,19 @@ FailsAtLine grammar Ended old new bytes fault =
 abbrev pub GivesFault : {F H E : Type 0} → Grammar F H E → Type 0 → Lines F → List ℕ → TextFault → Type 0
 GivesFault grammar Ended old bytes fault = (header : _) (items : List _) (before : List ℕ)
     → HasRead grammar old header items before → HasTextFault grammar Ended (before ++ bytes) fault
+
+-- these bytes were read as an item's line, or as the end or a fault, at which the reader stays
+abbrev pub IsNextRead : {F H E : Type 0} → Grammar F H E → Type 0 → Lines F → Lines F → List ℕ → Result (Option E) TextFault → Type 0
+IsNextRead grammar Ended old new bytes (Ok (Some item)) = GivesItem grammar old new bytes item
+IsNextRead grammar Ended old new bytes (Ok None) = GivesEnd grammar Ended old bytes × IsOver new
+IsNextRead grammar Ended old new bytes (Err fault) =
+    FailsAtLine grammar Ended old new bytes fault × GivesFault grammar Ended old bytes fault × HasFailed new fault
+
+-- a call of `next` read, and has answered this
+pub record ReadsNext {F H E S : Type 0} (grammar : Grammar F H E) (From : FromSource S) (a b : S) (old new : Lines F)
+    (result : Result (Option E) TextFault) : Type 0 where
+  -- the source told these bytes
+  pub bytes : List ℕ
+  pub told : Tells From a bytes b
+  -- they are what was answered
+  pub is : IsNextRead grammar (From.ended b) old new bytes result

@@ -1,5 +1,5 @@
 ghost use Rattle.std.specs.Prelude.{◌≡◌, ℕ, ◌+◌, ◌-◌, ◌<◌, ◌≤◌, List, [], ◌++◌, length, take, drop, IfOk, OnOk, OnErr};
-ghost use Rattle.tmw_streams.specs.Transfers.{Tells, one_more};
+ghost use Rattle.tmw_streams.specs.Transfers.{Tells, FailsToRead};
 
 use tmw_streams::{IoFault, Source};
 
@@ -64,11 +64,8 @@ impl LineBuffer {
             (λ count. S.from.left source.new + count ≤ S.from.left source.old) }
         ensures end { IfOk result (λ count. count ≡ 0 → S.from.ended source.new) }
         ensures well { OnOk result (S.from.failures source.new ≡ S.from.failures source.old) }
-        ensures failed { OnErr result
-            (S.from.failures source.new ≡ one_more (S.from.failures source.old)) }
-        ensures kept { OnErr result ((bytes_of self.new ≡ bytes_of self.old)
-            × Tells S.from source.old [] source.new) }
-        ensures no_end { OnErr result (S.from.ended source.new → ⊥) }
+        ensures fails { OnErr result (FailsToRead S.from source.old source.new) }
+        ensures kept { OnErr result (bytes_of self.new ≡ bytes_of self.old) }
     {
         move_to_front(&mut self.buffer, self.start, self.end);
         self.end -= self.start;

@@ -1,5 +1,5 @@
-ghost use Rattle.std.specs.Prelude.{◌≡◌, ℕ, ◌+◌, ◌<◌, ◌≤◌, ◌^◌, List, [], IfOk, IfErr, IfSome, IfNone, OnOk, OnErr, OnSome, Ok, Err, None};
-ghost use Rattle.tmw_lines.specs.TextFault.{HasFirstLineFault, failures_after, reading_failures};
+ghost use Rattle.std.specs.Prelude.{◌≡◌, ◌⊎◌, ℕ, ◌+◌, ◌<◌, ◌≤◌, ◌^◌, List, [], IfOk, IfErr, OnOk, OnErr, OnSome, Ok, Err, None};
+ghost use Rattle.tmw_lines.specs.TextFault.{HasFirstLineFault, reading_failures};
 ghost use Rattle.tmw_lines.specs.declared.text_fault.TextFault.{TextFault};
 ghost use Rattle.tmw_streams.specs.Transfers.{Tells};
 
@@ -42,7 +42,7 @@ pub struct Lines<F> {
 impl<F: LineFormat> Lines<F> {
     ghost use Rattle.tmw_lines.specs.GiveFirst.{GivesItems, LacksLast};
     ghost use Rattle.tmw_lines.specs.Text.{HoldsFront, front_of};
-    ghost use Rattle.tmw_lines.specs.Lines.{IsNew, IsReading, IsOver, HasFailed, HasRead, format_by, items_given, unread, unread_bytes, GivesItem, GivesEnd, FailsAtLine, GivesFault};
+    ghost use Rattle.tmw_lines.specs.Lines.{IsNew, IsReading, IsOver, HasFailed, HasRead, format_by, items_given, unread, unread_bytes, ReadsNext};
 
     /// Makes a reader that has read nothing.
     pub const fn new() -> Lines<F>
@@ -95,12 +95,8 @@ impl<F: LineFormat> Lines<F> {
         ensures lacks { OnErr result
             (LacksLast F.grammar T.takes T.lacks self.old self.new taker.old taker.new) }
         ensures fewer { unread self.new ≤ unread self.old }
-        ensures before_header { IsNew self.old → (result ≡ Ok tt) × (self.new ≡ self.old)
+        ensures idle { (IsReading self.old → ⊥) → (result ≡ Ok tt) × (self.new ≡ self.old)
             × (taker.new ≡ taker.old) }
-        ensures over_again { IsOver self.old → (result ≡ Ok tt) × (self.new ≡ self.old)
-            × (taker.new ≡ taker.old) }
-        ensures fault_again { (fault : TextFault) → HasFailed self.old fault
-            → (result ≡ Ok tt) × (self.new ≡ self.old) × (taker.new ≡ taker.old) }
     {
         match self.state {
             ReaderState::Reading => {}
@@ -116,29 +112,15 @@ impl<F: LineFormat> Lines<F> {
     /// `None` or a fault each call returns the same and reads nothing. A call before the header also returns `None`
     /// and reads nothing; the header can then no longer be read.
     pub fn next<S: Source>(&mut self, source: &mut S) -> Result<Option<F::Item>, TextFault>
-        ensures item { IfOk result (λ found. IfSome found (λ item. (bytes : List ℕ)
-            × Tells S.from source.old bytes source.new
-            × GivesItem F.grammar self.old self.new bytes item)) }
-        ensures end { IfOk result (λ found. IfNone found ((bytes : List ℕ)
-            × Tells S.from source.old bytes source.new
-            × GivesEnd F.grammar (S.from.ended source.new) self.old bytes)) }
-        ensures fault { IfErr result (λ fault. (bytes : List ℕ)
-            × Tells S.from source.old bytes source.new
-            × GivesFault F.grammar (S.from.ended source.new) self.old bytes fault) }
-        ensures at_line { IfErr result (λ fault. (bytes : List ℕ)
-            × Tells S.from source.old bytes source.new
-            × FailsAtLine F.grammar (S.from.ended source.new) self.old self.new bytes fault) }
+        ensures reads { ReadsNext F.grammar S.from source.old source.new self.old self.new result }
         ensures falls { IfOk result (λ found. OnSome found
             (S.from.left source.new + unread self.new < S.from.left source.old + unread self.old)) }
-        ensures well { OnOk result (S.from.failures source.new ≡ S.from.failures source.old) }
-        ensures failed { IfErr result (λ fault. IsReading self.old
-            → S.from.failures source.new ≡ failures_after fault (S.from.failures source.old)) }
-        ensures before_header { IsNew self.old → (result ≡ Ok None) × (source.new ≡ source.old) }
-        ensures over { IfOk result (λ found. IfNone found (IsOver self.new)) }
-        ensures over_again { IsOver self.old → (result ≡ Ok None) × (source.new ≡ source.old) }
-        ensures stays { IfErr result (HasFailed self.new) }
+        ensures failures { IsReading self.old → S.from.failures source.new
+            ≡ reading_failures result (S.from.failures source.old) }
+        ensures idle { (IsReading self.old → ⊥) → source.new ≡ source.old }
+        ensures none_again { IsNew self.old ⊎ IsOver self.old → result ≡ Ok None }
         ensures fault_again { (fault : TextFault) → HasFailed self.old fault
-            → (result ≡ Err fault) × (source.new ≡ source.old) × (self.new ≡ self.old) }
+            → (result ≡ Err fault) × (self.new ≡ self.old) }
     {
         match self.state {
             ReaderState::Failed(fault) => return Err(fault),

@@ -1,12 +1,12 @@
 use std::array;
 use std::sync::atomic::{AtomicU64, Ordering};
-use tmw_events::Ix;
+use tmw_events::{Ix, MOST_REGISTERS};
 use tmw_tm::Entry;
 
 /// The values of the registers, which several threads load and store.
 #[derive(Drop)]
 pub struct Words {
-    words: [AtomicU64; 8],
+    words: [AtomicU64; MOST_REGISTERS],
 }
 
 impl Words {

@@ -8,7 +8,7 @@ use crate::monitor::Monitor;
 use std::alloc::{AllocError, Global};
 use tmw_cuts::State;
 use tmw_defs::{Criterion, Verdict};
-use tmw_events::{Event, Registers};
+use tmw_events::{Event, MOST_REGISTERS, Registers};
 
 /// Judges by opacity a history of at most 2^40 events whose registers all begin at 0.
 pub fn judge(
@@ -20,7 +20,7 @@ pub fn judge(
     requires { length events.now ≤ 2 ^ 40 }
     ensures { IfOk result (IsVerdict (rules_of registers zeros bounds) events.now) }
 {
-    judge_from(alloc, registers, &[0; 8], bounds, events)
+    judge_from(alloc, registers, &[0; MOST_REGISTERS], bounds, events)
 }
 
 /// Judges by opacity a history of at most 2^40 events whose registers begin with these values. Those that the run

@@ -15,7 +15,7 @@ use crate::next_wrong::next_wrong;
 use std::alloc::{AllocError, Global};
 use tmw_cuts::{State, States, Window};
 use tmw_defs::{Criterion, Verdict};
-use tmw_events::{Event, Registers};
+use tmw_events::{Event, MOST_REGISTERS, Registers};
 use tmw_witness::Witness;
 
 /// A judge of a history as its events come, by the definition of its criterion at each of its prefixes: opacity
@@ -46,7 +46,7 @@ impl Monitor {
             monitor) }
         ensures criterion { IfOk result (λ monitor. criterion_of monitor ≡ Opacity) }
     {
-        Monitor::new_from(alloc, registers, [0; 8], bounds)
+        Monitor::new_from(alloc, registers, [0; MOST_REGISTERS], bounds)
     }
 
     /// Makes a monitor that judges by opacity a run whose registers begin with these values, before its first event.

@@ -82,7 +82,7 @@ fn is_of_any(pieces: &[Piece], place: usize, event: Event) -> bool
 }
 
 /// Returns the marks of what is kept without these pieces.
-#[tactic(auto, unfolding(crate::specs::Kept::without))]
+#[tactic(auto, unfolding(crate::specs::Marks::without))]
 pub(crate) fn without(
     alloc: Global,
     pieces: &[Piece],

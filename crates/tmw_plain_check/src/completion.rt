@@ -6,6 +6,7 @@ use crate::operation_and_status::status_of;
 use crate::order::has_order;
 use crate::plain_transaction::PlainTransaction;
 use std::alloc::{AllocError, Global};
+use tmw_cuts::State;
 use tmw_defs::Status;
 
 /// Tells whether the transactions that some completion of these holds have a legal serial order of their own, from
@@ -13,7 +14,7 @@ use tmw_defs::Status;
 pub fn has_completion(
     alloc: Global,
     list: &[PlainTransaction],
-    start: &[u64; 8],
+    start: &State,
 ) -> Result<bool, AllocError>
     ensures { IfOk result (λ has. has ≡ has_completion start.now (txns_of list.now)) }
 {
@@ -26,7 +27,7 @@ fn goes_with<'a>(
     alloc: Global,
     members: &[&'a PlainTransaction],
     behind: &'a [PlainTransaction],
-    start: &[u64; 8],
+    start: &State,
 ) -> Result<bool, AllocError>
     ensures { IfOk result (λ goes. goes
         ≡ goes_with start.now (shown members.now) (txns_of behind.now)) }
@@ -51,7 +52,7 @@ fn goes_on_with<'a>(
     members: &[&'a PlainTransaction],
     next: &'a PlainTransaction,
     rest: &'a [PlainTransaction],
-    start: &[u64; 8],
+    start: &State,
 ) -> Result<bool, AllocError>
     ensures { IfOk result (λ goes. goes
         ≡ goes_with start.now (shown members.now ++ txn_of next.now ∷ []) (txns_of rest.now)) }

@@ -6,8 +6,9 @@ use crate::order::is_explained;
 use crate::plain_transaction::transactions;
 use crate::whole::{Whole, WholeFault};
 use std::alloc::Global;
+use tmw_cuts::State;
 use tmw_defs::Criterion;
-use tmw_events::{Event, Registers};
+use tmw_events::{Event, MOST_REGISTERS, Registers};
 use tmw_wellformed::Tracker;
 
 /// Judges a history whose registers all begin at 0, by opacity. See `judge_whole_for`.
@@ -18,14 +19,14 @@ pub fn judge_whole(
 ) -> Result<Whole, WholeFault>
     ensures { Judges registers.number zeros events.now result }
 {
-    judge_whole_from(alloc, registers, &[0; 8], events)
+    judge_whole_from(alloc, registers, &[0; MOST_REGISTERS], events)
 }
 
 /// Judges a history whose registers begin with these values, by opacity. See `judge_whole_for`.
 pub fn judge_whole_from(
     alloc: Global,
     registers: Registers,
-    start: &[u64; 8],
+    start: &State,
     events: &[Event],
 ) -> Result<Whole, WholeFault>
     ensures { Judges registers.number start.now events.now result }
@@ -42,7 +43,7 @@ pub fn judge_whole_for(
     criterion: Criterion,
     alloc: Global,
     registers: Registers,
-    start: &[u64; 8],
+    start: &State,
     events: &[Event],
 ) -> Result<Whole, WholeFault>
     ensures { JudgesBy criterion registers.number start.now events.now result }
@@ -68,7 +69,7 @@ pub fn judge_whole_for(
 fn has_legal_order(
     criterion: Criterion,
     alloc: Global,
-    start: &[u64; 8],
+    start: &State,
     events: &[Event],
 ) -> Result<bool, WholeFault>
     ensures { Weighs criterion start.now events.now result }

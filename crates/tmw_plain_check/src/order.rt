@@ -7,6 +7,7 @@ use crate::operation_and_status::{is_ended, status_of};
 use crate::plain_transaction::PlainTransaction;
 use crate::replay::replay;
 use std::alloc::{AllocError, Global};
+use tmw_cuts::State;
 use tmw_defs::Status;
 
 /// Whether the one precedes the other in real time: it is completed, and its last event is before the other's first.
@@ -48,7 +49,7 @@ fn may_come(
     alloc: Global,
     waiting: &[&PlainTransaction],
     index: usize,
-    state: &[u64; 8],
+    state: &State,
 ) -> Result<bool, AllocError>
     requires { index < length waiting.now }
     ensures { IfOk result (λ may. may
@@ -72,8 +73,8 @@ fn goes_on(
     alloc: Global,
     status: Status,
     rest: &[&PlainTransaction],
-    held: &[u64; 8],
-    left_out: &[u64; 8],
+    held: &State,
+    left_out: &State,
 ) -> Result<bool, AllocError>
     ensures { IfOk result (λ goes. goes ≡
         (may_hold status true && is_explained held.now (shown rest.now)
@@ -94,7 +95,7 @@ fn goes_on(
 pub fn has_order(
     alloc: Global,
     waiting: &[&PlainTransaction],
-    state: &[u64; 8],
+    state: &State,
 ) -> Result<bool, AllocError>
     ensures { IfOk result (λ has. has ≡ is_explained state.now (shown waiting.now)) }
 {
@@ -111,7 +112,7 @@ pub fn has_order(
 pub fn is_explained(
     alloc: Global,
     list: &[PlainTransaction],
-    start: &[u64; 8],
+    start: &State,
 ) -> Result<bool, AllocError>
     ensures { IfOk result (λ has. has ≡ is_explained start.now (txns_of list.now)) }
 {

@@ -3,11 +3,12 @@ ghost use Rattle.tmw_defs.specs.History.{operations};
 ghost use Rattle.tmw_cuts.specs.Replays.{Replays};
 
 use crate::operation_and_status::operation;
+use tmw_cuts::State;
 use tmw_defs::Op;
 use tmw_events::Kind;
 
 /// Returns what the registers hold after the operation, if it was answered what they held before.
-pub fn after_one(op: Op, state: &[u64; 8]) -> Option<[u64; 8]>
+pub fn after_one(op: Op, state: &State) -> Option<State>
     ensures { Replays state.now (op ∷ []) result }
 {
     let mut after = *state;
@@ -30,7 +31,7 @@ pub fn after_one(op: Op, state: &[u64; 8]) -> Option<[u64; 8]>
 
 /// Returns what the registers hold after a transaction's operations, if each of them was answered what the registers
 /// held then.
-pub fn replay(text: &[Kind], start: &[u64; 8]) -> Option<[u64; 8]>
+pub fn replay(text: &[Kind], start: &State) -> Option<State>
     ensures { Replays start.now (operations text.now) result }
 {
     let mut state = *start;

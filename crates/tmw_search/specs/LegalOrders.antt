@@ -1,7 +1,7 @@
 -- Which orders of a window's transactions are legal, told by who precedes whom and who reads from whom (a polygraph, Papadimitriou 1979),
 -- and where the search begins.
 -- Transactions are told by their places, below 8; `mat` at j is the mask of those that precede j (with or without j itself). Rankings are
--- those of specs/Order.antt: all eight places have different ranks, and a bit i of mat at j says rank i ≤ rank j.
+-- those of specs/Precedence.antt: all eight places have different ranks, and a bit i of mat at j says rank i ≤ rank j.
 use Rattle.std.specs.Prelude.{◌≡◌, ◌==◌, ◌⊎◌, ◌↔◌, ◌-◌, ◌^◌, ◌<◌, ◌≤◌, ℕ, true, List, length, slice_get, slice_index, get_or, Some, IsTrue, if◌then◌else◌, false, Bool, map, bit_or}
 use Rattle.std.specs.Int.{bit_at}
 use Rattle.tmw_defs.specs.declared.criterion.Criterion.{Criterion}
@@ -82,7 +82,7 @@ abbrev pub RanksTo : Criterion → List Effect → List Txn → List ℕ → Sta
 RanksTo criterion xs ts mat start end =
     (held : ℕ) × IsCompletion ts held × EndsIn xs start mat (members_of criterion (length ts) held) held end
 
--- THE LAW (proved for both criteria, proofs/Law.antt, of ActAs, ShowsOrder for each completion's members, at most 8 transactions, a start
+-- THE LAW (proved for both criteria, proofs/LegalOrdersProof.antt, of ActAs, ShowsOrder for each completion's members, at most 8 transactions, a start
 -- of 8 registers): what legal serial orders end in is what rankings end in.
 abbrev pub AreRanked : Criterion → List Effect → List Txn → List ℕ → State → Type 0
 AreRanked criterion xs ts mat start = (end : State) → EndsBy criterion (Only start) ts end ↔ RanksTo criterion xs ts mat start end

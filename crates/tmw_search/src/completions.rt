@@ -13,12 +13,14 @@ use crate::end_set::EndSet;
 use crate::end_states::EndStates;
 use crate::last_writers::{add_last, is_plain, put_known};
 use crate::node::Node;
+use crate::precedence::Masks;
 use crate::read_consequences::read_all;
 use crate::root::{all_agree, order_of, orderly, root_of, statuses_of};
 use crate::settle_all::settle;
 use std::alloc::{AllocError, Global};
 use tmw_cuts::{State, Txn, lowest};
 use tmw_defs::Criterion;
+use tmw_events::MOST_REGISTERS;
 
 /// Takes in what follows from all reads of a node of which no source is chosen. Returns whether there may be an order.
 fn read_settled(items: &[Txn], start: &State, node: &mut Node) -> bool
@@ -104,7 +106,7 @@ fn add_from(
 }
 
 /// Returns the registers that none writes, as a mask.
-fn unwritten(writers: &[u8; 8]) -> u8
+fn unwritten(writers: &[u8; MOST_REGISTERS]) -> u8
     ensures { (r : ℕ) → r < 8 → (In result r → ⊥)
         → (k : ℕ) × (k < 8) × In (slice_index writers.now r) k }
 {
@@ -179,7 +181,7 @@ fn add_held(
     criterion: Criterion,
     items: &[Txn],
     starts: &[State],
-    reach: &[u8; 8],
+    reach: &Masks,
     held: u8,
     found: &mut EndSet,
 ) -> Result<bool, AllocError>
@@ -204,7 +206,7 @@ pub fn add_completions(
     criterion: Criterion,
     items: &[Txn],
     starts: &[State],
-    reach: &[u8; 8],
+    reach: &Masks,
     held: u8,
     left: u8,
     found: &mut EndSet,

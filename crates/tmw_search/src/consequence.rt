@@ -2,7 +2,7 @@ ghost use Rattle.std.specs.Prelude.{◌≡◌, ◌<◌, IsTrue, ℕ};
 ghost use Rattle.std.specs.Int.{bit_at};
 ghost use Rattle.tmw_search.specs.Precedence.{Has, IsOrder, Narrows, Out, IsSource, FromStart, IsOut, IsSettled, IfClear, IfStuck, Passes, lives};
 
-use crate::precedence::{has, precede};
+use crate::precedence::{Masks, has, precede};
 use tmw_cuts::lowest;
 
 /// What follows from the sources: that there is no order, that all of them are so, or that one may still be on either
@@ -29,7 +29,7 @@ impl Consequence {
 
 /// Keeps one from between the other two.
 #[inline(always)]
-fn keep_out(reach: &mut [u8; 8], k: usize, i: usize, j: usize) -> Consequence
+fn keep_out(reach: &mut Masks, k: usize, i: usize, j: usize) -> Consequence
     requires first { i < 8 }
     requires second { j < 8 }
     requires third { k < 8 }
@@ -59,7 +59,7 @@ fn keep_out(reach: &mut [u8; 8], k: usize, i: usize, j: usize) -> Consequence
 }
 
 /// Keeps the others of these from between the source and its read.
-pub fn settle_read(reach: &mut [u8; 8], i: usize, j: usize, writers: u8) -> Consequence
+pub fn settle_read(reach: &mut Masks, i: usize, j: usize, writers: u8) -> Consequence
     requires first { i < 8 }
     requires second { j < 8 }
     requires order { IsOrder reach.now }
@@ -83,7 +83,7 @@ pub fn settle_read(reach: &mut [u8; 8], i: usize, j: usize, writers: u8) -> Cons
 }
 
 /// Puts the read before all of these.
-pub fn settle_start(reach: &mut [u8; 8], j: usize, others: u8) -> bool
+pub fn settle_start(reach: &mut Masks, j: usize, others: u8) -> bool
     requires within { j < 8 }
     requires order { IsOrder reach.now }
     ensures narrows { Narrows (FromStart others j) reach.old reach.new result }

@@ -10,14 +10,14 @@ use crate::choices::Choices;
 use crate::effects::left_at;
 use crate::end_set::EndSet;
 use crate::node::Node;
-use crate::precedence::join;
+use crate::precedence::{Masks, join};
 use crate::search::any;
 use crate::settle_all::settle;
 use std::alloc::AllocError;
-use tmw_cuts::{State, Txn, lowest};
+use tmw_cuts::{MOST_TRANSACTIONS, State, Txn, lowest};
 
 /// Returns those that come before another of these, as a mask.
-fn before_of(reach: &[u8; 8], these: u8) -> u8
+fn before_of(reach: &Masks, these: u8) -> u8
     ensures comes { ComeBefore reach.now these result }
     ensures fits { these < 256 }
 {
@@ -36,13 +36,13 @@ fn before_of(reach: &[u8; 8], these: u8) -> u8
 pub fn is_plain(choices: &Choices) -> bool
     ensures { IsTrue result → (j r : ℕ) → IsRead choices.now j r → ⊥ }
 {
-    choices.reads == [0; 8]
+    choices.reads == [0; MOST_TRANSACTIONS]
 }
 
 /// Has the transaction come last of the writers, where those of `before` come before another of them. Returns whether
 /// there may be an order.
 #[inline(always)]
-fn put_last(choices: &Choices, reach: &mut [u8; 8], i: usize, writers: u8, before: u8) -> bool
+fn put_last(choices: &Choices, reach: &mut Masks, i: usize, writers: u8, before: u8) -> bool
     requires within { i < 8 }
     requires order { IsOrder reach.now }
     requires sources { Within choices.now }
@@ -128,7 +128,7 @@ fn add_end(
     items: &[Txn],
     start: &State,
     node: &Node,
-    reach: &[u8; 8],
+    reach: &Masks,
     end: &State,
     found: &mut EndSet,
 ) -> Result<(), AllocError>
@@ -150,7 +150,7 @@ fn add_end(
 
 /// Returns the writer that all others of these come before, if there is one.
 #[inline(always)]
-fn last_of(reach: &[u8; 8], writers: u8) -> Option<usize>
+fn last_of(reach: &Masks, writers: u8) -> Option<usize>
     ensures { IfSome result (λ i. (i < 8) × In writers i
         × ((k : ℕ) → k < 8 → In writers k → Has reach.now k i)) }
 {
@@ -210,7 +210,7 @@ pub fn add_last(
     items: &[Txn],
     start: &State,
     node: &Node,
-    reach: &[u8; 8],
+    reach: &Masks,
     registers: u8,
     end: &State,
     found: &mut EndSet,

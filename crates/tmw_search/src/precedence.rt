@@ -1,9 +1,14 @@
 ghost use Rattle.std.specs.Prelude.{◌≡◌, ◌↔◌, ◌<◌, IsTrue};
 ghost use Rattle.tmw_search.specs.Precedence.{Has, IsOrder, Narrows, Joins, Before};
 
+use tmw_cuts::MOST_TRANSACTIONS;
+
+/// A mask of transactions for each transaction of a window.
+pub type Masks = [u8; MOST_TRANSACTIONS];
+
 /// Tells whether the first comes before the second, or is it.
 #[inline(always)]
-pub fn has(reach: &[u8; 8], i: usize, j: usize) -> bool
+pub fn has(reach: &Masks, i: usize, j: usize) -> bool
     requires first { i < 8 }
     requires second { j < 8 }
     ensures { IsTrue result ↔ Has reach.now i j }
@@ -13,7 +18,7 @@ pub fn has(reach: &[u8; 8], i: usize, j: usize) -> bool
 
 /// Adds these to the masks that have the place.
 #[inline(always)]
-pub fn join(reach: &mut [u8; 8], place: usize, before: u8)
+pub fn join(reach: &mut Masks, place: usize, before: u8)
     requires within { place < 8 }
     requires order { IsOrder reach.now }
     ensures { Joins place before reach.old reach.new }
@@ -28,7 +33,7 @@ pub fn join(reach: &mut [u8; 8], place: usize, before: u8)
 /// Puts the first before the second, and with it all that come before it, before all that come after the second.
 /// Returns whether that can be.
 #[inline(always)]
-pub fn precede(reach: &mut [u8; 8], i: usize, j: usize) -> bool
+pub fn precede(reach: &mut Masks, i: usize, j: usize) -> bool
     requires first { i < 8 }
     requires second { j < 8 }
     requires order { IsOrder reach.now }

@@ -10,9 +10,11 @@ ghost use Rattle.tmw_search.specs.LegalOrders.{members_of, Agree, Begins, IsRow,
 use crate::choices::{Choices, ReadSource};
 use crate::effects::{agrees, needed_at, written_at};
 use crate::node::Node;
+use crate::precedence::Masks;
 use crate::search::add_writer;
-use tmw_cuts::{Txn, lowest};
+use tmw_cuts::{MOST_TRANSACTIONS, State, Txn, lowest};
 use tmw_defs::{Criterion, Status};
+use tmw_events::MOST_REGISTERS;
 
 /// The transactions that have committed, and those that are commit-pending, as masks.
 #[derive(Clone, Copy)]
@@ -23,7 +25,7 @@ pub struct Statuses {
 
 /// Does nothing: its clause tells a caller's proof what the type says.
 #[inline(always)]
-fn tell_eight(values: &[u64; 8])
+fn tell_eight(values: &State)
     ensures { length values.now ≡ 8 }
 {
     let _values = *values;
@@ -65,7 +67,7 @@ fn row_of(mask: u8, before: u8, place: usize) -> u8
 
 /// Returns, for each transaction of the mask, it and those of the mask that precede it. One that began later has all
 /// before it that one that began earlier has, so that this is an order even where nothing is known of the masks.
-pub fn order_of(items: &[Txn], mask: u8) -> [u8; 8]
+pub fn order_of(items: &[Txn], mask: u8) -> Masks
     requires { length items.now ≤ 8 }
     ensures order { IsOrder result }
     ensures shows { AreRising (map view items.now) → Begins mask (map view items.now) result }
@@ -95,10 +97,10 @@ pub fn all_agree(items: &[Txn], mask: u8) -> bool
 }
 
 /// Returns the registers that each transaction of the mask needs, as masks.
-fn reads_of(items: &[Txn], mask: u8) -> [u8; 8]
+fn reads_of(items: &[Txn], mask: u8) -> Masks
     ensures { ShowReads (effects items.now) mask result }
 {
-    let mut reads = [0; 8];
+    let mut reads = [0; MOST_TRANSACTIONS];
     let mut left = mask;
     while left != 0 {
         let place = lowest(left);
@@ -109,10 +111,10 @@ fn reads_of(items: &[Txn], mask: u8) -> [u8; 8]
 }
 
 /// Returns which transactions of the mask write each register, as masks.
-fn writers_of(items: &[Txn], mask: u8) -> [u8; 8]
+fn writers_of(items: &[Txn], mask: u8) -> [u8; MOST_REGISTERS]
     ensures { ShowWriters (effects items.now) mask result }
 {
-    let mut writers = [0; 8];
+    let mut writers = [0; MOST_REGISTERS];
     let mut left = mask;
     while left != 0 {
         let place = lowest(left);
@@ -153,7 +155,7 @@ fn none_chosen() -> [ReadSource; 64]
 }
 
 /// Returns what is known of all serial orders of a completion that holds these: who precedes whom. No source is chosen.
-pub fn root_of(criterion: Criterion, items: &[Txn], reach: &[u8; 8], held: u8) -> Node
+pub fn root_of(criterion: Criterion, items: &[Txn], reach: &Masks, held: u8) -> Node
     requires few { length items.now ≤ 8 }
     requires order { IsOrder reach.now }
     requires within { (i : ℕ) → In held i → i < length items.now }

@@ -10,12 +10,13 @@ use crate::choices::{Choices, ReadSource};
 use crate::consequence::Consequence;
 use crate::effects::{agrees, left_at, need_at, needed_at, written_at};
 use crate::node::{Branch, Node};
-use crate::precedence::{has, precede};
+use crate::precedence::{Masks, has, precede};
 use crate::settle_all::settle;
 use tmw_cuts::{State, Txn, lowest};
+use tmw_events::MOST_REGISTERS;
 
 /// Adds the transaction to those that write the registers of the mask.
-pub fn add_writer(writers: &mut [u8; 8], left: u8, i: usize)
+pub fn add_writer(writers: &mut [u8; MOST_REGISTERS], left: u8, i: usize)
     requires { i < 8 }
     ensures { (r k : ℕ) → r < 8 → k < 8 → In (slice_index writers.new r) k ↔ (In (slice_index writers.old r) k ⊎ ((k ≡ i) × In left r)) }
 {
@@ -99,7 +100,7 @@ fn may_give(items: &[Txn], node: &Node, i: usize, j: usize, r: usize) -> bool
 
 /// Tells whether one of the mask comes before the transaction.
 #[inline(always)]
-fn has_before(reach: &[u8; 8], j: usize, mask: u8) -> bool
+fn has_before(reach: &Masks, j: usize, mask: u8) -> bool
     requires { j < 8 }
     ensures { IsTrue result → (k : ℕ) × (k < 8) × In mask k × Has reach.now k j × (k ≡ j → ⊥) }
 {

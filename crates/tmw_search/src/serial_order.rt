@@ -1,6 +1,6 @@
 //! A serial order as a list. Nothing is claimed of it: who takes it has to check it.
 use crate::node::Node;
-use tmw_cuts::State;
+use tmw_cuts::{MOST_TRANSACTIONS, State};
 
 /// One transaction in an order, held or left out.
 #[derive(Clone, Copy, Debug)]
@@ -13,13 +13,13 @@ pub struct SerialStep {
 #[derive(Clone, Copy)]
 pub struct SerialOrder {
     pub start: State,
-    pub steps: [SerialStep; 8],
+    pub steps: [SerialStep; MOST_TRANSACTIONS],
 }
 
 /// An order of which the last steps are open.
 #[derive(Clone, Copy)]
 struct Listing {
-    steps: [SerialStep; 8],
+    steps: [SerialStep; MOST_TRANSACTIONS],
     /// How many steps are open.
     open: usize,
     /// The transactions that are not listed, as a mask.
@@ -44,12 +44,12 @@ fn list_free(node: &Node, listing: &mut Listing) {
 }
 
 /// Lists the members of a node, each after those that precede it. Step n is the one with n steps after it.
-pub fn steps_of(node: &Node) -> [SerialStep; 8] {
+pub fn steps_of(node: &Node) -> [SerialStep; MOST_TRANSACTIONS] {
     let mut listing = Listing {
         steps: [SerialStep {
             place: 0,
             held: false,
-        }; 8],
+        }; MOST_TRANSACTIONS],
         open: node.members.count_ones() as usize,
         left: node.members,
     };

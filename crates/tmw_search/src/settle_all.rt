@@ -4,11 +4,12 @@ ghost use Rattle.tmw_search.specs.Precedence.{Has, IsOrder, Narrows, IfClear, If
 
 use crate::choices::{Choices, ReadSource};
 use crate::consequence::{Consequence, settle_read, settle_start};
+use crate::precedence::Masks;
 use tmw_cuts::lowest;
 
 /// What follows from the source of one read.
 #[inline(always)]
-pub fn settle_source(reach: &mut [u8; 8], writers: u8, j: usize, source: ReadSource) -> Consequence
+pub fn settle_source(reach: &mut Masks, writers: u8, j: usize, source: ReadSource) -> Consequence
     requires second { j < 8 }
     requires within { WithinSource source }
     requires order { IsOrder reach.now }
@@ -30,7 +31,7 @@ pub fn settle_source(reach: &mut [u8; 8], writers: u8, j: usize, source: ReadSou
 
 /// What follows from the sources of one transaction's reads.
 #[inline(always)]
-fn settle_reads(reach: &mut [u8; 8], choices: &Choices, j: usize) -> Consequence
+fn settle_reads(reach: &mut Masks, choices: &Choices, j: usize) -> Consequence
     requires second { j < 8 }
     requires within { Within choices.now }
     requires order { IsOrder reach.now }
@@ -51,7 +52,7 @@ fn settle_reads(reach: &mut [u8; 8], choices: &Choices, j: usize) -> Consequence
 }
 
 /// What follows from all sources, each taken once.
-fn settle_once(reach: &mut [u8; 8], choices: &Choices) -> Consequence
+fn settle_once(reach: &mut Masks, choices: &Choices) -> Consequence
     requires within { Within choices.now }
     requires order { IsOrder reach.now }
     ensures { Passes (Chosen choices.now) (AllSettled choices.now) reach.old reach.new result }
@@ -69,14 +70,14 @@ fn settle_once(reach: &mut [u8; 8], choices: &Choices) -> Consequence
 
 /// Tells whether the same come before the same.
 #[inline(always)]
-fn is_same(one: &[u8; 8], other: &[u8; 8]) -> bool
+fn is_same(one: &Masks, other: &Masks) -> bool
     ensures { IsTrue result ↔ one.now ≡ other.now }
 {
     *one == *other
 }
 
 /// What follows from all sources.
-pub fn settle(reach: &mut [u8; 8], choices: &Choices) -> Consequence
+pub fn settle(reach: &mut Masks, choices: &Choices) -> Consequence
     requires within { Within choices.now }
     requires order { IsOrder reach.now }
     ensures narrows { Narrows (Chosen choices.now) reach.old reach.new (lives result) }

@@ -16,7 +16,7 @@ use Rattle.tmw_report.specs.CommandRun.{AnswersTextFault}
 use Rattle.tmw_report.specs.Quote.{RemarksTrace}
 use Rattle.tmw_report.specs.Remark.{IsRemarkedRun}
 use Rattle.tmw_report.specs.declared.remark.Remark.{Remark}
-use Rattle.tmw_report.specs.declared.remark.Remark.TheVariants.{BrokenRule as IsBroken}
+use Rattle.tmw_report.specs.declared.remark.Remark.TheVariants.{Broken as IsBroken}
 use Rattle.tmw_streams.specs.Streams.{FromSource, ToSink}
 use Rattle.tmw_window.specs.ShownWindow.{IsShowing}
 use Rattle.tmw_part.specs.Marks.{kept_of}

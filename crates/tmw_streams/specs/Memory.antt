@@ -1,5 +1,5 @@
 -- What sources and sinks over memory hold.
-use Rattle.std.specs.Prelude.{◌≡◌, ℕ, ◌+◌, ◌-◌, ◌<◌, vec_capacity, Bool, IsTrue, Option, List, Some, length, take, drop}
+use Rattle.std.specs.Prelude.{◌≡◌, ℕ, ◌+◌, ◌-◌, ◌<◌, vec_capacity, Bool, IsTrue, Option, List, Some, length, take, drop, min, max}
 use Rattle.tmw_streams.specs.Streams.{FromSource, ToSink}
 use Rattle.tmw_streams.specs.declared.memory_sink.MemorySink.{MemorySink}
 use Rattle.tmw_streams.specs.declared.memory_source.MemorySource.{MemorySource}
@@ -84,6 +84,15 @@ pub record SourceCalled (old new : MemorySource) : Type 0 where
   pub counted : source_calls new ≡ one_more (source_calls old)
   pub most : source_most new ≡ source_most old
   pub fails_at : source_fails_at new ≡ source_fails_at old
+
+-- A call of the source, into room for so many bytes, has told so many.
+pub record SourceGives (old new : MemorySource) (room count : ℕ) : Type 0 where
+  -- It was not to fail.
+  pub goes_on : SourceFails old → ⊥
+  -- There were as many, there was room for them, and a call may tell as many.
+  pub is : count ≡ min (min (from_memory.left old) room) (max (source_most old) 1)
+  -- It has answered the end only if there was room and none came.
+  pub over : IsTrue (source_over new) → (0 < room) × (count ≡ 0)
 
 -- One call more of the sink was counted, and its limits are as they were.
 pub record SinkCalled (old new : MemorySink) : Type 0 where

@@ -1,6 +1,6 @@
 ghost use Rattle.std.specs.Prelude.{◌≡◌, ◌+◌, ◌<◌, ◌≤◌, [], length, take, IfOk, OnOk, OnErr, refl};
 ghost use Rattle.tmw_streams.specs.BoundedSink.{bounded_bytes, to_bounded};
-ghost use Rattle.tmw_streams.specs.Transfers.{Takes, one_more};
+ghost use Rattle.tmw_streams.specs.Transfers.{TakesFront, FailsToTake};
 
 use crate::io_fault::IoFault;
 use crate::sink::Sink;
@@ -64,14 +64,8 @@ impl Sink for BoundedSink {
     ghost to = { to_bounded };
 
     fn put(&mut self, bytes: &[u8]) -> Result<usize, IoFault>
-        ensures within { IfOk result (λ count. count ≤ length bytes.now) }
-        ensures some { IfOk result (λ count. 0 < length bytes.now → 0 < count) }
-        ensures takes { IfOk result
-            (λ count. Takes to_bounded self.old (take count bytes.now) self.new) }
-        ensures well { OnOk result (to_bounded.failures self.new ≡ to_bounded.failures self.old) }
-        ensures failed { OnErr result
-            (to_bounded.failures self.new ≡ one_more (to_bounded.failures self.old)) }
-        ensures kept { OnErr result (Takes to_bounded self.old [] self.new) }
+        ensures takes { IfOk result (TakesFront to_bounded self.old self.new bytes.now) }
+        ensures fails { OnErr result (FailsToTake to_bounded self.old self.new) }
 
         // It takes all bytes where they fit, and fails only where they don't.
         ensures whole { IfOk result (λ count. count ≡ length bytes.now) }

@@ -1,6 +1,6 @@
-ghost use Rattle.std.specs.Prelude.{◌≡◌, ◌⊎◌, ◌-◌, ◌^◌, ◌<◌, ◌≤◌, [], length, take, min, max, IfOk, OnOk, OnErr, refl};
+ghost use Rattle.std.specs.Prelude.{◌≡◌, ◌⊎◌, ◌-◌, ◌^◌, [], length, min, max, IfOk, OnOk, OnErr, refl};
 ghost use Rattle.tmw_streams.specs.Memory.{held_bytes, sink_calls, sink_fails_at, sink_most, to_memory};
-ghost use Rattle.tmw_streams.specs.Transfers.{Takes, one_more};
+ghost use Rattle.tmw_streams.specs.Transfers.{TakesFront, FailsToTake, one_more};
 
 use crate::io_fault::IoFault;
 use crate::sink::Sink;
@@ -68,18 +68,12 @@ impl Sink for MemorySink {
     ghost to = { to_memory };
 
     fn put(&mut self, bytes: &[u8]) -> Result<usize, IoFault>
-        ensures within { IfOk result (λ count. count ≤ length bytes.now) }
-        ensures some { IfOk result (λ count. 0 < length bytes.now → 0 < count) }
-        ensures takes { IfOk result
-            (λ count. Takes to_memory self.old (take count bytes.now) self.new) }
-        ensures well { OnOk result (to_memory.failures self.new ≡ to_memory.failures self.old) }
-        ensures failed { OnErr result
-            (to_memory.failures self.new ≡ one_more (to_memory.failures self.old)) }
-        ensures kept { OnErr result (Takes to_memory self.old [] self.new) }
+        ensures takes { IfOk result (TakesFront to_memory self.old self.new bytes.now) }
+        ensures fails { OnErr result (FailsToTake to_memory self.old self.new) }
 
         // It fails at the chosen call, and where there is no room, and else takes as many bytes as there are and as it may.
         ensures called { SinkCalled self.old self.new }
-        ensures fails { OnErr result (SinkFails self.old
+        ensures cause { OnErr result (SinkFails self.old
             ⊎ SinkLacksRoom self.old (min (length bytes.now) (max (sink_most self.old) 1))) }
         ensures goes_on { OnOk result (SinkFails self.old → ⊥) }
         ensures count { IfOk result

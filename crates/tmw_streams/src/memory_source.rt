@@ -1,6 +1,6 @@
-ghost use Rattle.std.specs.Prelude.{◌≡◌, ◌≢◌, ◌+◌, ◌-◌, ◌^◌, ◌<◌, ◌≤◌, [], length, take, drop, min, max, Some, Ok, IfOk, OnOk, OnErr, IsTrue, MatchBool, if◌then◌else◌, false, refl};
+ghost use Rattle.std.specs.Prelude.{◌≡◌, ◌≢◌, ◌-◌, ◌^◌, ◌≤◌, [], length, take, drop, min, max, Some, Ok, IfOk, OnErr, IsTrue, MatchBool, if◌then◌else◌, false, refl};
 ghost use Rattle.std.proofs.lemmas.List.{drop_all};
-ghost use Rattle.tmw_streams.specs.Transfers.{Tells, one_more};
+ghost use Rattle.tmw_streams.specs.Transfers.{Fills, FailsToRead, one_more};
 
 use crate::io_fault::IoFault;
 use crate::source::Source;
@@ -89,38 +89,21 @@ impl<'a> MemorySource<'a> {
 }
 
 impl Source for MemorySource<'_> {
-    ghost use Rattle.tmw_streams.specs.Memory.{from_memory, source_over, source_most, SourceFails, SourceCalled};
+    ghost use Rattle.tmw_streams.specs.Memory.{from_memory, source_over, SourceFails, SourceCalled, SourceGives};
 
     ghost from = { from_memory };
 
     fn read(&mut self, buffer: &mut [u8]) -> Result<usize, IoFault>
-        ensures within { IfOk result (λ count. count ≤ length buffer.old) }
-        ensures tells { IfOk result
-            (λ count. Tells from_memory self.old (take count buffer.new) self.new) }
-        ensures falls { IfOk result
-            (λ count. from_memory.left self.new + count ≤ from_memory.left self.old) }
-        ensures end { IfOk result
-            (λ count. 0 < length buffer.old → count ≡ 0 → IsTrue (source_over self.new)) }
+        ensures fills { IfOk result (Fills from_memory self.old self.new buffer.old buffer.new) }
+        ensures fails { OnErr result (FailsToRead from_memory self.old self.new) }
         ensures end_again { IsTrue (source_over self.old) → (result ≡ Ok 0)
             × (self.new ≡ self.old) }
-        ensures well { OnOk result (from_memory.failures self.new ≡ from_memory.failures self.old) }
-        ensures failed { OnErr result
-            (from_memory.failures self.new ≡ one_more (from_memory.failures self.old)) }
-        ensures kept { OnErr result (Tells from_memory self.old [] self.new) }
-        ensures no_end { OnErr result (IsTrue (source_over self.new) → ⊥) }
 
-        // Each call is counted until the end was answered. It fails at the chosen call alone, and tells as many bytes as there
-        // are, as fit, and as it may.
+        // Each call is counted until the end was answered, and fails at the chosen call alone.
         ensures called { source_over self.old ≡ false → SourceCalled self.old self.new }
-        ensures over { IfOk result
-            (λ count. source_over self.old ≡ false → IsTrue (source_over self.new)
-            → (0 < length buffer.old)
-            × (count ≡ 0)) }
-        ensures fails { OnErr result (SourceFails self.old) }
-        ensures goes_on { OnOk result (source_over self.old ≡ false → SourceFails self.old → ⊥) }
-        ensures count { IfOk result (λ count. source_over self.old ≡ false
-            → count ≡ min (min (from_memory.left self.old) (length buffer.old))
-            (max (source_most self.old) 1)) }
+        ensures gives { IfOk result (λ count. source_over self.old ≡ false
+            → SourceGives self.old self.new (length buffer.old) count) }
+        ensures cause { OnErr result (SourceFails self.old) }
     {
         if self.over {
             return Ok(0);

@@ -1,6 +1,6 @@
-ghost use Rattle.std.specs.Prelude.{◌≡◌, ℕ, ◌<◌, ◌≤◌, List, [], length, take, IfOk, OnOk, OnErr};
+ghost use Rattle.std.specs.Prelude.{ℕ, List, IfOk, OnErr};
 ghost use Rattle.tmw_streams.specs.Streams.{ToSink};
-ghost use Rattle.tmw_streams.specs.Transfers.{Takes, one_more};
+ghost use Rattle.tmw_streams.specs.Transfers.{TakesFront, FailsToTake};
 
 use crate::io_fault::IoFault;
 
@@ -13,12 +13,8 @@ pub trait Sink {
     /// Takes bytes from the front of `bytes` and returns how many: at least one if there is one. A write that fails,
     /// or that would take none of some, takes nothing and is counted.
     fn put(&mut self, bytes: &[u8]) -> Result<usize, IoFault>
-        ensures within { IfOk result (λ count. count ≤ length bytes.now) }
-        ensures some { IfOk result (λ count. 0 < length bytes.now → 0 < count) }
-        ensures takes { IfOk result (λ count. Takes to self.old (take count bytes.now) self.new) }
-        ensures well { OnOk result (to.failures self.new ≡ to.failures self.old) }
-        ensures failed { OnErr result (to.failures self.new ≡ one_more (to.failures self.old)) }
-        ensures kept { OnErr result (Takes to self.old [] self.new) };
+        ensures takes { IfOk result (TakesFront to self.old self.new bytes.now) }
+        ensures fails { OnErr result (FailsToTake to self.old self.new) };
 
     /// In each state there are bytes that it may have taken.
     ghost took_some: { (s : Self) → (bytes : List ℕ) × to.took s bytes };

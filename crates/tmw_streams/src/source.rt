@@ -1,7 +1,7 @@
-ghost use Rattle.std.specs.Prelude.{◌≡◌, ℕ, ◌+◌, ◌<◌, ◌≤◌, List, [], length, take, IfOk, OnOk, OnErr, Ok};
+ghost use Rattle.std.specs.Prelude.{◌≡◌, ℕ, List, IfOk, OnErr, Ok};
 ghost use Rattle.std.specs.Io.KnownBytes.{IsAtEnd};
 ghost use Rattle.tmw_streams.specs.Streams.{FromSource};
-ghost use Rattle.tmw_streams.specs.Transfers.{Tells, one_more};
+ghost use Rattle.tmw_streams.specs.Transfers.{Fills, FailsToRead};
 
 use crate::io_fault::IoFault;
 
@@ -15,17 +15,9 @@ pub trait Source {
     /// Reads bytes to the front of `buffer` and returns how many. `Ok(0)` into a buffer that isn't empty is the end;
     /// each later read returns `Ok(0)` and changes nothing. A failed read reads nothing, is counted, and is no end.
     fn read(&mut self, buffer: &mut [u8]) -> Result<usize, IoFault>
-        ensures within { IfOk result (λ count. count ≤ length buffer.old) }
-        ensures tells { IfOk result
-            (λ count. Tells from self.old (take count buffer.new) self.new) }
-        ensures falls { IfOk result (λ count. from.left self.new + count ≤ from.left self.old) }
-        ensures end { IfOk result
-            (λ count. 0 < length buffer.old → count ≡ 0 → from.ended self.new) }
-        ensures end_again { from.ended self.old → (result ≡ Ok 0) × (self.new ≡ self.old) }
-        ensures well { OnOk result (from.failures self.new ≡ from.failures self.old) }
-        ensures failed { OnErr result (from.failures self.new ≡ one_more (from.failures self.old)) }
-        ensures kept { OnErr result (Tells from self.old [] self.new) }
-        ensures no_end { OnErr result (from.ended self.new → ⊥) };
+        ensures fills { IfOk result (Fills from self.old self.new buffer.old buffer.new) }
+        ensures fails { OnErr result (FailsToRead from self.old self.new) }
+        ensures end_again { from.ended self.old → (result ≡ Ok 0) × (self.new ≡ self.old) };
 
     /// In each state there are bytes that it may have told.
     ghost tells_some: { (s : Self) → (bytes : List ℕ) × from.told s bytes };

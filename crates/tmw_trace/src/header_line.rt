@@ -8,7 +8,7 @@ ghost use Rattle.tmw_trace.specs.Values.{HasStart, IsFirstValue, IsNoFirstValue}
 
 use crate::header::Header;
 use crate::version::Version;
-use tmw_events::{Registers, number_of};
+use tmw_events::{MOST_REGISTERS, Registers, number_of};
 use tmw_lines::length_before;
 
 /// Returns the header whose text these bytes are, and `None` for all other bytes. The text is a trace's first line
@@ -69,7 +69,7 @@ fn start_of(version: u8, registers: Registers, values: &[u8]) -> Option<Header>
         b'1' if values.is_empty() => Some(Header {
             version: Version::One,
             registers,
-            initial: [0; 8],
+            initial: [0; MOST_REGISTERS],
         }),
         b'2' => {
             let Some(initial) = values_of(registers, values) else {
@@ -97,7 +97,7 @@ fn registers_of(byte: u8) -> Option<Registers>
 }
 
 /// The values that these bytes are the text of, each after one space: as many as there are registers.
-fn values_of(registers: Registers, bytes: &[u8]) -> Option<[u64; 8]>
+fn values_of(registers: Registers, bytes: &[u8]) -> Option<[u64; MOST_REGISTERS]>
     ensures some { IfSome result
         (λ values. bytes.now ≡ values_text (take registers.number values)) }
     ensures fit { IfSome result (All (λ value. value < 2 ^ 64)) }
@@ -105,7 +105,7 @@ fn values_of(registers: Registers, bytes: &[u8]) -> Option<[u64; 8]>
     ensures none { IfNone result ((values : List ℕ) → length values ≡ registers.number
         → All (λ value. value < 2 ^ 64) values → bytes.now ≡ values_text values → ⊥) }
 {
-    let mut values = [0; 8];
+    let mut values = [0; MOST_REGISTERS];
     let mut rest = bytes;
     for index in 0..registers.number as usize {
         let Some((value, length)) = first_value(rest) else {

@@ -1,4 +1,4 @@
-use tmw_events::Registers;
+use tmw_events::{MOST_REGISTERS, Registers};
 use tmw_monitor::Bounds;
 
 /// What is watched, and how far.
@@ -7,7 +7,7 @@ pub struct WatchSettings {
     /// How many registers the memory has.
     pub registers: Registers,
     /// What they hold at first, by their numbers. Of those that the memory does not have nothing is read.
-    pub start: [u64; 8],
+    pub start: [u64; MOST_REGISTERS],
     /// How many transactions a window may have, and how many outcomes there may be at a cut: past either the verdict
     /// is undecided.
     pub bounds: Bounds,

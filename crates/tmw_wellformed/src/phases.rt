@@ -2,12 +2,12 @@ ghost use Rattle.std.specs.Prelude.{◌≡◌, count_by, slice_set, slice_index_
 ghost use Rattle.tmw_wellformed.specs.Phase.{is_live};
 
 use crate::phase::Phase;
-use tmw_events::Ix;
+use tmw_events::{Ix, MOST_THREADS};
 
 /// The phase of each thread, and how many of them have a live transaction.
 #[derive(Clone, Copy, PartialEq, Eq, Debug)]
 pub struct Phases {
-    pub by_thread: [Phase; 8],
+    pub by_thread: [Phase; MOST_THREADS],
     pub live: u8,
     pub ghost counted: { live ≡ count_by is_live by_thread },
 }
@@ -20,7 +20,7 @@ impl Phases {
         ensures { result.by_thread ≡ replicate 8 Between }
     {
         Phases {
-            by_thread: [Phase::Between; 8],
+            by_thread: [Phase::Between; MOST_THREADS],
             live: 0,
         }
     }

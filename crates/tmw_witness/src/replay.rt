@@ -8,7 +8,7 @@ ghost use Rattle.tmw_cuts.specs.Views.{view};
 ghost use Rattle.tmw_search.specs.EndStates.{TellsEnd};
 
 use crate::witness::Witness;
-use tmw_cuts::{State, States, Txn, Window};
+use tmw_cuts::{MOST_TRANSACTIONS, State, States, Txn, Window};
 use tmw_defs::Criterion;
 use tmw_search::{SerialStep, find_order, is_next, may_hold};
 
@@ -48,7 +48,7 @@ impl Witness {
 
     /// Takes this order in, from this state: step n is the one with n steps after it. The order is known if it is one
     /// of all transactions.
-    fn take(&mut self, items: &[Txn], start: &State, steps: &[SerialStep; 8])
+    fn take(&mut self, items: &[Txn], start: &State, steps: &[SerialStep; MOST_TRANSACTIONS])
         requires { length items.now ≤ 8 }
         ensures { (starts : List State) → Contains starts start.now
             → Witnesses starts (map view items.now) self.new }

@@ -6,7 +6,7 @@ ghost use Rattle.tmw_defs.specs.Opaque.{State};
 ghost use Rattle.tmw_defs.specs.Outcomes.{Ends};
 ghost use Rattle.tmw_cuts.specs.StandsFor.{views_of};
 
-use tmw_cuts::State;
+use tmw_cuts::{MOST_TRANSACTIONS, State};
 
 /// A serial order of the transactions of a window, told by ranks. Those that a completion takes as committed lead one after the other
 /// from the state of each rank to that of the next; the others read the state of their rank.
@@ -15,9 +15,9 @@ pub struct Witness {
     /// Whether such an order is known. Where it is not, the rest tells nothing.
     pub known: bool,
     /// The rank of each transaction.
-    pub ranks: [u8; 8],
+    pub ranks: [u8; MOST_TRANSACTIONS],
     /// Whether the completion takes it as committed, so that it leads to the next rank.
-    pub committed: [bool; 8],
+    pub committed: [bool; MOST_TRANSACTIONS],
     /// The state at each rank.
     pub states: [State; 9],
     /// The highest rank.

@@ -1,5 +1,5 @@
 //! Threads work at once, and record each call before they make it, and its answer behind it.
-use super::memories::{Overtaken, Waiting};
+use super::barrier_memories::{Overtaken, Waiting};
 use super::*;
 
 /// Whether each of two threads has made its transaction of two calls, none of which was answered by an abort.

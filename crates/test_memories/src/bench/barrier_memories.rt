@@ -1,4 +1,4 @@
-//! Memories that tests run.
+//! Memories of which a call waits until other threads have come as far.
 ghost use Rattle.std.proofs.Common.{rules};
 ghost use Rattle.std.proofs.lemmas.Grind.{common_steps};
 

@@ -2,7 +2,7 @@ ghost use Rattle.tmw_command.specs.DriveRun.{IsHeaderOf};
 
 use tmw_counts::Summary;
 use tmw_drive::Outcome;
-use tmw_events::{Event, Registers};
+use tmw_events::{Event, MOST_REGISTERS, Registers};
 use tmw_trace::{Header, version_of};
 
 /// What a memory made of a workload, the header under which its log is written, and what the log has shown.
@@ -22,6 +22,6 @@ pub fn header_of(registers: Registers, log: &[Event]) -> Header
     Header {
         version: version_of(log),
         registers,
-        initial: [0; 8],
+        initial: [0; MOST_REGISTERS],
     }
 }

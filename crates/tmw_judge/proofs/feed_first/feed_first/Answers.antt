@@ -7,49 +7,43 @@ pub loop-lines-init : goal.loop-lines-init
 loop-lines-init g c = (HasFed-none, refl)
 
 pub take-requires : goal.take-requires
-take-requires g c =
-    let given = rw c.in-Ok-Some.field-0-is at c.in-Ok-Some.ensures.item in
-    room-next c.loop-lines.invariant.0 c.next.new.self given.0 c.in-Ok-Some.event given.2 c.requires
+take-requires g c = room-next c.loop-lines.invariant.0 (rw c.in-Ok-Some.field-0-is at c.in-Ok-Some.ensures.reads) c.requires
 
 pub loop-lines-smaller : goal.loop-lines-smaller
 loop-lines-smaller g c = rw c.in-Ok-Some.field-0-is at c.in-Ok-Some.ensures.falls
 
 pub loop-lines-preserved : goal.loop-lines-preserved
-loop-lines-preserved g c =
-    let given = rw c.in-Ok-Some.field-0-is at c.in-Ok-Some.ensures.item in (
-      HasFed-push c.loop-lines.invariant.0 (sym c.loop-lines-test.ensures) c.next.new.source c.next.new.self
-          c.take.new.self given.0 c.in-Ok-Some.event given.1 given.2 c.in-Ok.ensures.taken,
-      c.in-Ok-Some.ensures.well ∙ c.loop-lines.invariant.1,
-    )
+loop-lines-preserved g c = (
+  HasFed-push c.loop-lines.invariant.0 (sym c.loop-lines-test.ensures) c.take.new.self (rw c.in-Ok-Some.field-0-is at c.in-Ok-Some.ensures.reads)
+      c.in-Ok.ensures.taken,
+  c.in-Ok-Some.ensures.failures (reads_on c.loop-lines.invariant.0 c.requires) ∙ c.loop-lines.invariant.1,
+)
 
 pub returns-in_default-clause-feeds : goal.returns-in_default-clause-feeds
 returns-in_default-clause-feeds g c =
-    let given = rw c.in-Ok-Some.field-0-is at c.in-Ok-Some.ensures.item in
-    feeds-lack c.loop-lines.invariant.0 (sym c.loop-lines-test.ensures) _ (g.S.Source.from.ended c.next.new.source)
-    c.next.new.source c.next.new.self c.take.new.self given.0 c.in-Ok-Some.event given.1 given.2
+    feeds-lack c.loop-lines.invariant.0 (sym c.loop-lines-test.ensures) _ c.take.new.self
+    (rw c.in-Ok-Some.field-0-is at c.in-Ok-Some.ensures.reads)
 
 pub returns-in_default-clause-failures : goal.returns-in_default-clause-failures
-returns-in_default-clause-failures g c = c.in-Ok-Some.ensures.well ∙ c.loop-lines.invariant.1
+returns-in_default-clause-failures g c =
+    c.in-Ok-Some.ensures.failures (reads_on c.loop-lines.invariant.0 c.requires) ∙ c.loop-lines.invariant.1
 
 pub returns-in-Ok-None-clause-feeds : goal.returns-in-Ok-None-clause-feeds
 returns-in-Ok-None-clause-feeds g c =
-    let given = rw c.in-Ok-None.field-0-is at c.in-Ok-None.ensures.end in
-    feeds-end c.loop-lines.invariant.0 (sym c.loop-lines-test.ensures) tt (g.S.Source.from.ended c.next.new.source)
-    c.next.new.source c.next.new.self given.0 given.1 given.2
+    feeds-end c.loop-lines.invariant.0 (sym c.loop-lines-test.ensures) tt
+    (rw c.in-Ok-None.field-0-is at c.in-Ok-None.ensures.reads)
 
 pub returns-in-Ok-None-clause-failures : goal.returns-in-Ok-None-clause-failures
-returns-in-Ok-None-clause-failures g c = c.in-Ok-None.ensures.well ∙ c.loop-lines.invariant.1
+returns-in-Ok-None-clause-failures g c =
+    c.in-Ok-None.ensures.failures (reads_on c.loop-lines.invariant.0 c.requires) ∙ c.loop-lines.invariant.1
 
 pub returns-in-Err-clause-feeds : goal.returns-in-Err-clause-feeds
-returns-in-Err-clause-feeds g c =
-    let given = c.in-Err.ensures.at_line in
-    feeds-fault c.loop-lines.invariant.0 (sym c.loop-lines-test.ensures) _ (g.S.Source.from.ended c.next.new.source)
-    c.next.new.source c.next.new.self given.0 c.in-Err.fault given.1 given.2
+returns-in-Err-clause-feeds g c = feeds-fault c.loop-lines.invariant.0 (sym c.loop-lines-test.ensures) _ c.in-Err.ensures.reads
 
 pub returns-in-Err-clause-failures : goal.returns-in-Err-clause-failures
 returns-in-Err-clause-failures g c =
-    let reading = reads_on c.loop-lines.invariant.0 c.requires in
-    c.in-Err.ensures.failed reading ∙ ap (failures_after c.in-Err.fault) c.loop-lines.invariant.1
+    c.in-Err.ensures.failures (reads_on c.loop-lines.invariant.0 c.requires)
+    ∙ ap (failures_after c.in-Err.fault) c.loop-lines.invariant.1
 
 pub returns-clause-feeds : goal.returns-clause-feeds
 returns-clause-feeds g c = grind (arith, feeds-final)

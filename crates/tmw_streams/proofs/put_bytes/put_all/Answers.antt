@@ -5,12 +5,11 @@ use Rattle.tmw_streams.proofs.put_bytes.put_all.Goals as goal
 
 pub loop-at-preserved : goal.loop-at-preserved
 loop-at-preserved g c =
-    let takes = rw (take_rest c.args.bytes.now c.loop-at.at) at c.in_ok-at.ensures.takes in
-    let within = rw (take_rest c.args.bytes.now c.loop-at.at) at c.in_ok-at.ensures.within in (
-      omega (arith, length-drop c.loop-at.at c.args.bytes.now, within),
+    let front = rw (take_rest c.args.bytes.now c.loop-at.at) at c.in_ok-at.ensures.takes in (
+      omega (arith, length-drop c.loop-at.at c.args.bytes.now),
       rw (take-add c.loop-at.at c.in_ok-at.field-0 c.args.bytes.now)
           (Takes-more g.K.Sink.to c.args.sink.now c.loop-at.sink c.put.new.self
           (take c.loop-at.at c.args.bytes.now) (take c.in_ok-at.field-0 (drop c.loop-at.at c.args.bytes.now))
-          c.loop-at.invariant.1 takes),
-      c.in_ok-at.ensures.well ∙ c.loop-at.invariant.2,
+          c.loop-at.invariant.1 front.takes),
+      front.well ∙ c.loop-at.invariant.2,
     )

@@ -24,14 +24,20 @@ begins content copied others rest at n is left h =
     ∙ ap (λ xs. take n (copied ++ others) ++ drop n xs) left
     ∙ ap (λ xs. take n (copied ++ others) ++ xs) (drop-drop n at content)
 
-pub returns-clause-tells : goal.returns-clause-tells
-returns-clause-tells c =
+pub returns-clause-fills : goal.returns-clause-fills
+returns-clause-fills c =
     let asked = c.fails_now.new.self in
     let same = sym c.fails_now.ensures.same in
     let within : c.next_count-count.result ≤ length c.rest.result.now =
-    omega (arith, ap length c.rest.ensures, length-drop asked.at asked.content.now) in (
-      λ before told. follows before _ _ _ _ asked.at _ (told ∙ ap (λ s. take s.at s.content.now) same)
-          c.copy_from_slice.ensures.after c.rest.ensures within,
-      ap (λ s. drop s.at s.content.now) same
-          ∙ begins asked.content.now _ _ _ asked.at _ c.copy_from_slice.ensures.after c.rest.ensures within,
-    )
+    omega (arith, ap length c.rest.ensures, length-drop asked.at asked.content.now) in record {
+      within = grind arith;
+      tells = (
+        λ before told. follows before _ _ _ _ asked.at _ (told ∙ ap (λ s. take s.at s.content.now) same)
+            c.copy_from_slice.ensures.after c.rest.ensures within,
+        ap (λ s. drop s.at s.content.now) same
+            ∙ begins asked.content.now _ _ _ asked.at _ c.copy_from_slice.ensures.after c.rest.ensures within,
+      );
+      falls = grind arith;
+      end = grind arith;
+      well = grind arith;
+    }
