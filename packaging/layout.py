@@ -60,7 +60,7 @@ PACKAGES = {
 # What the archives of the bench are made from, in bench-c.
 ARCHIVES = {
     "libtmwatch_bench.a": ("tmwatch_bench", "instrumented/waits"),
-    "libtmwatch_steps.a": ("instrumented/accesses", "instrumented/accesses_16", "instrumented/blocks", "instrumented/orders"),
+    "libtmwatch_steps.a": ("instrumented/accesses", "instrumented/accesses_16", "instrumented/block_frees", "instrumented/orders"),
 }
 PACKAGE = """prefix={prefix}
 includedir=${{prefix}}/include

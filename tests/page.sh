@@ -16,7 +16,7 @@ constants=$top/crates/tmw_show/src/page/constants.rt
 
 # The source file that holds both files as constants.
 write_constants() {
-    printf '//! The constant parts of a page: tests/page.sh writes them from the files of page/.\n'
+    printf '//! The constant parts of a page: tests/page.sh writes them from the files of this crate'\''s page/.\n'
     printf '\n/// What stands before the window: head.html.\npub const HEAD: &[u8] = br##"%s\n"##;\n' "$(<"$page/head.html")"
     printf '\n/// What stands after it: tail.html.\npub const TAIL: &[u8] = br##"%s\n"##;\n' "$(<"$page/tail.html")"
 }

@@ -74,7 +74,7 @@ CHANGELOG.md
 bindings/rust/Cargo.toml
 crates/*/specs/Version.antt
 crates/*/src/command_run.rt
-crates/*/src/program.rt
+crates/*/src/grammar.rt
 END
 fi
 end_rows

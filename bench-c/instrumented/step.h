@@ -1,4 +1,4 @@
-/* What the bench (instrumented_calls.c) has for the objects that are linked with the memory: those of this folder. */
+/* What the bench (instrumented_step.c) has for the objects that are linked with the memory: those of this folder. */
 #ifndef STEP_H
 #define STEP_H
 #include "orders.h"
@@ -32,7 +32,7 @@ tmwatch_step_how *tmwatch_step_accesses(void);
 /* Of libtmwatch_steps.a, if that is linked: what a thread has stored comes out. */
 extern void tmwatch_step_drain(void) __attribute__((weak));
 
-/* Whether blocks.c sees that a block is given back. */
+/* Whether block_frees.c sees that a block is given back. */
 bool tmwatch_step_sees_free(void);
 
 /* Whether this thread is one of a bench by steps, and not in a look or beside a round. Those below are for such a thread. */
@@ -50,7 +50,7 @@ enum tmwatch_step_waited tmwatch_step_wait(const void *lock);
 /* Those that wait for this lock or condition are able to run; or one of them is, as drawn. */
 void tmwatch_step_free(const void *lock, bool is_for_one);
 
-/* For a lock that isn't one of C, in any thread (waits.c); and a block of a type that isn't one of C is given back (blocks.c). */
+/* For a lock that isn't one of C, in any thread (waits.c); and a block of a type that isn't one of C is given back (block_frees.c). */
 bool tmwatch_lock_tried(void);
 bool tmwatch_lock_awaited(const void *lock);
 void tmwatch_lock_taken(const void *lock);

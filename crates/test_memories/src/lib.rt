@@ -10,10 +10,10 @@ mod call_counter;
 #[cfg(test)]
 mod drive;
 #[cfg(test)]
-mod memories;
+mod locks_and_counts;
 #[cfg(test)]
 mod one_writer;
 #[cfg(test)]
-mod work;
+mod worker_stop;
 #[cfg(test)]
 mod workload_log;

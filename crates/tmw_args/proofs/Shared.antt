@@ -29,10 +29,10 @@ pub use Rattle.std.specs.Str.{bytes_eq}
 pub use Rattle.std.specs.Str.Parse.{digits_value, false_text, ParsesBool, true_text, without_leading_plus}
 pub use Rattle.std.specs.declared.alloc.AllocError.{AllocError}
 pub use Rattle.tmw_args.specs.OptionNumbers.{Count, counted, made_if}
-pub use Rattle.tmw_args.specs.Names.{named}
-pub use Rattle.tmw_args.specs.Program.{criteria_names, IsProgram, memory_names, program_among, shown_names, with_before, with_bounds, with_counts, with_criterion, with_flag, with_memory, with_run_flags}
+pub use Rattle.tmw_args.specs.CriteriaAndMemories.{named}
+pub use Rattle.tmw_args.specs.Grammar.{criteria_names, IsProgram, memory_names, program_among, shown_names, with_before, with_bounds, with_counts, with_criterion, with_flag, with_memory, with_run_flags}
 pub use Rattle.tmw_args.specs.ReadWords.{FailsAs, IsRefusal, Reads}
-pub use Rattle.tmw_args.specs.Words.{bounds_in, bounds_of, count_in, flag_in, help_as_flag, kinds_of, names_help, order_in, settings_of, ◌>>=◌}
+pub use Rattle.tmw_args.specs.CommandOrder.{bounds_in, bounds_of, count_in, flag_in, help_as_flag, kinds_of, names_help, order_in, settings_of, ◌>>=◌}
 pub use Rattle.tmw_args.specs.declared.refusal.Refusal.{Refusal}
 pub use Rattle.tmw_args.specs.declared.refusal.Refusal.TheVariants.{Help, Memory, Usage, Version}
 pub use Rattle.tmw_bench.specs.declared.settings.Settings.{Settings}

@@ -1,5 +1,5 @@
-pub mod Names
+pub mod CommandOrder
+pub mod CriteriaAndMemories
+pub mod Grammar
 pub mod OptionNumbers
-pub mod Program
 pub mod ReadWords
-pub mod Words

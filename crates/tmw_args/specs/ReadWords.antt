@@ -3,9 +3,9 @@ use Rattle.std.specs.Prelude.{◌≡◌, ◌≢◌, ◌⊎◌, List, Result, Ok,
 use Rattle.clap.specs.Words.{App, IsAmong, Text}
 use Rattle.clap.specs.declared.error.kind.ErrorKind.{ErrorKind}
 use Rattle.clap.specs.declared.error.kind.ErrorKind.TheVariants.{ArgumentConflict, DisplayHelp, DisplayVersion, OutOfMemory}
-use Rattle.tmw_args.specs.Program.{IsProgram}
-use Rattle.tmw_args.specs.Words.{Asks, AsksForHelp, AsksForNothing, AsksForVersion, IsWrong, kinds_of}
-use Rattle.tmw_args.specs.declared.order.Order.{Order}
+use Rattle.tmw_args.specs.Grammar.{IsProgram}
+use Rattle.tmw_args.specs.CommandOrder.{Asks, AsksForHelp, AsksForNothing, AsksForVersion, IsWrong, kinds_of}
+use Rattle.tmw_args.specs.declared.command_order.Order.{Order}
 use Rattle.tmw_args.specs.declared.refusal.Refusal.{Refusal}
 use Rattle.tmw_args.specs.declared.refusal.Refusal.TheVariants.{Help, Version, Usage, Memory}
 

@@ -2,7 +2,7 @@ ghost use Rattle.std.specs.Prelude.{map};
 ghost use Rattle.clap.specs.Words.{kind_of};
 ghost use Rattle.tmw_args.specs.ReadWords.{IsReading, IsRefusal};
 
-use crate::order::Order;
+use crate::command_order::Order;
 use crate::parse::parse;
 use crate::refusal::Refusal;
 use clap::Error;

@@ -1,5 +1,5 @@
 ghost use Rattle.std.specs.Prelude.{◌≡◌};
-ghost use Rattle.tmw_args.specs.Names.{asked_named, criterion_named};
+ghost use Rattle.tmw_args.specs.CriteriaAndMemories.{asked_named, criterion_named};
 
 use tmw_defs::{Asked, Criterion};
 

@@ -2,18 +2,18 @@
 #![tactic(auto)]
 
 mod bench_options;
+mod command_order;
 mod command_words;
 mod criterion_names;
-mod order;
+mod grammar;
 mod parse;
-mod program;
 mod refusal;
 mod run_options;
-mod which;
+mod which_memory;
 
 pub use bench_options::BenchOptions;
+pub use command_order::Order;
 pub use command_words::read_words;
-pub use order::Order;
 pub use refusal::Refusal;
 pub use run_options::RunOptions;
-pub use which::Which;
+pub use which_memory::Which;

@@ -15,7 +15,7 @@ pub use Rattle.tmw_counts.specs.Summary.{IsSummary}
 pub use Rattle.tmw_defs.proofs.VerdictProof.{verdict-one}
 pub use Rattle.tmw_defs.specs.History.{answers, ends, is_well_formed}
 pub use Rattle.tmw_defs.specs.Opaque.{zeros}
-pub use Rattle.tmw_defs.specs.Texts.{kinds_of}
+pub use Rattle.tmw_defs.specs.ThreadTransactions.{kinds_of}
 pub use Rattle.tmw_defs.specs.Verdict.{IsFine, IsFirst, IsMalformed, IsVerdict, Rules}
 pub use Rattle.tmw_defs.specs.declared.verdict.Verdict.{Verdict}
 pub use Rattle.tmw_defs.specs.declared.verdict.Verdict.TheVariants.{Malformed, OpaqueSoFar}
@@ -32,35 +32,35 @@ pub use Rattle.tmw_pump.proofs.KindsMade.{kinds_made-append, kinds_made-made_fro
 pub use Rattle.tmw_pump.proofs.Turns.{all_judged, judged-none}
 pub use Rattle.tmw_pump.specs.Front.{HasJudged, came, front_part}
 pub use Rattle.tmw_pump.specs.Headline.{Headline, IsLogOf}
-pub use Rattle.tmw_pump.specs.Kinds.{kinds_made}
+pub use Rattle.tmw_pump.specs.WriterKinds.{kinds_made}
 pub use Rattle.tmw_pump.specs.declared.front.Front.{Front}
 pub use Rattle.tmw_ring.proofs.InOrder.{one_more, shorter}
 pub use Rattle.tmw_ring.specs.RingEnds.{ReaderIs, ReaderOf, RingIs, WriterIs, WriterOf}
-pub use Rattle.tmw_ring.specs.Parts.{made_from}
+pub use Rattle.tmw_ring.specs.SeatPart.{made_from}
 pub use Rattle.tmw_ring.specs.Record.{HasLooked, HasRecorded, IsRefusal, made_at}
 pub use Rattle.tmw_ring.specs.Settle.{AreInOrder, IsSettled}
 pub use Rattle.tmw_ring.specs.declared.seat_part.Made.{Made}
 pub use Rattle.tmw_ring.specs.declared.refused.Refused.{Refused}
 pub use Rattle.tmw_ring.specs.declared.refused.Refused.TheVariants.{Full, Spent}
-pub use Rattle.tmw_ring_defs.specs.Sizes.{HasNumbers}
+pub use Rattle.tmw_ring_defs.specs.RingSize.{HasNumbers}
 pub use Rattle.tmw_runs.proofs.LongerRuns.{whole_run-append}
 pub use Rattle.tmw_runs.proofs.Stands.{all_stand-more, so_far_all, so_far_called}
 pub use Rattle.tmw_runs.proofs.WellFormed.{kinds_of-append, no_kinds}
 pub use Rattle.tmw_runs.specs.Runs.{IsBeginning, IsWholeRun}
 pub use Rattle.tmw_runs.specs.Scripts.{are_transactions, is_transaction, script_of, scripts_of}
-pub use Rattle.tmw_runs.specs.Stands.{AllStand}
+pub use Rattle.tmw_runs.specs.AnswersStand.{AllStand}
 pub use Rattle.tmw_tm.specs.Answers.{Answer, Call}
 pub use Rattle.tmw_bench.specs.RoundsBegun.{HaveBegun, IsAfter, IsOver}
 pub use Rattle.tmw_bench.specs.BenchHeadline.{AreWholeRounds, EndsRound, HasBenched, IsInRounds, IsWholeRound, SomeStopped}
 pub use Rattle.tmw_bench.specs.CallSteps.{HasCalled, HasClaimed, HasRunSoFar, StopsAt}
-pub use Rattle.tmw_bench.specs.CarryOut.{HasGoneOn}
+pub use Rattle.tmw_bench.specs.BenchKeep.{HasGoneOn}
 pub use Rattle.tmw_bench.specs.Lead.{AreNewLines, HasHeard, HasLed, HasLedTo, HasToldStop, HaveHeardUpTo, HaveToldUpTo, IsLineAt, SomeToldStop}
 pub use Rattle.tmw_bench.specs.LeaderLines.{AreClosed, AreNewWorkers, AreOpened, ArePairs, IsClosed, IsNewWorker, IsOpened, IsPairOf, IsPromised}
 pub use Rattle.tmw_bench.specs.RoundMeeting.{HasMet, HasOnlySeen}
-pub use Rattle.tmw_bench.specs.PlayWithin.{AreTransactions, GivesWithin, SomeStop}
+pub use Rattle.tmw_bench.specs.WorkerConditions.{AreTransactions, GivesWithin, SomeStop}
 pub use Rattle.tmw_bench.specs.RecordSoon.{HasTried, HasWaited, WasRefused}
 pub use Rattle.tmw_bench.specs.Rounds.{AllOpaque, AreEndings, HasPlayed, HasPlayedLast, HaveAllPlayedLast, IsLogOfAll, IsReady, ending_of, last_bound}
-pub use Rattle.tmw_bench.specs.Workers.{HasPlayedOn, HasSeen, IsBetween, in_order}
+pub use Rattle.tmw_bench.specs.Worker.{HasPlayedOn, HasSeen, IsBetween, in_order}
 pub use Rattle.tmw_bench.specs.Work.{EndsWork, FindsFrom, HasWorked, tail_of}
 pub use Rattle.tmw_bench.specs.declared.round_end.RoundEnd.{RoundEnd}
 pub use Rattle.tmw_bench.specs.declared.line.Line.{Line}

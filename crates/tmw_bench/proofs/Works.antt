@@ -2,7 +2,7 @@
 use Rattle.tmw_bench.proofs.Shared.{AllStand, Answer, Call, EndsWork, FindsFrom, HasCalled, HasClaimed, HasRunSoFar, HasWorked, IsBeginning, IsNew, IsTrue, Kind, List, None, Option, Player, Plays, Refused, Some, StopsAt, WriterIs, [], answers, append-nil, append_assoc, are_transactions, are_transactions-next_left, arith, inl, inr, leaves-next_left, left_of, next_left, next_of, next_of-some, plays-goes_on, plays-new, so_far_all, so_far_called, subst, sym, tail_of, true, whole-plays, ℕ, ◌++◌, ◌∷◌, ◌≡◌, ◌≤◌, rules}
 use Rattle.tmw_runs.proofs.Calls.{are_calls-transactions}
 use Rattle.tmw_runs.proofs.Leaves.{beginning, beginning_pending}
-use Rattle.tmw_runs.specs.Leaves.{Leaves}
+use Rattle.tmw_runs.specs.ScriptRest.{Leaves}
 use Rattle.tmw_bench.proofs.Claims.{claimed-none, claimed-more}
 
 -- no call was made

@@ -2,7 +2,7 @@
 use Rattle.std.specs.Prelude.{◌≡◌, ◌≤◌, ◌<◌, ℕ, [], List, Option, length}
 use Rattle.std.specs.Global.{Vec}
 use Rattle.tmw_bench.specs.RoundsBegun.{HaveBegun, IsOver}
-use Rattle.tmw_bench.specs.PlayWithin.{AreTransactions, GivesWithin}
+use Rattle.tmw_bench.specs.WorkerConditions.{AreTransactions, GivesWithin}
 use Rattle.tmw_defs.specs.Verdict.{Rules}
 use Rattle.tmw_events.specs.declared.event.Kind.{Kind}
 use Rattle.tmw_monitor.specs.Fits.{Fits}

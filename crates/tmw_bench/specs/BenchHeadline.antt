@@ -8,7 +8,7 @@ use Rattle.tmw_bench.specs.declared.settings.Settings.{Settings}
 use Rattle.tmw_counts.specs.CountedPart.{part_by}
 use Rattle.tmw_counts.specs.Summary.{IsSummary}
 use Rattle.tmw_defs.specs.Opaque.{zeros}
-use Rattle.tmw_defs.specs.Texts.{kinds_of}
+use Rattle.tmw_defs.specs.ThreadTransactions.{kinds_of}
 use Rattle.tmw_defs.specs.Verdict.{Rules, IsVerdict}
 use Rattle.tmw_defs.specs.declared.verdict.Verdict.{Verdict}
 use Rattle.tmw_defs.specs.declared.verdict.Verdict.TheVariants.{OpaqueSoFar, Malformed}
@@ -24,10 +24,10 @@ use Rattle.tmw_ring.specs.RingEnds.{RingIs, WriterIs, WriterOf}
 use Rattle.tmw_ring.specs.Settle.{AreInOrder}
 use Rattle.tmw_ring.specs.declared.refused.Refused.{Refused}
 use Rattle.tmw_ring_defs.specs.Runs.{Gone, IsRunTo, writer_actor}
-use Rattle.tmw_ring_defs.specs.Sizes.{HasNumbers, HasRoom, HasLimit, IsWrongSize}
+use Rattle.tmw_ring_defs.specs.RingSize.{HasNumbers, HasRoom, HasLimit, IsWrongSize}
 use Rattle.tmw_ring_defs.specs.declared.ring_step.Answered.{Answered}
 use Rattle.tmw_runs.specs.Runs.{IsWholeRun}
-use Rattle.tmw_runs.specs.Stands.{AllStand}
+use Rattle.tmw_runs.specs.AnswersStand.{AllStand}
 use Rattle.tmw_window.specs.ShownWindow.{IsShowing}
 use Rattle.tmw_tm.specs.Answers.{Call, Answer}
 use Rattle.tmw_bench.specs.Work.{tail_of, StopsBefore}

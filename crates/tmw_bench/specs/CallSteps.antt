@@ -4,12 +4,12 @@ use Rattle.tmw_defs.specs.History.{answers}
 use Rattle.tmw_drive.specs.Player.{GoesOn, Plays}
 use Rattle.tmw_drive.specs.declared.player.Player.{Player}
 use Rattle.tmw_events.specs.declared.event.Kind.{Kind}
-use Rattle.tmw_pump.specs.Kinds.{kinds_made}
+use Rattle.tmw_pump.specs.WriterKinds.{kinds_made}
 use Rattle.tmw_bench.specs.RecordSoon.{WasRefused}
 use Rattle.tmw_ring.specs.RingEnds.{WriterIs}
 use Rattle.tmw_ring.specs.declared.seat_part.Made.{Made}
 use Rattle.tmw_ring.specs.declared.refused.Refused.{Refused}
-use Rattle.tmw_runs.specs.Stands.{Stands}
+use Rattle.tmw_runs.specs.AnswersStand.{Stands}
 use Rattle.tmw_tm.specs.Answers.{Call, Answer}
 use Rattle.tmw_bench.specs.Work.{tail_of}
 

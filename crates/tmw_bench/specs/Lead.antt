@@ -4,7 +4,7 @@ use Rattle.rtrb.specs.Ring.{received, sent, SameConsumer, SameProducer}
 use Rattle.tmw_pump.specs.Front.{judged_of, monitor_of}
 use Rattle.tmw_bench.specs.Rounds.{AllOpaque}
 use Rattle.tmw_defs.specs.Verdict.{Rules}
-use Rattle.tmw_bench.specs.Workers.{in_order}
+use Rattle.tmw_bench.specs.Worker.{in_order}
 use Rattle.tmw_bench.specs.declared.round_end.RoundEnd.{RoundEnd}
 use Rattle.tmw_bench.specs.declared.line.Line.{Line}
 use Rattle.tmw_monitor.specs.Fits.{Fits}

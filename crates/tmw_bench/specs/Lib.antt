@@ -1,13 +1,13 @@
 pub mod AllRounds
 pub mod BenchHeadline
+pub mod BenchKeep
 pub mod CallSteps
-pub mod CarryOut
 pub mod Lead
 pub mod LeaderLines
-pub mod PlayWithin
 pub mod RecordSoon
 pub mod RoundMeeting
 pub mod Rounds
 pub mod RoundsBegun
 pub mod Work
-pub mod Workers
+pub mod Worker
+pub mod WorkerConditions

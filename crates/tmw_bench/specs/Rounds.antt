@@ -7,13 +7,13 @@ use Rattle.tmw_drive.specs.declared.ending.Ending.{Ending}
 use Rattle.tmw_drive.specs.declared.ending.Ending.TheVariants.{Done, Stopped}
 use Rattle.tmw_events.specs.declared.event.Event.{Event}
 use Rattle.tmw_events.specs.declared.event.Kind.{Kind}
-use Rattle.tmw_pump.specs.Kinds.{kinds_made}
+use Rattle.tmw_pump.specs.WriterKinds.{kinds_made}
 use Rattle.tmw_ring.specs.RingEnds.{WriterIs}
-use Rattle.tmw_ring.specs.Parts.{made_from}
+use Rattle.tmw_ring.specs.SeatPart.{made_from}
 use Rattle.tmw_ring.specs.declared.seat_part.Made.{Made}
 use Rattle.tmw_ring.specs.declared.refused.Refused.{Refused}
 use Rattle.tmw_runs.specs.Runs.{IsWholeRun}
-use Rattle.tmw_runs.specs.Stands.{AllStand}
+use Rattle.tmw_runs.specs.AnswersStand.{AllStand}
 use Rattle.tmw_tm.specs.Answers.{Call, Answer}
 use Rattle.tmw_bench.specs.Work.{EndsWork, FindsFrom}
 

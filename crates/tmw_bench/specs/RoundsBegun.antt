@@ -1,7 +1,7 @@
 -- How a bench stands after so many rounds were begun.
 use Rattle.std.specs.Prelude.{◌≡◌, ◌≢◌, ◌+◌, ◌⊎◌, ℕ, List, Option, length, All}
 use Rattle.tmw_pump.specs.Front.{judged_of, monitor_of, verdict_on}
-use Rattle.tmw_bench.specs.PlayWithin.{SomeStop}
+use Rattle.tmw_bench.specs.WorkerConditions.{SomeStop}
 use Rattle.tmw_bench.specs.Rounds.{AllOpaque, HaveAllPlayedLast}
 use Rattle.tmw_defs.specs.Verdict.{Rules}
 use Rattle.tmw_defs.specs.declared.verdict.Verdict.TheVariants.{OpaqueSoFar}

@@ -1,6 +1,6 @@
 ghost use Rattle.std.specs.Prelude.{◌≤◌, length, IfOk, IfErr};
 ghost use Rattle.tmw_bench.specs.BenchHeadline.{IsBenched, IsHunted, IsNoBench};
-ghost use Rattle.tmw_bench.specs.CarryOut.{IsCarriedOut};
+ghost use Rattle.tmw_bench.specs.BenchKeep.{IsCarriedOut};
 ghost use Rattle.tmw_runs.specs.Scripts.{scripts_of};
 
 use crate::bench_keep::BenchKeep;

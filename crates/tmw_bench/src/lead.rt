@@ -4,7 +4,7 @@ ghost use Rattle.tmw_defs.specs.Verdict.{Rules};
 ghost use Rattle.tmw_defs.specs.declared.verdict.Verdict.TheVariants.{OpaqueSoFar};
 ghost use Rattle.tmw_pump.specs.Pump.{pump_front, pump_in, reader_of};
 ghost use Rattle.tmw_pump.specs.Front.{judged_of, monitor_of, verdict_on};
-ghost use Rattle.tmw_bench.specs.CarryOut.{HasGoneOn};
+ghost use Rattle.tmw_bench.specs.BenchKeep.{HasGoneOn};
 ghost use Rattle.tmw_bench.specs.Lead.{AreNewLines, HasLed, SomeToldStop};
 ghost use Rattle.tmw_monitor.specs.Fits.{Fits};
 ghost use Rattle.tmw_ring.specs.RingEnds.{ReaderOf};

@@ -3,7 +3,7 @@ ghost use Rattle.std.specs.Prelude.{IfOk, IfErr};
 ghost use Rattle.tmw_pump.specs.Pump.{pump_front, pump_in, pump_kept};
 ghost use Rattle.tmw_pump.specs.Keep.{StaysKept};
 ghost use Rattle.tmw_bench.specs.AllRounds.{CanPlay, HasPlayed};
-ghost use Rattle.tmw_bench.specs.PlayWithin.{IsOfThreads};
+ghost use Rattle.tmw_bench.specs.WorkerConditions.{IsOfThreads};
 ghost use Rattle.tmw_runs.specs.Scripts.{scripts_of};
 
 use crate::bench_keep::BenchKeep;

@@ -1,9 +1,9 @@
 //! A thread for each worker, which gives the worker back.
 ghost use Rattle.std.specs.Prelude.{◌≡◌, ◌<◌, ℕ, length, get_or, IfOk, IfErr, IsTrue};
-ghost use Rattle.tmw_bench.specs.PlayWithin.{AreTransactions, GivesWithin, IsOfThreads};
+ghost use Rattle.tmw_bench.specs.WorkerConditions.{AreTransactions, GivesWithin, IsOfThreads};
 ghost use Rattle.tmw_drive.specs.Player.{calls_of};
 ghost use Rattle.tmw_bench.specs.LeaderLines.{AreNewWorkers, IsNewWorker, IsPromised, promised_ring, promised_script, promised_worker};
-ghost use Rattle.tmw_bench.specs.Workers.{HasPlayedOn};
+ghost use Rattle.tmw_bench.specs.Worker.{HasPlayedOn};
 ghost use Rattle.tmw_runs.specs.Scripts.{are_transactions, scripts_of};
 
 use crate::bench_stage::BenchStage;
@@ -29,7 +29,7 @@ pub struct Playing<'a, J> {
 }
 
 impl<'a, J: MemoryAnswers> Promise<(Worker, Option<Refused>)> for Playing<'a, J> {
-    ghost use Rattle.tmw_bench.specs.Workers.{HasPlayedOn};
+    ghost use Rattle.tmw_bench.specs.Worker.{HasPlayedOn};
 
     ghost kept_by = { λ promise back. HasPlayedOn J.gave (promised_ring promise)
         (promised_script promise) (promised_worker promise) back.1 back.0 };

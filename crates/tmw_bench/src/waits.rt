@@ -2,7 +2,7 @@
 ghost use Rattle.std.specs.Prelude.{◌≡◌, ◌≤◌, [], ◌∷◌, ◌++◌, IfSome, IfNone};
 ghost use Rattle.rtrb.specs.Ring.{received, sent, SameConsumer, SameProducer};
 ghost use Rattle.tmw_ring.specs.RingEnds.{WriterOf};
-ghost use Rattle.tmw_bench.specs.Workers.{HasSeen};
+ghost use Rattle.tmw_bench.specs.Worker.{HasSeen};
 
 use crate::orders::Orders;
 use crate::rising_count::Count;

@@ -1,6 +1,6 @@
 ghost use Rattle.std.specs.Prelude.{◌≡◌, ◌==◌, ◌+◌, ◌<◌, ◌^◌, ℕ, IsTrue, IfSome, IfNone};
 ghost use Rattle.tmw_defs.specs.History.{answers};
-ghost use Rattle.tmw_drive.specs.Fresh.{IsFresh};
+ghost use Rattle.tmw_drive.specs.FreshTx.{IsFresh};
 ghost use Rattle.tmw_drive.specs.Player.{calls_of};
 ghost use Rattle.tmw_events.specs.declared.event.Kind.TheVariants.{A};
 ghost use Rattle.tmw_ring.specs.RingEnds.{WriterOf};

@@ -4,8 +4,8 @@ ghost use Rattle.rtrb.specs.Ring.{received, sent};
 ghost use Rattle.tmw_drive.specs.Player.{calls_of};
 ghost use Rattle.tmw_ring.specs.RingEnds.{WriterOf};
 ghost use Rattle.tmw_runs.specs.Scripts.{are_transactions};
-ghost use Rattle.tmw_bench.specs.PlayWithin.{GivesWithin};
-ghost use Rattle.tmw_bench.specs.Workers.{HasPlayedOn};
+ghost use Rattle.tmw_bench.specs.WorkerConditions.{GivesWithin};
+ghost use Rattle.tmw_bench.specs.Worker.{HasPlayedOn};
 
 use crate::bench_stage::BenchStage;
 use crate::memory_answers::MemoryAnswers;

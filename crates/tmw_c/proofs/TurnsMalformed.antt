@@ -4,11 +4,11 @@ use Rattle.tmw_runs.proofs.WellFormed.{no_kinds}
 use Rattle.std.proofs.lemmas.Bool.{both_ways, cases_lt}
 use Rattle.std.proofs.lemmas.List.Elements.{All-map}
 use Rattle.std.proofs.lemmas.List.Sorted.{All-permutation}
-use Rattle.tmw_defs.specs.Texts.{kinds_of}
+use Rattle.tmw_defs.specs.ThreadTransactions.{kinds_of}
 use Rattle.tmw_defs.specs.Verdict.{IsFirst, IsMalformed}
 use Rattle.tmw_events.specs.declared.event.Event.{Event}
 use Rattle.tmw_pump.proofs.KindsMade.{kinds_made-made_from}
-use Rattle.tmw_pump.specs.Kinds.{kinds_made}
+use Rattle.tmw_pump.specs.WriterKinds.{kinds_made}
 use Rattle.tmw_runs.proofs.Completions.{formed_by_turns}
 
 -- a thread that records nothing

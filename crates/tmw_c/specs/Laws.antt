@@ -7,7 +7,7 @@ use Rattle.tmw_defs.specs.declared.verdict.Verdict.TheVariants.{Malformed}
 use Rattle.tmw_events.specs.declared.event.Event.{Event}
 use Rattle.tmw_events.specs.declared.event.Kind.{Kind}
 use Rattle.tmw_pump.specs.Headline.{Headline}
-use Rattle.tmw_pump.specs.Kinds.{kinds_made}
+use Rattle.tmw_pump.specs.WriterKinds.{kinds_made}
 use Rattle.tmw_runs.specs.ByTurns.{IsByTurns}
 use Rattle.tmw_watch.specs.Close.{HasEnded, writers_of}
 use Rattle.tmw_watch.specs.WatchParts.{writer_of}

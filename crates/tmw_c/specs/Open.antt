@@ -9,7 +9,7 @@ use Rattle.tmw_handles.specs.declared.held_recorder.HeldRecorder.{HeldRecorder}
 use Rattle.tmw_handles.specs.declared.held_watch.HeldWatch.TheVariants.{Open}
 use Rattle.tmw_handles.specs.declared.recorder_handle.RecorderHandle.{RecorderHandle}
 use Rattle.tmw_handles.specs.declared.watch_handle.WatchHandle.{WatchHandle}
-use Rattle.tmw_ring_defs.specs.Sizes.{HasRoom, HasLimit}
+use Rattle.tmw_ring_defs.specs.RingSize.{HasRoom, HasLimit}
 use Rattle.tmw_watch.specs.Open.{IsOpened}
 use Rattle.tmw_watch.specs.declared.recorder.Recorder.{Recorder}
 use Rattle.tmw_watch.specs.declared.settings.WatchSettings.{WatchSettings}

@@ -2,7 +2,7 @@
 use Rattle.std.proofs.Common.{◌≡◌, ℕ, true, List, [], ◌∷◌, drop, zero, suc, refl}
 use Rattle.std.proofs.lemmas.Bool.{and_parts}
 use Rattle.tmw_defs.specs.Opaque.{zeros}
-use Rattle.tmw_trace.specs.Start.{are_zeros, is_start}
+use Rattle.tmw_trace.specs.Version.{are_zeros, is_start}
 use Rattle.tmw_trace.specs.declared.version.Version.{Version}
 use Rattle.tmw_trace.specs.declared.version.Version.TheVariants.{One, Two}
 

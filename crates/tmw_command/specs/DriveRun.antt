@@ -8,7 +8,7 @@ use Rattle.tmw_report.specs.Lines.{report_text, verdict_status}
 use Rattle.tmw_report.specs.SummaryLine.{summary_text}
 use Rattle.tmw_command.specs.declared.drive.drive_run.DriveRun.{DriveRun}
 use Rattle.tmw_args.specs.declared.run_options.RunOptions.{RunOptions}
-use Rattle.tmw_trace.specs.Start.{version_of}
+use Rattle.tmw_trace.specs.Version.{version_of}
 use Rattle.tmw_trace.specs.Text.{trace_text}
 use Rattle.tmw_trace.specs.declared.header.Header.{Header}
 

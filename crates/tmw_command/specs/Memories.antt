@@ -1,7 +1,7 @@
 -- The program's memories.
 use Rattle.tmw_command.specs.declared.memories.Memories.{Memories}
-use Rattle.tmw_args.specs.declared.which.Which.{Which}
-use Rattle.tmw_args.specs.declared.which.Which.TheVariants.{NoRec, Lock, Torn}
+use Rattle.tmw_args.specs.declared.which_memory.Which.{Which}
+use Rattle.tmw_args.specs.declared.which_memory.Which.TheVariants.{NoRec, Lock, Torn}
 
 -- the memory that `which` picks
 abbrev pub memory_picked : {M : Type 0} → Memories M → Which → M

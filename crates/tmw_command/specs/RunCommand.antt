@@ -15,11 +15,11 @@ use Rattle.tmw_steps.specs.RunSteps.{RunsSteps}
 use Rattle.tmw_tm.specs.Memory.{MemoryIs}
 use Rattle.tmw_args.specs.ReadWords.{IsReading}
 use Rattle.tmw_command.specs.Version.{version_line}
-use Rattle.tmw_args.specs.declared.order.Order.{Order}
-use Rattle.tmw_args.specs.declared.order.Order.TheVariants.{Judge, Show, Drive, Bench, Steps}
+use Rattle.tmw_args.specs.declared.command_order.Order.{Order}
+use Rattle.tmw_args.specs.declared.command_order.Order.TheVariants.{Judge, Show, Drive, Bench, Steps}
 use Rattle.tmw_args.specs.declared.refusal.Refusal.{Refusal}
 use Rattle.tmw_args.specs.declared.refusal.Refusal.TheVariants.{Help, Version, Usage, Memory}
-use Rattle.tmw_args.specs.declared.which.Which.{Which}
+use Rattle.tmw_args.specs.declared.which_memory.Which.{Which}
 use Rattle.tmw_command.specs.Memories.{memory_picked}
 use Rattle.tmw_command.specs.declared.memories.Memories.{Memories}
 

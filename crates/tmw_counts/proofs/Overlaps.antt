@@ -2,7 +2,7 @@
 use Rattle.tmw_counts.proofs.Shared.{AllByRecursion, Bool, Event, IsTrue, Lies, List, Txn, [], add_event, add_event_here, add_event_past, and_parts, ap, arith, begun, both_ways, cases_Bool, count_by, ended_rest, ends, eq-eqb, eqb-true, false, filter, inl, inr, is_ended, is_ended-push, is_some, joins, list_any, live_of, longer, lt-ltb, ltb-true, meets, nat_lt, not, one_if, only_one, overlap, overlaps_any, refl, still, sym, true, ℕ, ◌&&◌, ◌++◌, ◌+◌, ◌<◌, ◌==◌, ◌||◌, ◌∙◌, ◌∷◌, ◌≡◌, ◌≤◌, ◌⊎◌}
 use Rattle.std.proofs.lemmas.List.Folds.{list_any-append}
 use Rattle.tmw_defs.specs.Opaque.{precedes}
-use Rattle.tmw_defs.specs.Texts.{ended_but_last, of_thread}
+use Rattle.tmw_defs.specs.ThreadTransactions.{ended_but_last, of_thread}
 use Rattle.tmw_defs.proofs.Along.{Pairs}
 use Rattle.tmw_counts.proofs.Sums.{any-count, count-append, count-cons, count-le, count-none, count-one, count-or, none-count, one_if-le}
 

@@ -11,7 +11,7 @@ pub use Rattle.tmw_defs.proofs.WindowsProof.{HasWide-open, HasWide_push, IsCutAt
 pub use Rattle.tmw_defs.specs.Counts.{HasCounts, is_aborted, is_committed, is_request, is_unasked, overlap, overlaps_any, prefixes}
 pub use Rattle.tmw_defs.specs.Cuts.{is_cut}
 pub use Rattle.tmw_defs.specs.History.{Txn, add_event, ends, is_call, is_ended, is_over, is_well_formed, status_after, status_of, transactions, transactions_from}
-pub use Rattle.tmw_defs.specs.Summary.{IsLastCut}
+pub use Rattle.tmw_defs.specs.LastCut.{IsLastCut}
 pub use Rattle.tmw_defs.specs.Verdict.{AreFine, IsFine, IsFirst, IsMalformed, IsTooMany, IsTooWide, IsVerdict, IsViolated, Rules}
 pub use Rattle.tmw_defs.specs.Windows.{HasWide, IsCutAt, between}
 pub use Rattle.tmw_defs.specs.declared.counts.Counts.{Counts}

@@ -6,7 +6,7 @@ use Rattle.tmw_counts.specs.declared.counter.Counter.{Counter}
 use Rattle.tmw_defs.specs.Counts.{HasCounts, overlaps_any}
 use Rattle.tmw_defs.specs.declared.counts.Counts.{Counts}
 use Rattle.tmw_defs.specs.History.{is_ended, transactions}
-use Rattle.tmw_defs.specs.Summary.{IsLastCut}
+use Rattle.tmw_defs.specs.LastCut.{IsLastCut}
 use Rattle.tmw_wellformed.specs.declared.note.End.{End}
 use Rattle.tmw_wellformed.specs.declared.note.End.TheVariants.{Commit, Abort}
 use Rattle.tmw_wellformed.specs.declared.note.Note.{Note}

@@ -33,8 +33,8 @@ pub use Rattle.tmw_wellformed.specs.PendingCalls.{call_of, live_of, next_call, p
 pub use Rattle.tmw_wellformed.specs.declared.malformed.Malformed.{Malformed}
 pub use Rattle.tmw_wellformed.specs.declared.malformed.Malformed.TheVariants.{Busy, Idle, Mismatch, Register}
 pub use Rattle.tmw_cuts.specs.Effects.{IsEffectOf, SumsUp}
-pub use Rattle.tmw_cuts.specs.Registers.{IsMaskOf, have, put}
-unfoldable pub use Rattle.tmw_cuts.specs.Registers.{chosen}
+pub use Rattle.tmw_cuts.specs.RegisterMask.{IsMaskOf, have, put}
+unfoldable pub use Rattle.tmw_cuts.specs.RegisterMask.{chosen}
 pub use Rattle.tmw_cuts.specs.StandsFor.{Follows, IsNext, StandsFor, before_of, begun_by, calls_in, count_of, is_end, turn_at, txns_of, view_of, views, views_of}
 pub use Rattle.tmw_cuts.specs.Turns.{Found, Turns, after_call, answered_ops, between, call_in, change, find_open, found_after, found_in, further, is_open_for, kept_in, move_of, numbered, ops_of, place_of, views_after}
 pub use Rattle.tmw_cuts.specs.Views.{View, bit, completed_mask, new_view, next_view, view, with_op, with_status}

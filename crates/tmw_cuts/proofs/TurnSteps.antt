@@ -3,7 +3,7 @@ use Rattle.tmw_cuts.proofs.Shared.{Bool, Event, Found, IsTrue, Kind, List, None,
 use Rattle.tmw_events.specs.declared.event.Kind.TheVariants.{T}
 use Rattle.tmw_defs.specs.declared.status.Status.TheVariants.{Live}
 use Rattle.tmw_defs.specs.History.{status_of}
-use Rattle.tmw_defs.specs.Texts.{ended_but_last, of_thread}
+use Rattle.tmw_defs.specs.ThreadTransactions.{ended_but_last, of_thread}
 use Rattle.tmw_defs.proofs.OneMore.{ended_rest, only_one, transactions-push}
 use Rattle.tmw_defs.proofs.QuietTexts.{status_of-push}
 use Rattle.tmw_defs.proofs.TextsProof.{texts_law}

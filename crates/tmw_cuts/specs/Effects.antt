@@ -4,7 +4,7 @@ use Rattle.std.specs.Coded.{Π_prop, ×_prop, Coded-set, coded_bool, coded_list,
 use Rattle.tmw_defs.specs.declared.op.Op.{Op}
 use Rattle.tmw_defs.specs.Opaque.{State, reads_hold, after_writes}
 use Rattle.tmw_cuts.specs.declared.effect.Effect.{Effect}
-use Rattle.tmw_cuts.specs.Registers.{IsMaskOf, chosen, have, put}
+use Rattle.tmw_cuts.specs.RegisterMask.{IsMaskOf, chosen, have, put}
 use Rattle.tmw_cuts.specs.RegisterUse.{writes, needs}
 
 -- The operations are answered what the registers hold exactly where they agree with one another and the registers that they

@@ -1,7 +1,7 @@
 pub mod Effects
 pub mod Members
+pub mod RegisterMask
 pub mod RegisterUse
-pub mod Registers
 pub mod Replays
 pub mod StandsFor
 pub mod Turns

@@ -4,7 +4,7 @@
 mod effect;
 mod mark;
 mod mask;
-mod operation_of;
+mod operation_and_status;
 mod operations;
 mod states;
 mod turn;
@@ -14,7 +14,7 @@ mod window;
 pub use effect::Effect;
 pub use mark::Mark;
 pub use mask::lowest;
-pub use operation_of::{operation, status_after};
+pub use operation_and_status::{operation, status_after};
 pub use operations::Operations;
 pub use states::{State, States};
 pub use turn::{Move, Stage, Turn};

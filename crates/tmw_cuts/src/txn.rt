@@ -1,12 +1,12 @@
 ghost use Rattle.std.specs.Prelude.{◌≡◌, ◌<◌, [], ◌∷◌, ◌++◌, IsTrue, length};
 ghost use Rattle.tmw_defs.specs.Opaque.{State, reads_hold, after_writes};
 ghost use Rattle.tmw_cuts.specs.Effects.{IsEffectOf, IsEffectOf-prop, leaves_none};
-ghost use Rattle.tmw_cuts.specs.Registers.{IsMaskOf};
+ghost use Rattle.tmw_cuts.specs.RegisterMask.{IsMaskOf};
 ghost use Rattle.tmw_cuts.specs.Replays.{Replays};
 ghost use Rattle.tmw_cuts.specs.RegisterUse.{writes, needs};
 
 use crate::effect::Effect;
-use crate::operation_of::status_after;
+use crate::operation_and_status::status_after;
 use crate::operations::Operations;
 use crate::states::State;
 use tmw_defs::{Op, Status};

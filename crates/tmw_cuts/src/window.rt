@@ -4,7 +4,7 @@ ghost use Rattle.tmw_cuts.specs.Turns.{change};
 ghost use Rattle.tmw_cuts.specs.Views.{view, with_op, with_status};
 
 use crate::mark::Mark;
-use crate::operation_of::status_after;
+use crate::operation_and_status::status_after;
 use crate::turn::{self, Move, Turn};
 use crate::txn::{MOST_TRANSACTIONS, Txn};
 use tmw_defs::{Op, Status};

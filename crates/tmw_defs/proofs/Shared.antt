@@ -14,14 +14,14 @@ pub use Rattle.tmw_events.specs.declared.event.Kind.TheVariants.{A, C, K, N, R, 
 pub use Rattle.tmw_events.specs.declared.ix.Ix.{Ix}
 pub use Rattle.tmw_defs.specs.Criteria.{EndsBy, IsFinalBy, LeadsBy, is_quiet_by, outcomes_by, so_far}
 pub use Rattle.tmw_defs.specs.Cuts.{CutLaw, IsCutLaw, is_cut}
-pub use Rattle.tmw_defs.specs.Decision.{comes, has_order, is_explained, is_free, may_come, one_below, one_way}
+pub use Rattle.tmw_defs.specs.OrderDecision.{comes, has_order, is_explained, is_free, may_come, one_below, one_way}
 pub use Rattle.tmw_defs.specs.History.{Txn, add_event, answers, ends, is_call, is_ended, is_over, is_text, is_well_formed, operation, operations, status_after, status_of, transactions, transactions_from}
 pub use Rattle.tmw_defs.specs.Opaque.{Explains, HasOrder, IsFinalOpaque, IsOpaque, Placed, PlacesEach, State, after, after_writes, is_legal, keeps_order, may_be, may_hold, precedes, reads_hold, zeros}
 pub use Rattle.tmw_defs.specs.Outcomes.{Ends, Leads, MoreThan, Only, end_state}
-pub use Rattle.tmw_defs.specs.Quiet.{awaits_commit, is_pending, is_quiet, is_quiet_strictly}
+pub use Rattle.tmw_defs.specs.QuietEvents.{awaits_commit, is_pending, is_quiet, is_quiet_strictly}
 pub use Rattle.tmw_defs.specs.Strict.{AreHeld, HasStrictOrder, IsFinalStrict, IsStrict}
-pub use Rattle.tmw_defs.specs.Summary.{IsLastCut, SumsUp}
-pub use Rattle.tmw_defs.specs.Texts.{Happens, LiesAfter, TextsLaw, ended_but_last, joined_texts, kinds_of, of_thread, open_but_last}
+pub use Rattle.tmw_defs.specs.LastCut.{IsLastCut, SumsUp}
+pub use Rattle.tmw_defs.specs.ThreadTransactions.{Happens, LiesAfter, TextsLaw, ended_but_last, joined_texts, kinds_of, of_thread, open_but_last}
 pub use Rattle.tmw_defs.specs.Verdict.{AreFine, IsFine, IsFirst, IsMalformed, IsTooMany, IsTooWide, IsVerdict, IsViolated, Rules}
 pub use Rattle.tmw_defs.specs.Windows.{HasWide, IsCutAt, between}
 pub use Rattle.tmw_defs.specs.declared.criterion.Criterion.{Criterion}

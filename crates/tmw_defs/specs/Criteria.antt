@@ -10,7 +10,7 @@ use Rattle.tmw_defs.specs.declared.verdict.Verdict.TheVariants.{OpaqueSoFar, Str
 use Rattle.tmw_defs.specs.History.{Txn, transactions}
 use Rattle.tmw_defs.specs.Opaque.{State, Placed, Explains, IsFinalOpaque}
 use Rattle.tmw_defs.specs.Outcomes.{end_state, Only}
-use Rattle.tmw_defs.specs.Quiet.{is_quiet, is_quiet_strictly}
+use Rattle.tmw_defs.specs.QuietEvents.{is_quiet, is_quiet_strictly}
 use Rattle.tmw_defs.specs.Strict.{ExplainsStrictly, IsFinalStrict}
 
 -- What explains the transactions from a state.

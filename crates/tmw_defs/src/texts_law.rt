@@ -1,4 +1,4 @@
-ghost use Rattle.tmw_defs.specs.Texts.{TextsLaw};
+ghost use Rattle.tmw_defs.specs.ThreadTransactions.{TextsLaw};
 
 /// Proves that a history decomposes into its threads' transactions.
 ///

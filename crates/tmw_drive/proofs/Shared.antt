@@ -5,7 +5,7 @@ pub use Rattle.std.proofs.lemmas.List.{append-nil, drop-drop, get_or-map, get_or
 pub use Rattle.std.proofs.lemmas.List.Elements.{All-append, All-cons, All-head, All-nil, All-tail}
 pub use Rattle.std.specs.Prelude.{All, Err, MatchBool, Ok, OnOk, Result, if◌then◌else◌, nat_le, nat_lt, slice_get, slice_set}
 pub use Rattle.tmw_defs.specs.History.{answers, ends}
-pub use Rattle.tmw_defs.specs.Texts.{kinds_of}
+pub use Rattle.tmw_defs.specs.ThreadTransactions.{kinds_of}
 pub use Rattle.tmw_defs.specs.Verdict.{IsVerdict, Rules}
 pub use Rattle.tmw_events.specs.declared.event.Event.{Event}
 pub use Rattle.tmw_events.specs.declared.event.Kind.{Kind}
@@ -13,10 +13,10 @@ pub use Rattle.tmw_events.specs.declared.event.Kind.TheVariants.{A, C, K, N, R, 
 pub use Rattle.tmw_runs.proofs.Leaves.{beginning, leaves_aborted, leaves_all, leaves_answered, leaves_next, not_whole, whole_run}
 pub use Rattle.tmw_runs.proofs.Stands.{so_far_all, so_far_answered, so_far_none}
 pub use Rattle.tmw_runs.proofs.WellFormed.{kinds_of-append, no_kinds}
-pub use Rattle.tmw_runs.specs.Leaves.{Leaves}
+pub use Rattle.tmw_runs.specs.ScriptRest.{Leaves}
 pub use Rattle.tmw_runs.specs.Runs.{IsBeginning, IsWholeRun}
 pub use Rattle.tmw_runs.specs.Scripts.{are_transactions, is_operation, is_request, is_transaction, script_of, scripts_of}
-pub use Rattle.tmw_runs.specs.Stands.{AllStand, Stands, StandsSoFar}
+pub use Rattle.tmw_runs.specs.AnswersStand.{AllStand, Stands, StandsSoFar}
 pub use Rattle.tmw_tm.specs.Answers.{Answer, Call}
 pub use Rattle.tmw_workloads.specs.Workload.{are_scripts, is_short_script, is_short_transaction, is_workload}
 pub use Rattle.tmw_drive.specs.Drive.{DoesEntry, Drives, EndsAs, IsDriven, script_at}

@@ -1,3 +1,3 @@
 pub mod Drive
-pub mod Fresh
+pub mod FreshTx
 pub mod Player

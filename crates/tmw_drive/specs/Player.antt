@@ -2,17 +2,17 @@
 use Rattle.std.specs.Global.{Vec}
 use Rattle.std.specs.Prelude.{◌≡◌, ◌==◌, ◌<◌, ◌+◌, ℕ, IsTrue, MatchBool, List, [], ◌∷◌, Option, Some, None, length, get_or, drop, map}
 use Rattle.tmw_defs.specs.History.{ends}
-use Rattle.tmw_defs.specs.Texts.{kinds_of}
+use Rattle.tmw_defs.specs.ThreadTransactions.{kinds_of}
 use Rattle.tmw_drive.specs.Drive.{script_at}
-use Rattle.tmw_drive.specs.Fresh.{IsFresh}
+use Rattle.tmw_drive.specs.FreshTx.{IsFresh}
 use Rattle.tmw_drive.specs.declared.ending.Ending.{Ending}
 use Rattle.tmw_drive.specs.declared.ending.Ending.TheVariants.{Done, Left}
 use Rattle.tmw_drive.specs.declared.player.Player.{Player}
 use Rattle.tmw_events.specs.declared.event.Event.{Event}
 use Rattle.tmw_events.specs.declared.event.Kind.{Kind}
-use Rattle.tmw_runs.specs.Leaves.{Leaves}
+use Rattle.tmw_runs.specs.ScriptRest.{Leaves}
 use Rattle.tmw_runs.specs.Scripts.{are_transactions}
-use Rattle.tmw_runs.specs.Stands.{StandsSoFar}
+use Rattle.tmw_runs.specs.AnswersStand.{StandsSoFar}
 use Rattle.tmw_tm.specs.Answers.{Call, Answer}
 
 -- The script that these vectors of calls are.

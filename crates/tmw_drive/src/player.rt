@@ -1,7 +1,7 @@
 ghost use Rattle.std.specs.Prelude.{◌≡◌, ◌==◌, ◌+◌, ◌<◌, ◌^◌, false, IsTrue, OnSome};
 ghost use Rattle.tmw_defs.specs.History.{answers, ends};
 ghost use Rattle.tmw_events.specs.declared.event.Kind.TheVariants.{A};
-ghost use Rattle.tmw_runs.specs.Stands.{Stands};
+ghost use Rattle.tmw_runs.specs.AnswersStand.{Stands};
 
 use crate::ask::{ask, ends};
 use crate::ending::Ending;
@@ -21,7 +21,7 @@ pub struct Player {
 }
 
 impl Player {
-    ghost use Rattle.tmw_drive.specs.Fresh.{IsFresh};
+    ghost use Rattle.tmw_drive.specs.FreshTx.{IsFresh};
     ghost use Rattle.tmw_drive.specs.Player.{calls_of, left_of, next_of, GoesOn, IsEnding, IsNew};
 
     /// Returns a player of this thread that has made no call.

@@ -1,6 +1,6 @@
 -- Reading on to the end: the judges have been fed the events of the lines read.
-use Rattle.tmw_judge.proofs.Shared.{AreFedAllRead, AreFedSoMany, BadHeader, BadLine, CountsFor, Cut, Err, FeedsEvents, FromSource, Io, Judges, LackAnEvent, Lines, Memory, Ok, Result, TakeEvents, TextFault, TooLong, Version, sym, trace_grammar, ◌++◌}
-use Rattle.tmw_lines.specs.GiveItems.{GivesAll}
+use Rattle.tmw_judge.proofs.Shared.{AreFedAllRead, AreFedSoMany, AreJudged, AreReadAndFed, Asked, BadHeader, BadLine, Bounds, CountsFor, Cut, Err, Event, FeedsEvents, FromSource, HasRead, Header, Io, Judges, Lines, List, Memory, Ok, Result, TextFault, TooLong, Version, judges_taking, sym, trace_grammar, ℕ, ◌++◌}
+use Rattle.tmw_lines.specs.GiveItems.{AreGiven, GivesAll}
 
 -- the judges have been fed as many events as lines were read behind the header's
 pub fed-so_many : {C : Type 0} (Counts : CountsFor C) (lines : Lines Version) (judges : Judges C) → AreFedAllRead Counts lines judges
@@ -14,60 +14,30 @@ fed-so_many Counts lines judges fed = record {
   counted = sym fed.read.counted;
 }
 
-module _ {S C Done : Type 0} (From : FromSource S) (Counts : CountsFor C) (Ended : Type 0) (a b : S)
-    (lines after : Lines Version) (judges fed : Judges C) where
-  -- a fault was read behind them, or memory was refused for the last
-  feeds-fault : (fault : TextFault)
-      → (g : GivesAll {Done = Done} trace_grammar From Ended (TakeEvents Counts) (LackAnEvent Counts) a b lines after judges fed (Err fault))
-      → FeedsEvents {Done = Done} From Counts Ended a b lines after judges fed (Err fault)
-  feeds-fault BadHeader g = record {
-    bytes = g.bytes;
-    events = g.items;
-    told = g.told;
-    fed = λ header bounds asked given before r f. (g.given.0 header given before r, g.given.1 header bounds asked given f);
-  }
-  feeds-fault (BadLine number) g = record {
-    bytes = g.bytes;
-    events = g.items;
-    told = g.told;
-    fed = λ header bounds asked given before r f. (g.given.0 header given before r, g.given.1 header bounds asked given f);
-  }
-  feeds-fault (Cut number) g = record {
-    bytes = g.bytes;
-    events = g.items;
-    told = g.told;
-    fed = λ header bounds asked given before r f. (g.given.0 header given before r, g.given.1 header bounds asked given f);
-  }
-  feeds-fault Memory g = record {
-    bytes = g.bytes;
-    events = g.items;
-    told = g.told;
-    fed = λ header bounds asked given before r f. (
-      record { last = g.given.last; read = g.given.read header given before r },
-      g.given.lacks header bounds asked (given ++ g.items) (g.given.taken header bounds asked given f),
-    );
-  }
-  feeds-fault Io g = record {
-    bytes = g.bytes;
-    events = g.items;
-    told = g.told;
-    fed = λ header bounds asked given before r f. (g.given.0 header given before r, g.given.1 header bounds asked given f);
-  }
-  feeds-fault TooLong g = record {
-    bytes = g.bytes;
-    events = g.items;
-    told = g.told;
-    fed = λ header bounds asked given before r f. (g.given.0 header given before r, g.given.1 header bounds asked given f);
-  }
+module _ {C Done : Type 0} (Counts : CountsFor C) (Ended : Type 0) (lines after : Lines Version) (judges fed : Judges C) where
+  fed-behind : (events : List Event) (bytes : List ℕ) (result : Result Done TextFault)
+      → AreGiven trace_grammar Ended (judges_taking Counts) lines after judges fed events bytes result
+      → (header : Header) (bounds : Bounds) (asked : Asked) (given : List Event) (before : List ℕ)
+      → HasRead trace_grammar lines header given before → AreJudged Counts header bounds asked given judges
+      → AreReadAndFed Counts Ended after header bounds asked (given ++ events) (before ++ bytes) fed result
+  fed-behind events bytes (Ok done) g header bounds asked given before r f = (g.0 header given before r, g.1 header bounds asked given f)
+  fed-behind events bytes (Err BadHeader) g header bounds asked given before r f =
+      (g.0 header given before r, g.1 header bounds asked given f)
+  fed-behind events bytes (Err (BadLine number)) g header bounds asked given before r f =
+      (g.0 header given before r, g.1 header bounds asked given f)
+  fed-behind events bytes (Err (Cut number)) g header bounds asked given before r f =
+      (g.0 header given before r, g.1 header bounds asked given f)
+  fed-behind events bytes (Err Memory) g header bounds asked given before r f = (
+    record { last = g.last; read = g.read header given before r },
+    g.taken.lacks header bounds asked (given ++ events) (g.taken.takes header bounds asked given f),
+  )
+  fed-behind events bytes (Err Io) g header bounds asked given before r f = (g.0 header given before r, g.1 header bounds asked given f)
+  fed-behind events bytes (Err TooLong) g header bounds asked given before r f =
+      (g.0 header given before r, g.1 header bounds asked given f)
 
   -- what the judges took, they have been fed
-  pub feeds-given : (result : Result Done TextFault)
-      → GivesAll trace_grammar From Ended (TakeEvents Counts) (LackAnEvent Counts) a b lines after judges fed result
+  pub feeds-given : {S : Type 0} (From : FromSource S) (a b : S) (result : Result Done TextFault)
+      → GivesAll trace_grammar From Ended (judges_taking Counts) a b lines after judges fed result
       → FeedsEvents From Counts Ended a b lines after judges fed result
-  feeds-given (Ok done) g = record {
-    bytes = g.bytes;
-    events = g.items;
-    told = g.told;
-    fed = λ header bounds asked given before r f. (g.given.0 header given before r, g.given.1 header bounds asked given f);
-  }
-  feeds-given (Err fault) g = feeds-fault fault g
+  feeds-given From a b result g =
+      record { bytes = g.bytes; events = g.items; told = g.told; fed = fed-behind g.items g.bytes result g.given }

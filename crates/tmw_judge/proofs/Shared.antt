@@ -11,7 +11,7 @@ pub use Rattle.tmw_defs.specs.declared.verdict.Verdict.{Verdict}
 pub use Rattle.tmw_events.specs.declared.event.Event.{Event}
 pub use Rattle.tmw_lines.specs.ReadItems.{AreReadFor, FailsBehind, FailsHolding}
 pub use Rattle.tmw_lines.specs.Lines.{FailsAtLine, HasRead, IsReading, ReadsNext, format_by, unread, unread_bytes}
-pub use Rattle.tmw_lines.specs.Text.{front_of}
+pub use Rattle.tmw_lines.specs.LineFeeds.{front_of}
 pub use Rattle.tmw_lines.specs.TextFault.{HasTextFault, failures_after}
 pub use Rattle.tmw_lines.specs.declared.lines.Lines.{Lines}
 pub use Rattle.tmw_lines.specs.declared.text_fault.TextFault.{TextFault}
@@ -32,7 +32,7 @@ pub use Rattle.tmw_trace.specs.declared.version.Version.{Version}
 pub use Rattle.tmw_judge.specs.Answer.{AnswersBy, AreOpen, AreOpenBefore, EndsSoonBehindOpen, HasFaultFor, HasFaultInTime, IsAnswer, IsReadFor, JudgesWith, judged_lines, judged_status, plain, summary_lines, told_verdicts}
 pub use Rattle.tmw_judge.specs.ByCriterion.{Each}
 pub use Rattle.tmw_judge.specs.Tally.{AreJudged, CountsFor, HasSummary, any_open, counted_of, counted_part, verdicts_of}
-pub use Rattle.tmw_judge.specs.FeedEvents.{AreFedAllRead, AreFedSoMany, AreReadAndFed, FeedsEvents, IsBeginning, LackAnEvent, ReadsBeginning, TakeEvents}
+pub use Rattle.tmw_judge.specs.FeedEvents.{AreFedAllRead, AreFedSoMany, AreReadAndFed, FeedsEvents, IsBeginning, ReadsBeginning, TakeEvents, judges_taking}
 pub use Rattle.tmw_judge.specs.FeedFirst.{AnswersFed, AreJudgesOf, AreReadFirst, FeedsFirst, FeedsFor}
 pub use Rattle.tmw_judge.specs.Judge.{AnswersTrace, AreFed, AreReports, JudgesBytes, report_lines, report_status, trace_rules}
 pub use Rattle.tmw_judge.specs.declared.judge_result.JudgeResult.{JudgeResult}

@@ -2,7 +2,8 @@
 use Rattle.std.specs.Prelude.{◌≡◌, ◌⊎◌, ℕ, Result, Ok, Err, OnOk, OnErr, List, [], ◌∷◌, ◌++◌, length}
 use Rattle.tmw_lines.specs.ReadItems.{EndsBehind, FailsHolding, StopsBehind}
 use Rattle.tmw_lines.specs.Lines.{HasRead, unread_bytes}
-use Rattle.tmw_lines.specs.Text.{HoldsFront}
+use Rattle.tmw_lines.specs.Taker.{Taking}
+use Rattle.tmw_lines.specs.LineFeeds.{HoldsFront}
 use Rattle.tmw_lines.specs.TextFault.{HasFirstLineFault}
 use Rattle.tmw_lines.specs.declared.lines.Lines.{Lines}
 use Rattle.tmw_lines.specs.declared.text_fault.TextFault.{TextFault}
@@ -50,11 +51,6 @@ abbrev pub TakeEvents : {C : Type 0} → CountsFor C → Judges C → List Event
 TakeEvents Counts old events new = (header : Header) (bounds : Bounds) (asked : Asked) (history : List Event)
     → AreJudged Counts header bounds asked history old → AreJudged Counts header bounds asked (history ++ events) new
 
--- From the one to the other not each monitor has been fed this event.
-abbrev pub LackAnEvent : {C : Type 0} → CountsFor C → Judges C → Event → Judges C → Type 0
-LackAnEvent Counts old event new = (header : Header) (bounds : Bounds) (asked : Asked) (history : List Event)
-    → AreJudged Counts header bounds asked history old → LackEvent header bounds asked history event new.monitors
-
 -- They have been fed a history of so many events.
 pub record AreFedSoMany {C : Type 0} (Counts : CountsFor C) (judges : Judges C) (count : ℕ) : Type 0 where
   pub header : Header
@@ -63,6 +59,15 @@ pub record AreFedSoMany {C : Type 0} (Counts : CountsFor C) (judges : Judges C) 
   pub history : List Event
   pub fed : AreJudged Counts header bounds asked history judges
   pub counted : length history ≡ count
+
+-- They have been fed the events that they took; where memory was refused for one, not each monitor has been fed it.
+abbrev pub judges_taking : {C : Type 0} → CountsFor C → Taking (Judges C) Event
+judges_taking Counts = record {
+  takes = TakeEvents Counts;
+  lacks = λ old event new. (header : Header) (bounds : Bounds) (asked : Asked) (history : List Event)
+      → AreJudged Counts header bounds asked history old → LackEvent header bounds asked history event new.monitors;
+  counts = AreFedSoMany Counts;
+}
 
 -- What was read of a trace where its first line alone is asked for. Where there are judges, and for want of memory, it is that
 -- line, and at most 4,096 bytes that the reader holds; else the line has the fault.

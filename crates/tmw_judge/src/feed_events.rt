@@ -2,7 +2,7 @@ ghost use Rattle.std.specs.Prelude.{◌≡◌, ◌≢◌, ◌++◌, IfErr, OnOk}
 ghost use Rattle.tmw_lines.specs.Lines.{IsOver, HasFailed};
 ghost use Rattle.tmw_lines.specs.TextFault.{reading_failures};
 ghost use Rattle.tmw_lines.specs.declared.text_fault.TextFault.TheVariants.{Memory};
-ghost use Rattle.tmw_judge.specs.FeedEvents.{AreFedAllRead, AreFedSoMany, FeedsEvents, TakeEvents, LackAnEvent};
+ghost use Rattle.tmw_judge.specs.FeedEvents.{AreFedAllRead, FeedsEvents, judges_taking};
 ghost use Rattle.std.proofs.Common.{append_assoc, append-nil};
 
 use crate::judges::Judges;
@@ -16,11 +16,7 @@ use tmw_trace::TraceLines;
 
 /// Judges take events by being fed them. Each event is counted while some verdict says that nothing is wrong.
 impl<C: Tally> Taker<Event> for Judges<C> {
-    ghost takes = { TakeEvents C.counts };
-
-    ghost lacks = { LackAnEvent C.counts };
-
-    ghost counts = { AreFedSoMany C.counts };
+    ghost taking = { judges_taking C.counts };
 
     #[inline(always)]
     fn take(&mut self, event: Event) -> Result<(), AllocError> {

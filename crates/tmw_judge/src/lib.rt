@@ -7,8 +7,8 @@ mod by_criterion;
 mod feed_events;
 mod feed_first;
 mod judge;
+mod judge_command;
 mod judge_result;
-mod judge_run;
 mod judges;
 mod monitors;
 mod options;
@@ -16,6 +16,6 @@ mod report;
 mod tally;
 
 pub use by_criterion::ByCriterion;
-pub use judge_run::{run_judge, run_judge_with};
+pub use judge_command::{run_judge, run_judge_with};
 pub use options::Options;
 pub use report::Report;

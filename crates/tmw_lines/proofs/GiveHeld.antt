@@ -1,5 +1,5 @@
 -- The reader has read the lines, among the bytes that it held, whose items a taker was given.
-use Rattle.tmw_lines.proofs.Shared.{All-append, AreFirst, AreTaken, GivesItems, Grammar, IsLastLacked, LacksLast, Lines, List, ReadsHeld, [], ap, append_assoc, arith, bytes_of, drop, flat_map-append, items_text, length, length-append, line, sym, ℕ, ◌++◌, ◌+◌, ◌∙◌, ◌∷◌, ◌≡◌}
+use Rattle.tmw_lines.proofs.Shared.{All-append, AreFirst, AreTaken, GivesItems, Grammar, IsLastLacked, LacksLast, Lines, List, ReadsHeld, Taking, [], ap, append_assoc, arith, bytes_of, drop, flat_map-append, items_text, length, length-append, line, sym, ℕ, ◌++◌, ◌+◌, ◌∙◌, ◌∷◌, ◌≡◌}
 use Rattle.tmw_lines.proofs.LinesRead.{few-held}
 
 module _ {F H E : Type 0} (grammar : Grammar F H E) (old new : Lines F) (state : new.state ≡ old.state)
@@ -32,20 +32,16 @@ module _ {F H E : Type 0} (grammar : Grammar F H E) (old new : Lines F) (state :
     few = few-held new.held;
   }
 
-  module _ {T : Type 0} (Takes : T → List E → T → Type 0) (before after : T) where
-    pub gives-held : (Counts : T → ℕ → Type 0)
-        → AreTaken grammar Takes Counts old.format (bytes_of old.held) old.count before after count new.count
-        → GivesItems grammar Takes old new before after
-    gives-held Counts t = record { items = t.items; read = ReadsHeld-first t.items t.counted t.first; taken = t.taken }
+  module _ {T : Type 0} (taking : Taking T E) (before after : T) where
+    pub gives-held : AreTaken grammar taking old.format (bytes_of old.held) old.count before after count new.count
+        → GivesItems grammar taking old new before after
+    gives-held t = record { items = t.items; read = ReadsHeld-first t.items t.counted t.first; taken = t.taken }
 
-    pub lacks-held : (Lacks : T → E → T → Type 0)
-        → IsLastLacked grammar Takes Lacks old.format (bytes_of old.held) old.count before after count new.count
-        → LacksLast grammar Takes Lacks old new before after
-    lacks-held Lacks t = record {
+    pub lacks-held : IsLastLacked grammar taking old.format (bytes_of old.held) old.count before after count new.count
+        → LacksLast grammar taking old new before after
+    lacks-held t = record {
       items = t.items;
       last = t.last;
-      between = t.between;
       read = ReadsHeld-first (t.items ++ t.last ∷ []) (omega (arith, t.counted, length-append t.items (t.last ∷ []))) t.first;
       taken = t.taken;
-      lacks = t.lacks;
     }

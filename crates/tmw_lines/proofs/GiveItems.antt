@@ -1,20 +1,20 @@
 -- Reading on to the end: a taker was given the items of the lines read so far.
-use Rattle.tmw_lines.proofs.Shared.{AreGiven, BadHeader, BadLine, Cut, Err, FailsAtLine, FromSource, GivesAll, GivesItems, Grammar, HasBegunToRead, HasRead, Io, IsReading, LacksLast, Lines, List, Memory, None, Ok, ReadsNext, ReadsToFault, Some, Tells, Tells-more, Tells-none, TextFault, TooLong, [], append-nil, append_assoc, arith, length-append, sym, ℕ, ◌++◌, ◌+◌, ◌∙◌, ◌∷◌, ◌≡◌}
+use Rattle.tmw_lines.proofs.Shared.{AreGiven, BadHeader, BadLine, Cut, Err, FailsAtLine, FromSource, GivesAll, GivesItems, Grammar, HasBegunToRead, HasRead, Io, IsReading, LacksLast, Lines, List, Memory, None, Ok, ReadsNext, ReadsToFault, Some, Taking, Tells, Tells-more, Tells-none, TextFault, TooLong, [], append-nil, append_assoc, arith, length-append, sym, ℕ, ◌++◌, ◌+◌, ◌∙◌, ◌∷◌, ◌≡◌}
 use Rattle.tmw_lines.proofs.LinesRead.{fails-holding}
 
 -- the items of all lines read since were taken
-pub record HasGiven {F H E S T : Type 0} (grammar : Grammar F H E) (From : FromSource S) (Takes : T → List E → T → Type 0) (old new : S) (lines lines_after : Lines F)
+pub record HasGiven {F H E S T : Type 0} (grammar : Grammar F H E) (From : FromSource S) (taking : Taking T E) (old new : S) (lines lines_after : Lines F)
     (before after : T) : Type 0 where
   pub bytes : List ℕ
   pub items : List E
   pub told : Tells From old bytes new
-  pub taken : Takes before items after
+  pub taken : taking.takes before items after
   pub read : (header : H) (given : List E) (earlier : List ℕ) → HasRead grammar lines header given earlier
       → HasRead grammar lines_after header (given ++ items) (earlier ++ bytes)
 
 module _ {F H E S T : Type 0} {grammar : Grammar F H E} {From : FromSource S}
-    {Takes : T → List E → T → Type 0} {a : S} {lines : Lines F} {before : T} where
-  pub HasGiven-none : Takes before [] before → HasGiven grammar From Takes a a lines lines before before
+    {taking : Taking T E} {a : S} {lines : Lines F} {before : T} where
+  pub HasGiven-none : taking.takes before [] before → HasGiven grammar From taking a a lines lines before before
   HasGiven-none none = record {
     bytes = [];
     items = [];
@@ -23,7 +23,7 @@ module _ {F H E S T : Type 0} {grammar : Grammar F H E} {From : FromSource S}
     read = λ header given earlier r. rw (append-nil given, append-nil earlier) r;
   }
 
-  module _ {b : S} {now : Lines F} {between : T} (h : HasGiven grammar From Takes a b lines now before between) where
+  module _ {b : S} {now : Lines F} {between : T} (h : HasGiven grammar From taking a b lines now before between) where
     -- no fault was answered yet, and not the end
     pub reads_on : HasBegunToRead grammar lines → IsReading now
     reads_on begun = (h.read begun.header begun.items begun.bytes begun.read).reading
@@ -36,9 +36,9 @@ module _ {F H E S T : Type 0} {grammar : Grammar F H E} {From : FromSource S}
     read-held next items reads header given earlier r =
         rw (← append_assoc given h.items items) (reads header (given ++ h.items) (earlier ++ h.bytes) (h.read header given earlier r))
 
-    pub HasGiven-held : (more : (x y z : T) (xs ys : List E) → Takes x xs y → Takes y ys z → Takes x (xs ++ ys) z)
-        → (next : Lines F) (after : T) → GivesItems grammar Takes now next between after
-        → HasGiven grammar From Takes a b lines next before after
+    pub HasGiven-held : (more : (x y z : T) (xs ys : List E) → taking.takes x xs y → taking.takes y ys z → taking.takes x (xs ++ ys) z)
+        → (next : Lines F) (after : T) → GivesItems grammar taking now next between after
+        → HasGiven grammar From taking a b lines next before after
     HasGiven-held more next after gives = record {
       bytes = h.bytes;
       items = h.items ++ gives.items;
@@ -48,22 +48,24 @@ module _ {F H E S T : Type 0} {grammar : Grammar F H E} {From : FromSource S}
     }
 
     -- and memory was refused for the last of them
-    pub lacks-held-last : (Done : Type 0) (Ended : Type 0) (Lacks : T → E → T → Type 0)
-        (more : (x y z : T) (xs ys : List E) → Takes x xs y → Takes y ys z → Takes x (xs ++ ys) z) (next : Lines F) (after : T)
-        → LacksLast grammar Takes Lacks now next between after
-        → GivesAll {Done = Done} grammar From Ended Takes Lacks a b lines next before after (Err Memory)
-    lacks-held-last Done Ended Lacks more next after l = record {
+    pub lacks-held-last : (Done : Type 0) (Ended : Type 0)
+        (more : (x y z : T) (xs ys : List E) → taking.takes x xs y → taking.takes y ys z → taking.takes x (xs ++ ys) z) (next : Lines F) (after : T)
+        → LacksLast grammar taking now next between after
+        → GivesAll {Done = Done} grammar From Ended taking a b lines next before after (Err Memory)
+    lacks-held-last Done Ended more next after l = record {
       bytes = h.bytes;
       items = h.items ++ l.items;
       told = h.told;
       given = record {
         last = l.last;
-        between = l.between;
         read = λ header given earlier r.
             rw (← append_assoc given h.items l.items, append_assoc (given ++ h.items) l.items (l.last ∷ []))
             (l.read header (given ++ h.items) (earlier ++ h.bytes) (h.read header given earlier r));
-        taken = more before between l.between h.items l.items h.taken l.taken;
-        lacks = l.lacks;
+        taken = record {
+          between = l.taken.between;
+          takes = more before between l.taken.between h.items l.items h.taken l.taken.takes;
+          lacks = l.taken.lacks;
+        };
       };
     }
 
@@ -83,8 +85,8 @@ module _ {F H E S T : Type 0} {grammar : Grammar F H E} {From : FromSource S}
           omega (arith, was, is, length-append (begun.items ++ h.items) (item ∷ []))
 
       -- and its item was taken
-      pub HasGiven-push : (more : (x y z : T) (xs ys : List E) → Takes x xs y → Takes y ys z → Takes x (xs ++ ys) z)
-          → (after : T) → Takes between (item ∷ []) after → HasGiven grammar From Takes a c lines next before after
+      pub HasGiven-push : (more : (x y z : T) (xs ys : List E) → taking.takes x xs y → taking.takes y ys z → taking.takes x (xs ++ ys) z)
+          → (after : T) → taking.takes between (item ∷ []) after → HasGiven grammar From taking a c lines next before after
       HasGiven-push more after taken = record {
         bytes = h.bytes ++ r.bytes;
         items = h.items ++ item ∷ [];
@@ -94,26 +96,24 @@ module _ {F H E S T : Type 0} {grammar : Grammar F H E} {From : FromSource S}
       }
 
       -- and memory was refused for its item
-      pub lacks-next : (Done : Type 0) (Lacks : T → E → T → Type 0) (after : T) → Lacks between item after
-          → GivesAll {Done = Done} grammar From (From.ended c) Takes Lacks a c lines next before after (Err Memory)
-      lacks-next Done Lacks after lacks = record {
+      pub lacks-next : (Done : Type 0) (after : T) → taking.lacks between item after
+          → GivesAll {Done = Done} grammar From (From.ended c) taking a c lines next before after (Err Memory)
+      lacks-next Done after lacks = record {
         bytes = h.bytes ++ r.bytes;
         items = h.items;
         told = Tells-more From a b c h.bytes r.bytes h.told r.told;
         given = record {
           last = item;
-          between = between;
           read = read-one;
-          taken = h.taken;
-          lacks = lacks;
+          taken = record { between = between; takes = h.taken; lacks = lacks };
         };
       }
 
     -- the end was read
-    pub gives-end : {c : S} {next : Lines F} {Done : Type 0} (done : Done) (Lacks : T → E → T → Type 0)
+    pub gives-end : {c : S} {next : Lines F} {Done : Type 0} (done : Done)
         → ReadsNext grammar From b c now next (Ok None)
-        → GivesAll grammar From (From.ended c) Takes Lacks a c lines next before between (Ok done)
-    gives-end {c = c} done Lacks r = record {
+        → GivesAll grammar From (From.ended c) taking a c lines next before between (Ok done)
+    gives-end {c = c} done r = record {
       bytes = h.bytes ++ r.bytes;
       items = h.items;
       told = Tells-more From a b c h.bytes r.bytes h.told r.told;
@@ -137,23 +137,23 @@ module _ {F H E S T : Type 0} {grammar : Grammar F H E} {From : FromSource S}
         (given ++ h.items) (earlier ++ h.bytes) (h.read header given earlier r))
 
     -- how a fault of the line behind the items taken answers
-    given-fault : (Done : Type 0) (Ended : Type 0) (Lacks : T → E → T → Type 0) (next : Lines F) (bytes : List ℕ)
+    given-fault : (Done : Type 0) (Ended : Type 0) (next : Lines F) (bytes : List ℕ)
         (fault : TextFault) → HasBegunToRead grammar lines → FailsAtLine grammar Ended now next bytes fault
-        → AreGiven {Done = Done} grammar Ended Takes Lacks lines next before between h.items (h.bytes ++ bytes) (Err fault)
-    given-fault Done Ended Lacks next bytes BadHeader begun fails = (fault-behind Ended next bytes BadHeader fails, h.taken)
-    given-fault Done Ended Lacks next bytes (BadLine number) begun fails = (fault-behind Ended next bytes (BadLine number) fails, h.taken)
-    given-fault Done Ended Lacks next bytes (Cut number) begun fails = (fault-behind Ended next bytes (Cut number) fails, h.taken)
-    given-fault Done Ended Lacks next bytes Memory begun fails = absurd (fails (reads_on begun)).0
-    given-fault Done Ended Lacks next bytes Io begun fails = (fault-behind Ended next bytes Io fails, h.taken)
-    given-fault Done Ended Lacks next bytes TooLong begun fails = (fault-behind Ended next bytes TooLong fails, h.taken)
+        → AreGiven {Done = Done} grammar Ended taking lines next before between h.items (h.bytes ++ bytes) (Err fault)
+    given-fault Done Ended next bytes BadHeader begun fails = (fault-behind Ended next bytes BadHeader fails, h.taken)
+    given-fault Done Ended next bytes (BadLine number) begun fails = (fault-behind Ended next bytes (BadLine number) fails, h.taken)
+    given-fault Done Ended next bytes (Cut number) begun fails = (fault-behind Ended next bytes (Cut number) fails, h.taken)
+    given-fault Done Ended next bytes Memory begun fails = absurd (fails (reads_on begun)).0
+    given-fault Done Ended next bytes Io begun fails = (fault-behind Ended next bytes Io fails, h.taken)
+    given-fault Done Ended next bytes TooLong begun fails = (fault-behind Ended next bytes TooLong fails, h.taken)
 
     -- a fault was read
-    pub gives-fault : {c : S} {next : Lines F} {fault : TextFault} (Done : Type 0) (Lacks : T → E → T → Type 0)
+    pub gives-fault : {c : S} {next : Lines F} {fault : TextFault} (Done : Type 0)
         → HasBegunToRead grammar lines → ReadsNext grammar From b c now next (Err fault)
-        → GivesAll {Done = Done} grammar From (From.ended c) Takes Lacks a c lines next before between (Err fault)
-    gives-fault {c = c} {next = next} {fault = fault} Done Lacks begun r = record {
+        → GivesAll {Done = Done} grammar From (From.ended c) taking a c lines next before between (Err fault)
+    gives-fault {c = c} {next = next} {fault = fault} Done begun r = record {
       bytes = h.bytes ++ r.bytes;
       items = h.items;
       told = Tells-more From a b c h.bytes r.bytes h.told r.told;
-      given = given-fault Done (From.ended c) Lacks next r.bytes fault begun r.is.0;
+      given = given-fault Done (From.ended c) next r.bytes fault begun r.is.0;
     }

@@ -1,5 +1,5 @@
 -- Lines whose items a taker is given, one after another.
-use Rattle.tmw_lines.proofs.Shared.{All-push, AreFirst, AreTaken, Grammar, IsItemLine, IsLastLacked, List, [], ap, arith, drop, drop-drop, items_text, length, length-append, length-drop, line, ℕ, ◌++◌, ◌+◌, ◌<◌, ◌^◌, ◌∙◌, ◌∷◌, ◌≤◌}
+use Rattle.tmw_lines.proofs.Shared.{All-push, AreFirst, AreTaken, Grammar, IsItemLine, IsLastLacked, List, Taking, [], ap, arith, drop, drop-drop, items_text, length, length-append, length-drop, line, ℕ, ◌++◌, ◌+◌, ◌<◌, ◌^◌, ◌∙◌, ◌∷◌, ◌≤◌}
 use Rattle.tmw_lines.proofs.LinesRead.{items_text-push}
 
 module _ {F H E : Type 0} (grammar : Grammar F H E) (format : F) (bytes : List ℕ) where
@@ -21,15 +21,15 @@ module _ {F H E : Type 0} (grammar : Grammar F H E) (format : F) (bytes : List �
     fit = All-push (grammar.FitsItem format) items item first.fit is.fits;
   }
 
-module _ {F H E T : Type 0} {grammar : Grammar F H E} {Takes : T → List E → T → Type 0} {Counts : T → ℕ → Type 0}
-    (more_taken : (a b c : T) (xs ys : List E) → Takes a xs b → Takes b ys c → Takes a (xs ++ ys) c)
+module _ {F H E T : Type 0} {grammar : Grammar F H E} {taking : Taking T E}
+    (more_taken : (a b c : T) (xs ys : List E) → taking.takes a xs b → taking.takes b ys c → taking.takes a (xs ++ ys) c)
     {format : F} {bytes : List ℕ} {read : ℕ} {before between after : T} {count all more : ℕ}
-    (t : AreTaken grammar Takes Counts format bytes read before between count all) (left : all < 2 ^ 40)
+    (t : AreTaken grammar taking format bytes read before between count all) (left : all < 2 ^ 40)
     (within : more ≤ length (drop count bytes)) {item : E}
     (is : IsItemLine grammar format item (drop count bytes) (drop more (drop count bytes))) where
   -- its item was taken
-  pub AreTaken-push : Takes between (item ∷ []) after → ((taken : ℕ) → Counts between taken → Counts after (taken + 1))
-      → AreTaken grammar Takes Counts format bytes read before after (count + more) (all + 1)
+  pub AreTaken-push : taking.takes between (item ∷ []) after → ((taken : ℕ) → taking.counts between taken → taking.counts after (taken + 1))
+      → AreTaken grammar taking format bytes read before after (count + more) (all + 1)
   AreTaken-push taken counts = record {
     items = t.items ++ item ∷ [];
     first = AreFirst-push grammar format bytes t.items item count more t.first within is;
@@ -40,15 +40,13 @@ module _ {F H E T : Type 0} {grammar : Grammar F H E} {Takes : T → List E → 
   }
 
   -- memory was refused for its item
-  pub IsLastLacked-push : {Lacks : T → E → T → Type 0} → Lacks between item after
-      → IsLastLacked grammar Takes Lacks format bytes read before after (count + more) (all + 1)
+  pub IsLastLacked-push : taking.lacks between item after
+      → IsLastLacked grammar taking format bytes read before after (count + more) (all + 1)
   IsLastLacked-push lacks = record {
     items = t.items;
     last = item;
-    between = between;
     first = AreFirst-push grammar format bytes t.items item count more t.first within is;
     counted = omega (arith, t.counted);
     few = omega (arith, left);
-    taken = t.taken;
-    lacks = lacks;
+    taken = record { between = between; takes = t.taken; lacks = lacks };
   }

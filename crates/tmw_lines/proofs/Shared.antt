@@ -10,8 +10,9 @@ pub use Rattle.tmw_streams.proofs.Transfers.{Tells-more, Tells-none}
 pub use Rattle.tmw_streams.specs.Streams.{FromSource}
 pub use Rattle.tmw_streams.specs.Transfers.{Reads, Tells}
 pub use borrow.Rule.Slice.PartMut.{post_of, put_mid}
-pub use Rattle.tmw_lines.specs.GiveFirst.{AreFirst, GivesItems, LacksLast, ReadsHeld}
+pub use Rattle.tmw_lines.specs.GiveResult.{AreFirst, GivesItems, LacksLast, ReadsHeld}
 pub use Rattle.tmw_lines.specs.GiveLines.{AreTaken, IsLastLacked}
+pub use Rattle.tmw_lines.specs.Taker.{Taking}
 pub use Rattle.tmw_lines.specs.Grammar.{AllFit, AreLines, Grammar, IsNaming, IsNoHeader, IsNoItem, items_text, lines_text}
 pub use Rattle.tmw_lines.specs.LineBuffer.{bytes_of}
 pub use Rattle.tmw_lines.specs.GiveItems.{AreGiven, GivesAll, ReadsToFault}
@@ -21,7 +22,7 @@ pub use Rattle.tmw_lines.specs.Lines.{FailsAtLine, HasRead, IsReading, ReadsNext
 pub use Rattle.tmw_lines.specs.LongLine.{HasFeed, Skips}
 pub use Rattle.tmw_lines.specs.FreeParts.{IsFree, is_next}
 pub use Rattle.tmw_lines.specs.LinePiece.{IsSeen}
-pub use Rattle.tmw_lines.specs.Text.{HoldsFront, behind_front, feed_at, front_of, line, line_at}
+pub use Rattle.tmw_lines.specs.LineFeeds.{HoldsFront, behind_front, feed_at, front_of, line, line_at}
 pub use Rattle.tmw_lines.specs.TextFault.{BeginsWithBad, EndsSoon, HasBadHeader, HasBegun, HasFirstLineFault, HasTextFault, IsBadLine, failures_after}
 pub use Rattle.tmw_lines.specs.declared.lines.Lines.{Lines}
 pub use Rattle.tmw_lines.specs.declared.long_line.LineEnd.TheVariants.{End, Failed, Feed}

@@ -1,5 +1,5 @@
 -- Reading a whole text: its header, and then the items of all other lines.
-use Rattle.tmw_lines.proofs.Shared.{AreLines, AreReadFor, BadHeader, BadLine, Cut, EndsSoon, Err, FromSource, Grammar, HasFirstLineFault, HasRead, HasTextFault, Io, Lines, List, Memory, Ok, ReadsItems, Tells, Tells-more, TextFault, TooLong, [], ap, bytes_of, lines_text, subst, ℕ, ◌++◌, ◌∙◌, ◌∷◌, ◌≡◌, arith}
+use Rattle.tmw_lines.proofs.Shared.{AreGiven, AreLines, AreReadFor, BadHeader, BadLine, Cut, EndsSoon, Err, FromSource, Grammar, HasFirstLineFault, HasRead, HasTextFault, Io, Lines, List, Memory, Ok, ReadsItems, Result, Taking, Tells, Tells-more, TextFault, TooLong, [], ap, bytes_of, lines_text, subst, ℕ, ◌++◌, ◌∙◌, ◌∷◌, ◌≡◌, arith}
 use Rattle.tmw_lines.proofs.LinesRead.{text_fault-behind}
 
 -- a fault of the first line is the text's
@@ -32,6 +32,20 @@ text_fault-read Done grammar Ended lines header items bytes (Cut number) f = tex
 text_fault-read Done grammar Ended lines header items bytes Memory f = soon-behind grammar lines header (items ++ f.last ∷ []) bytes f.read
 text_fault-read Done grammar Ended lines header items bytes Io f = text_fault-behind grammar Ended header items bytes Io f.fails
 text_fault-read Done grammar Ended lines header items bytes TooLong f = text_fault-behind grammar Ended header items bytes TooLong f.fails
+
+-- what a taker was given is what was read
+module _ {F H E T Done : Type 0} (grammar : Grammar F H E) (Ended : Type 0) (taking : Taking T E) (old new : Lines F)
+    (before after : T) (items : List E) (bytes : List ℕ) where
+  pub given-read : (result : Result Done TextFault) → AreGiven grammar Ended taking old new before after items bytes result
+      → (header : H) (given : List E) (earlier : List ℕ) → HasRead grammar old header given earlier
+      → AreReadFor grammar Ended new header (given ++ items) (earlier ++ bytes) result
+  given-read (Ok done) g header given earlier r = g.0 header given earlier r
+  given-read (Err BadHeader) g header given earlier r = g.0 header given earlier r
+  given-read (Err (BadLine number)) g header given earlier r = g.0 header given earlier r
+  given-read (Err (Cut number)) g header given earlier r = g.0 header given earlier r
+  given-read (Err Memory) g header given earlier r = record { last = g.last; read = g.read header given earlier r }
+  given-read (Err Io) g header given earlier r = g.0 header given earlier r
+  given-read (Err TooLong) g header given earlier r = g.0 header given earlier r
 
 -- a whole text: the header was read, and then the items of all other lines
 module _ {F H E S : Type 0} {grammar : Grammar F H E} {From : FromSource S}

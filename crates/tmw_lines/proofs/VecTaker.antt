@@ -1,33 +1,28 @@
 -- What was read where a taker, such as a list, holds the items that it takes behind those that it held.
-use Rattle.tmw_lines.proofs.Shared.{BadHeader, BadLine, Cut, Err, FromSource, GivesAll, Grammar, Io, Lines, List, Memory, Ok, ReadsItems, Result, TextFault, TooLong, ◌++◌, ◌∙◌, ◌≡◌}
+use Rattle.tmw_lines.proofs.Shared.{AreGiven, BadHeader, BadLine, Cut, Err, FromSource, GivesAll, Grammar, Io, Lines, List, Memory, Ok, ReadsItems, Result, Taking, TextFault, TooLong, ℕ, ◌++◌, ◌∙◌, ◌≡◌}
+use Rattle.tmw_lines.proofs.TextsRead.{given-read}
 
-module _ {F H E S T Done : Type 0} (grammar : Grammar F H E) (From : FromSource S)
-    (Ended : Type 0) (Takes : T → List E → T → Type 0) (Lacks : T → E → T → Type 0) (held : T → List E)
-    (takes : (x : T) (items : List E) (y : T) → Takes x items y → held y ≡ held x ++ items)
-    (lacks : (x : T) (item : E) (y : T) → Lacks x item y → held y ≡ held x) (a b : S) (lines after : Lines F) (x y : T) where
-  -- the line that has the fault is behind those whose items are held
-  reads-fault : (fault : TextFault)
-      → (g : GivesAll {Done = Done} grammar From Ended Takes Lacks a b lines after x y (Err fault))
-      → ReadsItems {Done = Done} grammar From Ended a b lines after (held x) (held y) (Err fault)
-  reads-fault BadHeader g = record { bytes = g.bytes; items = g.items; told = g.told; is = takes x g.items y g.given.1; read = g.given.0 }
-  reads-fault (BadLine number) g =
-      record { bytes = g.bytes; items = g.items; told = g.told; is = takes x g.items y g.given.1; read = g.given.0 }
-  reads-fault (Cut number) g =
-      record { bytes = g.bytes; items = g.items; told = g.told; is = takes x g.items y g.given.1; read = g.given.0 }
-  reads-fault Memory g = record {
+module _ {F H E T Done : Type 0} (grammar : Grammar F H E) (Ended : Type 0) (taking : Taking T E) (held : T → List E)
+    (takes : (x : T) (items : List E) (y : T) → taking.takes x items y → held y ≡ held x ++ items)
+    (lacks : (x : T) (item : E) (y : T) → taking.lacks x item y → held y ≡ held x) (lines after : Lines F) (x y : T) where
+  held-given : (items : List E) (bytes : List ℕ) (result : Result Done TextFault)
+      → AreGiven grammar Ended taking lines after x y items bytes result → held y ≡ held x ++ items
+  held-given items bytes (Ok done) g = takes x items y g.1
+  held-given items bytes (Err BadHeader) g = takes x items y g.1
+  held-given items bytes (Err (BadLine number)) g = takes x items y g.1
+  held-given items bytes (Err (Cut number)) g = takes x items y g.1
+  held-given items bytes (Err Memory) g =
+      lacks g.taken.between g.last y g.taken.lacks ∙ takes x items g.taken.between g.taken.takes
+  held-given items bytes (Err Io) g = takes x items y g.1
+  held-given items bytes (Err TooLong) g = takes x items y g.1
+
+  pub reads-given : {S : Type 0} (From : FromSource S) (a b : S) (result : Result Done TextFault)
+      → GivesAll grammar From Ended taking a b lines after x y result
+      → ReadsItems grammar From Ended a b lines after (held x) (held y) result
+  reads-given From a b result g = record {
     bytes = g.bytes;
     items = g.items;
     told = g.told;
-    is = lacks g.given.between g.given.last y g.given.lacks ∙ takes x g.items g.given.between g.given.taken;
-    read = λ header given before r. record { last = g.given.last; read = g.given.read header given before r };
+    is = held-given g.items g.bytes result g.given;
+    read = given-read grammar Ended taking lines after x y g.items g.bytes result g.given;
   }
-  reads-fault Io g = record { bytes = g.bytes; items = g.items; told = g.told; is = takes x g.items y g.given.1; read = g.given.0 }
-  reads-fault TooLong g =
-      record { bytes = g.bytes; items = g.items; told = g.told; is = takes x g.items y g.given.1; read = g.given.0 }
-
-  pub reads-given : (result : Result Done TextFault)
-      → GivesAll grammar From Ended Takes Lacks a b lines after x y result
-      → ReadsItems grammar From Ended a b lines after (held x) (held y) result
-  reads-given (Ok done) g =
-      record { bytes = g.bytes; items = g.items; told = g.told; is = takes x g.items y g.given.1; read = g.given.0 }
-  reads-given (Err fault) g = reads-fault fault g

@@ -3,6 +3,7 @@ use Rattle.std.specs.Prelude.{ℕ, Result, Ok, Err, List, [], ◌∷◌, ◌++�
 use Rattle.tmw_lines.specs.Grammar.{Grammar}
 use Rattle.tmw_lines.specs.ReadItems.{EndsBehind, FailsHolding}
 use Rattle.tmw_lines.specs.Lines.{HasRead}
+use Rattle.tmw_lines.specs.Taker.{Taking, TakesButLast}
 use Rattle.tmw_lines.specs.declared.lines.Lines.{Lines}
 use Rattle.tmw_lines.specs.declared.text_fault.TextFault.{TextFault}
 use Rattle.tmw_lines.specs.declared.text_fault.TextFault.TheVariants.{Memory}
@@ -21,30 +22,28 @@ ReadsToFault grammar Ended old new items bytes fault = (header : _) (given : Lis
     → HasRead grammar old header given before → FailsHolding grammar Ended new header (given ++ items) (before ++ bytes) fault
 
 -- whatever had been read before, these items' lines were read and one line more, whose item was lacked
-pub record LacksBehind {F H E T : Type 0} (grammar : Grammar F H E) (Takes : T → List E → T → Type 0)
-    (Lacks : T → E → T → Type 0) (old new : Lines F) (before after : T) (items : List E) (bytes : List ℕ) : Type 0 where
+pub record LacksBehind {F H E T : Type 0} (grammar : Grammar F H E) (taking : Taking T E) (old new : Lines F)
+    (before after : T) (items : List E) (bytes : List ℕ) : Type 0 where
   pub last : E
-  pub between : T
   pub read : (header : H) (given : List E) (earlier : List ℕ) → HasRead grammar old header given earlier
       → HasRead grammar new header ((given ++ items) ++ last ∷ []) (earlier ++ bytes)
-  pub taken : Takes before items between
-  pub lacks : Lacks between last after
+  pub taken : TakesButLast taking before items last after
 
 -- these items were taken, and behind them comes the end, the line that has the fault, or for want of memory one line, whose item
 -- was lacked
-abbrev pub AreGiven : {F H E T Done : Type 0} → Grammar F H E → Type 0 → (T → List E → T → Type 0) → (T → E → T → Type 0)
-    → Lines F → Lines F → T → T → List E → List ℕ → Result Done TextFault → Type 0
-AreGiven grammar Ended Takes Lacks old new before after items bytes (Ok done) =
-    ReadsToEnd grammar Ended old items bytes × Takes before items after
-AreGiven grammar Ended Takes Lacks old new before after items bytes (Err Memory) =
-    LacksBehind grammar Takes Lacks old new before after items bytes
-AreGiven grammar Ended Takes Lacks old new before after items bytes (Err fault) =
-    ReadsToFault grammar Ended old new items bytes fault × Takes before items after
+abbrev pub AreGiven : {F H E T Done : Type 0} → Grammar F H E → Type 0 → Taking T E → Lines F → Lines F → T → T
+    → List E → List ℕ → Result Done TextFault → Type 0
+AreGiven grammar Ended taking old new before after items bytes (Ok done) =
+    ReadsToEnd grammar Ended old items bytes × taking.takes before items after
+AreGiven grammar Ended taking old new before after items bytes (Err Memory) =
+    LacksBehind grammar taking old new before after items bytes
+AreGiven grammar Ended taking old new before after items bytes (Err fault) =
+    ReadsToFault grammar Ended old new items bytes fault × taking.takes before items after
 
 -- what the source told makes, behind whatever the reader had read before, lines whose items the taker was given
-pub record GivesAll {F H E S T Done : Type 0} (grammar : Grammar F H E) (From : FromSource S) (Ended : Type 0) (Takes : T → List E → T → Type 0) (Lacks : T → E → T → Type 0)
-    (old new : S) (lines lines_after : Lines F) (before after : T) (result : Result Done TextFault) : Type 0 where
+pub record GivesAll {F H E S T Done : Type 0} (grammar : Grammar F H E) (From : FromSource S) (Ended : Type 0)
+    (taking : Taking T E) (old new : S) (lines lines_after : Lines F) (before after : T) (result : Result Done TextFault) : Type 0 where
   pub bytes : List ℕ
   pub items : List E
   pub told : Tells From old bytes new
-  pub given : AreGiven grammar Ended Takes Lacks lines lines_after before after items bytes result
+  pub given : AreGiven grammar Ended taking lines lines_after before after items bytes result

@@ -2,7 +2,7 @@
 use Rattle.std.specs.Prelude.{◌≡◌, ℕ, ◌≤◌, ◌^◌, List, ◌++◌, length, All}
 use Rattle.std.specs.List.{flat_map}
 use Rattle.tmw_lines.specs.FreeParts.{IsFree}
-use Rattle.tmw_lines.specs.Text.{line}
+use Rattle.tmw_lines.specs.LineFeeds.{line}
 
 -- the texts of headers and items, without their line feeds, and which of them a text may have: the header tells the
 -- format of the lines behind it, and each item fits that format

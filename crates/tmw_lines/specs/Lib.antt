@@ -1,13 +1,14 @@
 pub mod FreeParts
-pub mod GiveFirst
 pub mod GiveItems
 pub mod GiveLines
+pub mod GiveResult
 pub mod Grammar
 pub mod LineBuffer
+pub mod LineFeeds
 pub mod LinePiece
 pub mod Lines
 pub mod LongLine
 pub mod NextLine
 pub mod ReadItems
-pub mod Text
+pub mod Taker
 pub mod TextFault

@@ -3,7 +3,7 @@ use Rattle.std.specs.Prelude.{◌≡◌, ℕ, ◌≤◌, Option, Some, None, Res
 use Rattle.tmw_lines.specs.Grammar.{Grammar, lines_text, AreLines}
 use Rattle.tmw_lines.specs.LineBuffer.{bytes_of}
 use Rattle.tmw_lines.specs.NextLine.{HasLineFault}
-use Rattle.tmw_lines.specs.Text.{HoldsFront}
+use Rattle.tmw_lines.specs.LineFeeds.{HoldsFront}
 use Rattle.tmw_lines.specs.TextFault.{HasTextFault}
 use Rattle.tmw_lines.specs.declared.lines.Lines.{Lines}
 use Rattle.tmw_lines.specs.declared.lines.ReaderState.{ReaderState}
@@ -83,18 +83,18 @@ abbrev pub GivesFault : {F H E : Type 0} → Grammar F H E → Type 0 → Lines 
 GivesFault grammar Ended old bytes fault = (header : _) (items : List _) (before : List ℕ)
     → HasRead grammar old header items before → HasTextFault grammar Ended (before ++ bytes) fault
 
--- these bytes were read as an item's line, or as the end or a fault, at which the reader stays
+-- what a call of `next` that was told these bytes has answered: an item, the end, or a fault, which the reader keeps
 abbrev pub IsNextRead : {F H E : Type 0} → Grammar F H E → Type 0 → Lines F → Lines F → List ℕ → Result (Option E) TextFault → Type 0
 IsNextRead grammar Ended old new bytes (Ok (Some item)) = GivesItem grammar old new bytes item
 IsNextRead grammar Ended old new bytes (Ok None) = GivesEnd grammar Ended old bytes × IsOver new
 IsNextRead grammar Ended old new bytes (Err fault) =
     FailsAtLine grammar Ended old new bytes fault × GivesFault grammar Ended old bytes fault × HasFailed new fault
 
--- a call of `next` read, and has answered this
+-- a call of `next`: of the source, it was told some bytes, and the reader answers by them
 pub record ReadsNext {F H E S : Type 0} (grammar : Grammar F H E) (From : FromSource S) (a b : S) (old new : Lines F)
     (result : Result (Option E) TextFault) : Type 0 where
   -- the source told these bytes
   pub bytes : List ℕ
   pub told : Tells From a bytes b
-  -- they are what was answered
+  -- and answered by them
   pub is : IsNextRead grammar (From.ended b) old new bytes result

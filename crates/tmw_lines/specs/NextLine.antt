@@ -1,7 +1,7 @@
 -- What one line of a text gives: a header, an item, the end, or a fault.
 use Rattle.std.specs.Prelude.{◌≡◌, ◌≢◌, ℕ, ◌+◌, ◌<◌, ◌^◌, Option, Some, None, Result, Ok, Err, List, [], ◌++◌}
 use Rattle.tmw_lines.specs.Grammar.{Grammar}
-use Rattle.tmw_lines.specs.Text.{line, HoldsFront}
+use Rattle.tmw_lines.specs.LineFeeds.{line, HoldsFront}
 use Rattle.tmw_lines.specs.TextFault.{IsUnbroken, IsBadLine, HasFirstLineFault}
 use Rattle.tmw_lines.specs.declared.text_fault.TextFault.{TextFault}
 use Rattle.tmw_lines.specs.declared.text_fault.TextFault.TheVariants.{BadHeader, BadLine, Cut, Memory, Io, TooLong}

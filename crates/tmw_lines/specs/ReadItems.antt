@@ -3,7 +3,7 @@ use Rattle.std.specs.Prelude.{◌≡◌, ℕ, Result, Ok, Err, List, [], ◌∷�
 use Rattle.tmw_lines.specs.Grammar.{Grammar, lines_text, AreLines}
 use Rattle.tmw_lines.specs.NextLine.{HasLineFault}
 use Rattle.tmw_lines.specs.Lines.{HasRead, format_by, unread_bytes}
-use Rattle.tmw_lines.specs.Text.{HoldsFront}
+use Rattle.tmw_lines.specs.LineFeeds.{HoldsFront}
 use Rattle.tmw_lines.specs.declared.lines.Lines.{Lines}
 use Rattle.tmw_lines.specs.declared.text_fault.TextFault.{TextFault}
 use Rattle.tmw_lines.specs.declared.text_fault.TextFault.TheVariants.{Memory}

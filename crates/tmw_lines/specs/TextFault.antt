@@ -2,7 +2,7 @@
 use Rattle.std.specs.Prelude.{◌≡◌, ◌≢◌, ℕ, ◌+◌, ◌<◌, ◌≤◌, ◌^◌, ◌⊎◌, Result, Ok, Err, List, [], ◌++◌, length}
 use Rattle.tmw_lines.specs.Grammar.{Grammar, lines_text, AreLines, IsNoHeader, IsNoItem}
 use Rattle.tmw_lines.specs.FreeParts.{IsFree}
-use Rattle.tmw_lines.specs.Text.{line}
+use Rattle.tmw_lines.specs.LineFeeds.{line}
 use Rattle.tmw_lines.specs.declared.text_fault.TextFault.{TextFault}
 use Rattle.tmw_lines.specs.declared.text_fault.TextFault.TheVariants.{BadHeader, BadLine, Cut, Memory, Io, TooLong}
 use Rattle.tmw_streams.specs.Transfers.{one_more}

@@ -1,7 +1,7 @@
 ghost use Rattle.std.specs.Prelude.{◌≡◌, ◌+◌, ◌∷◌, ◌++◌, take, drop, IfSome, IfNone};
 ghost use Rattle.tmw_lines.specs.LineBuffer.{bytes_of};
 ghost use Rattle.tmw_lines.specs.NextLine.{ReadsHeader};
-ghost use Rattle.tmw_lines.specs.Text.{line};
+ghost use Rattle.tmw_lines.specs.LineFeeds.{line};
 ghost use Rattle.tmw_lines.specs.TextFault.{IsUnbroken, HasBadHeader, reading_failures};
 
 use crate::line_buffer::LineBuffer;

@@ -28,9 +28,8 @@ pub fn give_lines<F: LineFormat, T: Taker<F::Item>>(
     taker: &mut T,
 ) -> LineRun
     requires few { read ≤ 2 ^ 40 }
-    requires counted { T.counts taker.old read }
-    ensures { IsRun F.grammar T.takes T.lacks T.counts format bytes.now read taker.old taker.new
-        result }
+    requires counted { T.taking.counts taker.old read }
+    ensures { IsRun F.grammar T.taking format bytes.now read taker.old taker.new result }
 {
     let mut rest = bytes;
     let mut count = read;

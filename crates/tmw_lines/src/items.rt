@@ -20,10 +20,9 @@ pub fn give_items<F: LineFormat, S: Source, T: Taker<F::Item>>(
     taker: &mut T,
 ) -> Result<(), TextFault>
     requires begun { HasBegunToRead F.grammar lines.old }
-    requires counted { T.counts taker.old (items_given lines.old) }
-    ensures gives { GivesAll F.grammar S.from (S.from.ended source.new) T.takes T.lacks source.old
-        source.new lines.old
-        lines.new taker.old taker.new result }
+    requires counted { T.taking.counts taker.old (items_given lines.old) }
+    ensures gives { GivesAll F.grammar S.from (S.from.ended source.new) T.taking source.old
+        source.new lines.old lines.new taker.old taker.new result }
     ensures failures { S.from.failures source.new ≡ reading_failures result
         (S.from.failures source.old) }
     ensures over { OnOk result (IsOver lines.new) }

@@ -1,5 +1,5 @@
 ghost use Rattle.std.specs.Prelude.{◌≡◌, ℕ, ◌<◌, ◌≤◌, ◌^◌, List, length, IfSome, IfNone};
-ghost use Rattle.tmw_lines.specs.GiveFirst.{IsGiven};
+ghost use Rattle.tmw_lines.specs.GiveResult.{IsGiven};
 ghost use Rattle.tmw_lines.specs.Grammar.{Grammar, IsNaming, IsNoHeader, IsNoItem};
 
 use crate::give_result::GiveResult;
@@ -41,9 +41,8 @@ pub trait LineFormat: Copy {
     /// can read the line in one pass does so here. `Nothing` says nothing about the bytes: the reader then looks for
     /// the line's end and calls `item_of`.
     fn give_first<T: Taker<Self::Item>>(self, bytes: &[u8], taker: &mut T) -> GiveResult
-        requires { (count : ℕ) × (count < 2 ^ 40) × T.counts taker.old count }
-        ensures { IsGiven grammar T.takes T.lacks T.counts self bytes.now taker.old taker.new
-            result }
+        requires { (count : ℕ) × (count < 2 ^ 40) × T.taking.counts taker.old count }
+        ensures { IsGiven grammar T.taking self bytes.now taker.old taker.new result }
     {
         // A format that does nothing here uses neither.
         let _bytes = bytes;

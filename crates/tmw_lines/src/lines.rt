@@ -40,8 +40,8 @@ pub struct Lines<F> {
 }
 
 impl<F: LineFormat> Lines<F> {
-    ghost use Rattle.tmw_lines.specs.GiveFirst.{GivesItems, LacksLast};
-    ghost use Rattle.tmw_lines.specs.Text.{HoldsFront, front_of};
+    ghost use Rattle.tmw_lines.specs.GiveResult.{GivesItems, LacksLast};
+    ghost use Rattle.tmw_lines.specs.LineFeeds.{HoldsFront, front_of};
     ghost use Rattle.tmw_lines.specs.Lines.{IsNew, IsReading, IsOver, HasFailed, HasRead, format_by, items_given, unread, unread_bytes, ReadsNext};
 
     /// Makes a reader that has read nothing.
@@ -88,12 +88,12 @@ impl<F: LineFormat> Lines<F> {
     /// that was read. Before the header, and after `None` or a fault, it gives nothing and changes nothing.
     #[inline(always)]
     pub fn give_held<T: Taker<F::Item>>(&mut self, taker: &mut T) -> Result<(), AllocError>
-        requires { T.counts taker.old (items_given self.old) }
+        requires { T.taking.counts taker.old (items_given self.old) }
         ensures gives { OnOk result
-            (GivesItems F.grammar T.takes self.old self.new taker.old taker.new) }
-        ensures counted { OnOk result (T.counts taker.new (items_given self.new)) }
+            (GivesItems F.grammar T.taking self.old self.new taker.old taker.new) }
+        ensures counted { OnOk result (T.taking.counts taker.new (items_given self.new)) }
         ensures lacks { OnErr result
-            (LacksLast F.grammar T.takes T.lacks self.old self.new taker.old taker.new) }
+            (LacksLast F.grammar T.taking self.old self.new taker.old taker.new) }
         ensures fewer { unread self.new ≤ unread self.old }
         ensures idle { (IsReading self.old → ⊥) → (result ≡ Ok tt) × (self.new ≡ self.old)
             × (taker.new ≡ taker.old) }

@@ -6,11 +6,12 @@ use std::alloc::AllocError;
 
 /// A list takes items by holding them after those that it holds.
 impl<I: Copy> Taker<I> for Vec<I> {
-    ghost takes = { λ old items new. (new.items ≡ old.items ++ items) × (vec_capacity old ≤ vec_capacity new) };
-
-    ghost lacks = { λ old item new. (new.items ≡ old.items) × (vec_capacity old ≤ length new.items) };
-
-    ghost counts = { λ list count. Unit {0} };
+    ghost taking = { record {
+      takes = λ old items new. (new.items ≡ old.items ++ items)
+          × (vec_capacity old ≤ vec_capacity new);
+      lacks = λ old item new. (new.items ≡ old.items) × (vec_capacity old ≤ length new.items);
+      counts = λ list count. Unit {0};
+    } };
 
     fn take(&mut self, item: I) -> Result<(), AllocError> {
         match self.push(item) {

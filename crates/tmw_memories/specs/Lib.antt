@@ -1,3 +1,3 @@
 pub mod Calls
-pub mod Registers
-pub mod SequenceLock
+pub mod RegisterCount
+pub mod SequenceLockCalls

@@ -1,7 +1,7 @@
 ghost use Rattle.std.specs.Prelude.{◌≡◌, false};
-ghost use Rattle.tmw_memories.specs.Registers.{gated_registers};
+ghost use Rattle.tmw_memories.specs.RegisterCount.{gated_registers};
 
-use crate::gate::{Gate, Gated};
+use crate::gate_memory::{Gate, Gated};
 use crate::register_words::Words;
 use crate::tx_calls::TURNS;
 use std::sync::atomic::{AtomicU64, Ordering};

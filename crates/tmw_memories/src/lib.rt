@@ -4,14 +4,14 @@
 //! proved: they are what is tested. Proved is that each call returns, and what it does to its transaction.
 #![tactic(auto)]
 
-mod gate;
+mod gate_memory;
 mod global_lock;
 mod norec;
 mod register_words;
 mod torn;
 mod tx_calls;
 
-pub use gate::{Gate, Gated};
+pub use gate_memory::{Gate, Gated};
 pub use global_lock::{GlobalLock, Lock};
 pub use norec::NoRec;
 pub use torn::{OpenGate, Torn};

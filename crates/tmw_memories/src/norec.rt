@@ -1,7 +1,7 @@
 ghost use Rattle.std.specs.Prelude.{◌≡◌, ◌%◌, IfSome};
 ghost use Rattle.tmw_memories.specs.Calls.{Adds, IsEnded, Writes};
-ghost use Rattle.tmw_memories.specs.Registers.{norec_registers};
-ghost use Rattle.tmw_memories.specs.SequenceLock.{BeginsFree, CommitsOrAborts, ReadsAndKeeps};
+ghost use Rattle.tmw_memories.specs.RegisterCount.{norec_registers};
+ghost use Rattle.tmw_memories.specs.SequenceLockCalls.{BeginsFree, CommitsOrAborts, ReadsAndKeeps};
 
 use crate::register_words::Words;
 use crate::tx_calls::{TURNS, append, begin, end, latest, may_use, write};

@@ -20,7 +20,7 @@ pub use Rattle.tmw_defs.specs.Cuts.{is_cut}
 pub use Rattle.tmw_defs.specs.History.{Txn, is_well_formed, transactions}
 pub use Rattle.tmw_defs.specs.Opaque.{State}
 pub use Rattle.tmw_defs.specs.Outcomes.{Ends, MoreThan}
-pub use Rattle.tmw_defs.specs.Summary.{SumsUp}
+pub use Rattle.tmw_defs.specs.LastCut.{SumsUp}
 pub use Rattle.tmw_defs.specs.Verdict.{IsFine, IsMalformed, IsTooMany, IsTooWide, IsVerdict, IsViolated, Rules}
 pub use Rattle.tmw_defs.specs.declared.criterion.Criterion.{Criterion}
 pub use Rattle.tmw_defs.specs.declared.criterion.Criterion.TheVariants.{Opacity, Strict}
@@ -33,7 +33,7 @@ pub use Rattle.tmw_search.specs.EndStates.{EndsOf, HasMoreThan}
 pub use Rattle.tmw_wellformed.specs.Faults.{Refuses, asks}
 pub use Rattle.tmw_witness.specs.Witness.{ExplainsWith, Witnesses, committed_of, rank_of, state_of}
 pub use Rattle.tmw_witness.specs.declared.witness.Witness.{Witness}
-pub use Rattle.tmw_monitor.specs.AtOnce.{StaysKept}
+pub use Rattle.tmw_monitor.specs.TakeAtOnce.{StaysKept}
 pub use Rattle.tmw_monitor.specs.BrokenRule.{IsBrokenAt, TellsBroken, TellsFollowed}
 pub use Rattle.tmw_monitor.specs.Fits.{Fits, Keeps, KeepsNothing, TellsWrong, rules_for}
 pub use Rattle.tmw_monitor.specs.OutcomeCheck.{Closes, StaysOpen, Tells, wrong_of}

@@ -7,7 +7,7 @@ use Rattle.tmw_defs.specs.declared.criterion.Criterion.{Criterion}
 use Rattle.tmw_defs.specs.declared.criterion.Criterion.TheVariants.{Opacity}
 use Rattle.tmw_defs.specs.Criteria.{so_far}
 use Rattle.tmw_defs.specs.Opaque.{State}
-use Rattle.tmw_defs.specs.Summary.{SumsUp}
+use Rattle.tmw_defs.specs.LastCut.{SumsUp}
 use Rattle.tmw_defs.specs.Verdict.{Rules, IsVerdict}
 use Rattle.tmw_defs.specs.declared.verdict.Verdict.{Verdict}
 use Rattle.tmw_cuts.specs.Members.{members}

@@ -8,7 +8,7 @@ use Rattle.tmw_events.specs.declared.event.Event.{Event}
 use Rattle.tmw_defs.specs.Criteria.{outcomes_by}
 use Rattle.tmw_defs.specs.History as told
 use Rattle.tmw_defs.specs.Opaque.{State}
-use Rattle.tmw_defs.specs.Summary.{IsLastCut}
+use Rattle.tmw_defs.specs.LastCut.{IsLastCut}
 use Rattle.tmw_defs.specs.Verdict.{Rules}
 use Rattle.tmw_cuts.specs.Members.{members}
 use Rattle.tmw_cuts.specs.StandsFor.{turn_at, views, views_of}

@@ -1,7 +1,7 @@
-pub mod AtOnce
 pub mod BadBounds
 pub mod BrokenRule
 pub mod Fits
 pub mod HoldsOpen
 pub mod Monitor
 pub mod OutcomeCheck
+pub mod TakeAtOnce

@@ -1,7 +1,6 @@
 //! The verdict on a history as its events come, with no event kept.
 #![tactic(auto)]
 
-mod at_once;
 mod bounds;
 mod broken_rule;
 mod history_digest;
@@ -13,6 +12,7 @@ mod next_wrong;
 mod outcome_check;
 mod search_or_close;
 mod take;
+mod take_at_once;
 
 pub use bounds::{BadBounds, Bounds};
 pub use broken_rule::BrokenRule;

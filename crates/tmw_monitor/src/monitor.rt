@@ -6,12 +6,12 @@ ghost use Rattle.tmw_defs.specs.Cuts.{is_cut};
 ghost use Rattle.tmw_defs.specs.Opaque.{zeros};
 ghost use Rattle.tmw_defs.specs.Verdict.{Rules, IsVerdict};
 
-use crate::at_once::take_at_once;
 use crate::bounds::Bounds;
 use crate::broken_rule::{BrokenRule, follow};
 use crate::history_digest::HistoryDigest;
 use crate::is_so_far::is_so_far;
 use crate::next_wrong::next_wrong;
+use crate::take_at_once::take_at_once;
 use std::alloc::{AllocError, Global};
 use tmw_cuts::{State, States, Window};
 use tmw_defs::{Criterion, Verdict};

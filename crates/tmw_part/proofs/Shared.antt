@@ -22,13 +22,13 @@ pub use Rattle.tmw_defs.specs.declared.status.Status.TheVariants.{Aborted, Commi
 pub use Rattle.tmw_events.specs.declared.event.Event.{Event}
 pub use Rattle.tmw_part.specs.FindPart.{Fails, IsNeededIn, IsPartIn, IsViolated, IsViolatedPart, TellsViolated}
 pub use Rattle.tmw_part.specs.Marks.{all_kept, is_of_any, keeps_last, kept_of, places_of, without_from}
-pub use Rattle.tmw_part.specs.Names.{owner_in}
+pub use Rattle.tmw_part.specs.NameInWindow.{owner_in}
 pub use Rattle.tmw_part.specs.Origins.{or_before, origin_from, origin_of}
 pub use Rattle.tmw_part.specs.Pieces.{calls_from, is_put_from, readers_from}
 pub use Rattle.tmw_part.specs.Reasons.{Changes, ComesFrom, HoldsIn, IsNeededEachIn, IsReasonIn, IsUnchanged, ReasonLaw, ReasonTells, StandsAt, StandsBefore, StandsBeforeWriter, begin_apart}
 pub use Rattle.tmw_part.specs.ReasonSteps.{Derives, begins_before, comes_not_else, contradicts, ends_before, follows, from_else, gives, has_place, has_writer, is_asked, is_before, is_committed, is_excluded, is_held, is_known_rival, is_pair, is_rival, is_same_writer, is_some_of, may_come_from, needs, ops_at, orders, supplies}
-pub use Rattle.tmw_part.specs.WindowEvents.{AreTaken, AreUnfit}
-pub use Rattle.tmw_part.specs.IsPart.{agree, are_ops_left, are_placed, are_whole, is_among, is_left_of, is_part_at, is_same, is_same_op, is_same_status, is_stay, keeps_part, may_miss_all, nothing, txn_at, without_number}
+pub use Rattle.tmw_part.specs.TakeEvents.{AreTaken, AreUnfit}
+pub use Rattle.tmw_part.specs.PartTest.{agree, are_ops_left, are_placed, are_whole, is_among, is_left_of, is_part_at, is_same, is_same_op, is_same_status, is_stay, keeps_part, may_miss_all, nothing, txn_at, without_number}
 pub use Rattle.tmw_part.specs.UnlikeAnswers.{first_unlike, unlike_or}
 pub use Rattle.tmw_part.specs.declared.piece.Piece.{Piece}
 pub use Rattle.tmw_part.specs.declared.reason_step.ReasonStep.{ReasonStep}

@@ -11,7 +11,7 @@ use Rattle.tmw_part.specs.declared.piece.Piece.{Piece}
 use Rattle.tmw_part.specs.declared.whole_window.WholeWindow.{WholeWindow}
 use Rattle.tmw_part.specs.Marks.{all_kept, kept_of, without}
 use Rattle.tmw_part.specs.Pieces.{pieces, with_readers}
-use Rattle.tmw_part.specs.IsPart.{keeps_part}
+use Rattle.tmw_part.specs.PartTest.{keeps_part}
 
 -- From one of these states the events' transactions have a serial order.
 abbrev pub HasOrderFrom : Criterion → List State → List Event → Type 0

@@ -1,10 +1,10 @@
 pub mod FindPart
-pub mod IsPart
 pub mod Marks
-pub mod Names
+pub mod NameInWindow
 pub mod Origins
+pub mod PartTest
 pub mod Pieces
 pub mod ReasonSteps
 pub mod Reasons
+pub mod TakeEvents
 pub mod UnlikeAnswers
-pub mod WindowEvents

@@ -17,7 +17,7 @@ use Rattle.tmw_part.specs.declared.reason_step.ReasonStep.{ReasonStep}
 use Rattle.tmw_part.specs.declared.reason_step.ReasonStep.TheVariants.{RealTime, From, ReadFirst, ChangedFirst, Through}
 use Rattle.tmw_part.specs.declared.reason_step.Contradiction.{Contradiction}
 use Rattle.tmw_part.specs.declared.reason_step.Contradiction.TheVariants.{Cycle, NoSource, Unlike}
-use Rattle.tmw_part.specs.IsPart.{txn_at}
+use Rattle.tmw_part.specs.PartTest.{txn_at}
 use Rattle.tmw_part.specs.UnlikeAnswers.{first_unlike}
 
 -- The operations of the transaction at this place.

@@ -1,7 +1,7 @@
 ghost use Rattle.std.specs.Prelude.{ℕ, List, [], ◌∷◌, ◌++◌, IfOk, IfSome, IfNone, IsTrue, IsFalse};
 ghost use Rattle.tmw_events.specs.declared.event.Event.{Event};
 ghost use Rattle.tmw_part.specs.FindPart.{TellsIn};
-ghost use Rattle.tmw_part.specs.WindowEvents.{AreTaken, AreUnfit};
+ghost use Rattle.tmw_part.specs.TakeEvents.{AreTaken, AreUnfit};
 
 use crate::transaction::MOST_TRANSACTIONS;
 use crate::whole_window::WholeWindow;

@@ -2,11 +2,11 @@ ghost use Rattle.std.specs.Prelude.{◌≡◌, ◌≤◌, IfOk, IsTrue, IsFalse,
 ghost use Rattle.tmw_defs.specs.History.{transactions};
 ghost use Rattle.tmw_part.specs.FindPart.{FailsIn, IsPartIn};
 ghost use Rattle.tmw_part.specs.Marks.{kept_of};
-ghost use Rattle.tmw_part.specs.IsPart.{keeps_part};
+ghost use Rattle.tmw_part.specs.PartTest.{keeps_part};
 
 use crate::is_violated::is_violated;
 use crate::marks::{are_whole, keeps_last, kept_of, may_miss_all, places_of};
-use crate::part::is_part;
+use crate::part_test::is_part;
 use crate::piece::push_calls;
 use crate::transaction::transactions;
 use crate::whole_window::WholeWindow;

@@ -6,32 +6,32 @@ mod is_left_of;
 mod is_violated;
 mod is_violated_part;
 mod marks;
-mod part;
 mod part_search;
+mod part_test;
 mod piece;
 mod readers;
 mod transaction;
 mod whole_window;
 
 // The reason: the steps that are tried, which follow, what they come to, and which are needed.
-mod by_steps;
-mod candidates;
-mod closure;
+mod candidate_steps;
 mod contradictions;
 mod kept_transaction;
-mod prune;
+mod prune_steps;
 mod question;
 mod reason;
 mod reason_step;
 mod register_use;
+mod step_closure;
+mod step_facts;
 mod step_rules;
 
 // Where a value comes from, and where a transaction's name is drawn.
-mod name_places;
+mod name_in_window;
 mod origin;
 
 pub use marks::kept_of;
-pub use name_places::{Name, names_of};
+pub use name_in_window::{Name, names_of};
 pub use origin::{Fate, Origin, find_origin};
 pub use part_search::{MOST_EVENTS, find_part};
 pub use reason::{Reason, find_reason, law_reason};

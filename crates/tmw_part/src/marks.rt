@@ -1,7 +1,7 @@
 //! Which events of a window are kept: a mark for each, in order.
 ghost use Rattle.std.specs.Prelude.{◌≡◌, IfOk, slice_index_or, true};
 ghost use Rattle.tmw_part.specs.Marks.{is_of_any, keeps_last, kept_of, places_of, without};
-ghost use Rattle.tmw_part.specs.IsPart.{are_whole, may_miss, may_miss_all};
+ghost use Rattle.tmw_part.specs.PartTest.{are_whole, may_miss, may_miss_all};
 
 use crate::is_left_of::is_unread;
 use crate::piece::Piece;

@@ -2,7 +2,7 @@ ghost use Rattle.std.specs.Prelude.{◌≡◌, ◌+◌, ◌<◌, ◌^◌, IfOk, 
 ghost use Rattle.tmw_part.specs.Origins.{answered_from, fate_by, is_as_expected, made, origin_at, origin_of, puts_before};
 
 use crate::is_left_of::is_answered;
-use crate::name_places::owner;
+use crate::name_in_window::owner;
 use crate::piece::call_of;
 use crate::readers::{next_of, puts};
 use crate::register_use::{known_after, left_by};

@@ -2,12 +2,12 @@ ghost use Rattle.std.specs.Prelude.{◌≡◌, ◌==◌, ◌<◌, ◌&&◌, Some
 ghost use Rattle.std.specs.List.{list_all, list_any, range_with_len};
 ghost use Rattle.tmw_defs.specs.Opaque.{precedes};
 ghost use Rattle.tmw_part.specs.ReasonSteps.{comes_not_else, contradicts, follows, has_place, has_writer, is_asked, is_before, is_excluded, is_held, is_known_rival, is_left_by_none, is_only, is_rival, may_come_from, stands_between};
-ghost use Rattle.tmw_part.specs.IsPart.{txn_at};
+ghost use Rattle.tmw_part.specs.PartTest.{txn_at};
 
-use crate::by_steps::{begins_before, ends_before, is_before, is_given, is_supplied};
 use crate::question::Question;
 use crate::reason_step::{Contradiction, ReasonStep, ValueSource};
 use crate::register_use::{find_unlike, left_by, needs, writes};
+use crate::step_facts::{begins_before, ends_before, is_before, is_given, is_supplied};
 use crate::transaction::{Transaction, precedes, status_of};
 use tmw_cuts::State;
 use tmw_defs::{Criterion, Status};

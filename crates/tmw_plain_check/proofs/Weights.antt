@@ -2,8 +2,8 @@
 use Rattle.tmw_plain_check.proofs.Shared.{Bool, Criterion, Err, Event, HasOrderBy, IsFalse, IsFaultless, IsFirstAtFault, IsNotFinal, IsTrue, JudgesBy, List, Ok, PlainTransaction, State, Txn, Weighs, [], ap, arith, both_ways, cases_lt, false, has_completion, is_explained, is_explained-complete, is_explained-sound, is_well_formed, length, length-map, length-take, refl, take, transactions, true, txns_of, ℕ, ◌+◌, ◌<◌, ◌∙◌, ◌≡◌, ◌≤◌}
 use Rattle.tmw_defs.specs.declared.criterion.Criterion.TheVariants.{Opacity, Strict}
 use Rattle.tmw_defs.specs.Criteria.{IsFinalBy}
-use Rattle.tmw_plain_check.specs.declared.whole.WholeFault.{WholeFault}
-use Rattle.tmw_plain_check.specs.declared.whole.WholeFault.TheVariants.{IllFormed}
+use Rattle.tmw_plain_check.specs.declared.whole_verdict.WholeFault.{WholeFault}
+use Rattle.tmw_plain_check.specs.declared.whole_verdict.WholeFault.TheVariants.{IllFormed}
 use Rattle.tmw_plain_check.proofs.CompletionProof.{has_completion-sound, has_completion-complete}
 
 -- what a history is asked by a criterion: to be well-formed, and that its transactions have an order

@@ -1,7 +1,7 @@
 -- Whether what some completion of transactions holds has a legal serial order, by trying each choice of what it holds. That this
 -- decides strict serializability is proved in proofs/CompletionProof.
 use Rattle.std.specs.Prelude.{◌&&◌, ◌||◌, ◌++◌, Bool, true, false, List, [], ◌∷◌}
-use Rattle.tmw_defs.specs.Decision.{is_explained}
+use Rattle.tmw_defs.specs.OrderDecision.{is_explained}
 use Rattle.tmw_defs.specs.History.{Txn, status_of}
 use Rattle.tmw_defs.specs.Opaque.{State, may_hold}
 

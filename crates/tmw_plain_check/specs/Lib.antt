@@ -1,3 +1,3 @@
 pub mod Completions
-pub mod TransactionViews
+pub mod PlainTransaction
 pub mod Verdict

@@ -6,10 +6,10 @@ use Rattle.tmw_defs.specs.declared.criterion.Criterion.TheVariants as by
 use Rattle.tmw_defs.specs.Criteria.{ExplainsBy, IsFinalBy}
 use Rattle.tmw_defs.specs.History.{Txn, transactions, is_well_formed}
 use Rattle.tmw_defs.specs.Opaque.{State, Placed}
-use Rattle.tmw_plain_check.specs.declared.whole.Whole.{Whole}
-use Rattle.tmw_plain_check.specs.declared.whole.Whole.TheVariants.{Opaque, Strict, Violated}
-use Rattle.tmw_plain_check.specs.declared.whole.WholeFault.{WholeFault}
-use Rattle.tmw_plain_check.specs.declared.whole.WholeFault.TheVariants.{IllFormed, Ninth, Memory}
+use Rattle.tmw_plain_check.specs.declared.whole_verdict.Whole.{Whole}
+use Rattle.tmw_plain_check.specs.declared.whole_verdict.Whole.TheVariants.{Opaque, Strict, Violated}
+use Rattle.tmw_plain_check.specs.declared.whole_verdict.WholeFault.{WholeFault}
+use Rattle.tmw_plain_check.specs.declared.whole_verdict.WholeFault.TheVariants.{IllFormed, Ninth, Memory}
 
 -- Nothing is at fault: the history is final-state opaque, or final-state strict where that is the criterion, and has at most eight
 -- transactions.

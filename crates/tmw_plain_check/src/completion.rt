@@ -1,6 +1,6 @@
 ghost use Rattle.std.specs.Prelude.{◌≡◌, ◌∷◌, ◌++◌, [], IfOk};
 ghost use Rattle.tmw_plain_check.specs.Completions.{goes_with, has_completion};
-ghost use Rattle.tmw_plain_check.specs.TransactionViews.{txn_of, txns_of, shown};
+ghost use Rattle.tmw_plain_check.specs.PlainTransaction.{txn_of, txns_of, shown};
 
 use crate::operation_and_status::status_of;
 use crate::order::has_order;

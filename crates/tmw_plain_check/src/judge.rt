@@ -4,7 +4,7 @@ ghost use Rattle.tmw_plain_check.specs.Verdict.{Judges, JudgesBy, Weighs};
 use crate::completion::has_completion;
 use crate::order::is_explained;
 use crate::plain_transaction::transactions;
-use crate::whole::{Whole, WholeFault};
+use crate::whole_verdict::{Whole, WholeFault};
 use std::alloc::Global;
 use tmw_cuts::State;
 use tmw_defs::Criterion;

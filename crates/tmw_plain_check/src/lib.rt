@@ -8,7 +8,7 @@ mod operation_and_status;
 mod order;
 mod plain_transaction;
 mod replay;
-mod whole;
+mod whole_verdict;
 
 pub use judge::{judge_whole, judge_whole_for, judge_whole_from};
-pub use whole::{Whole, WholeFault};
+pub use whole_verdict::{Whole, WholeFault};

@@ -1,8 +1,8 @@
 -- The kinds of the events for which places were claimed: of one list of places behind another, and of a writer's places in a log.
 use Rattle.tmw_pump.proofs.Shared.{Event, List, [], ap, cases_Bool, made_from, refl, ℕ, ◌++◌, ◌+◌, ◌∷◌, ◌≡◌, arith}
-use Rattle.tmw_defs.specs.Texts.{kinds_of}
+use Rattle.tmw_defs.specs.ThreadTransactions.{kinds_of}
 use Rattle.tmw_events.specs.declared.event.Kind.{Kind}
-use Rattle.tmw_pump.specs.Kinds.{kinds_made}
+use Rattle.tmw_pump.specs.WriterKinds.{kinds_made}
 use Rattle.tmw_ring.specs.declared.seat_part.Made.{Made}
 
 pub kinds_made-append : (old fresh : List Made) → kinds_made (old ++ fresh) ≡ kinds_made old ++ kinds_made fresh

@@ -18,7 +18,7 @@ pub use Rattle.tmw_monitor.specs.Fits.{Fits}
 pub use Rattle.tmw_monitor.specs.Monitor.{IsOpen, criterion_of, verdict_of}
 pub use Rattle.tmw_monitor.specs.declared.monitor.Monitor.{Monitor}
 pub use Rattle.tmw_ring.specs.RingEnds.{ReaderIs, ReaderOf, WriterIs}
-pub use Rattle.tmw_ring.specs.Parts.{made_from}
+pub use Rattle.tmw_ring.specs.SeatPart.{made_from}
 pub use Rattle.tmw_pump.specs.Front.{HasCome, HasJudged, KeepsFit, came}
 pub use Rattle.tmw_pump.specs.Headline.{GivesHeadline, Headline, IsFirstViolation, IsLogOf, IsWithinBounds}
 pub use Rattle.tmw_pump.specs.HeldEvent.{WasCounted, WasFed, listed}

@@ -10,7 +10,7 @@ use Rattle.tmw_defs.specs.declared.verdict.Verdict.TheVariants.{OpaqueSoFar, Vio
 use Rattle.tmw_defs.specs.declared.verdict.Why.TheVariants.{Transactions, States}
 use Rattle.tmw_monitor.specs.Fits.{Fits}
 use Rattle.tmw_ring.specs.RingEnds.{WriterIs}
-use Rattle.tmw_ring.specs.Parts.{made_from}
+use Rattle.tmw_ring.specs.SeatPart.{made_from}
 use Rattle.tmw_pump.specs.Front.{judged_of, monitor_of}
 use Rattle.tmw_pump.specs.declared.front.Front.{Front}
 

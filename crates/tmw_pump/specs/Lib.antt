@@ -2,6 +2,6 @@ pub mod Front
 pub mod Headline
 pub mod HeldEvent
 pub mod Keep
-pub mod Kinds
 pub mod Pump
 pub mod Rest
+pub mod WriterKinds

@@ -3,7 +3,7 @@ use Rattle.tmw_report.proofs.Shared.{Err, IsSent, List, Ok, Puts, QuotesLine, Re
 use Rattle.std.proofs.lemmas.Bool.Decides.{nat_tests}
 use Rattle.tmw_lines.specs.ReadItems.{AreReadFor, FailsHolding}
 use Rattle.tmw_lines.specs.Lines.{format_by, unread_bytes}
-use Rattle.tmw_lines.specs.Text.{HoldsFront, front_of, line_at}
+use Rattle.tmw_lines.specs.LineFeeds.{HoldsFront, front_of, line_at}
 use Rattle.tmw_lines.specs.TextFault.{HasFirstLineFault}
 use Rattle.tmw_lines.specs.declared.lines.Lines.{Lines}
 use Rattle.tmw_lines.specs.declared.text_fault.TextFault.{TextFault}
@@ -11,7 +11,7 @@ use Rattle.tmw_lines.specs.declared.text_fault.TextFault.TheVariants.{BadHeader,
 use Rattle.tmw_lines.proofs.Fronts.{line-behind}
 use Rattle.tmw_streams.specs.Streams.{ToSink}
 use Rattle.tmw_events.specs.declared.event.Event.{Event}
-use Rattle.tmw_trace.specs.TextNames.{trace_naming}
+use Rattle.tmw_trace.specs.GrammarInjectivity.{trace_naming}
 use Rattle.tmw_trace.specs.declared.header.Header.{Header}
 use Rattle.tmw_trace.specs.declared.version.Version.{Version}
 use Rattle.tmw_report.specs.QuotesHeld.{QuotesHeld}

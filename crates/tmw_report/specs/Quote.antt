@@ -2,7 +2,7 @@
 use Rattle.std.specs.Prelude.{◌≡◌, ◌==◌, ◌&&◌, ◌||◌, ◌++◌, ◌+◌, ◌/◌, ◌%◌, ℕ, List, [], ◌∷◌, length, take, get_or, nat_le, nat_lt, Option, Some, None, Result, Ok, Err, codes, if◌then◌else◌}
 use Rattle.std.specs.Fmt.{decimal}
 use Rattle.std.specs.List.{flat_map}
-use Rattle.tmw_lines.specs.Text.{line, line_at}
+use Rattle.tmw_lines.specs.LineFeeds.{line, line_at}
 use Rattle.tmw_streams.specs.Streams.{ToSink}
 use Rattle.tmw_report.specs.SendText.{IsSent}
 use Rattle.tmw_report.specs.Remark.{Remarks}

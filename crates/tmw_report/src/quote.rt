@@ -1,6 +1,6 @@
 ghost use Rattle.std.specs.Prelude.{◌≡◌, ◌<◌, ◌++◌, option_map};
 ghost use Rattle.tmw_lines.specs.Lines.{format_by, unread_bytes};
-ghost use Rattle.tmw_lines.specs.Text.{front_of};
+ghost use Rattle.tmw_lines.specs.LineFeeds.{front_of};
 ghost use Rattle.tmw_report.specs.SendText.{fault_of};
 ghost use Rattle.tmw_report.specs.Quote.{escaped, escaped_byte, hex_digit, number_of, quote_end, quoted, quote_text, wrong_of};
 ghost use Rattle.tmw_report.specs.QuotesHeld.{QuotesHeld, text_of};

@@ -47,14 +47,14 @@ pub use native.Mathlib.Decide.{dec_le, ℕ_discrete}
 pub use Rattle.tmw_ring.specs.RingEnds.{ReaderIs, RingIs, WriterIs, WriterOf}
 pub use Rattle.tmw_ring.specs.Meet.{FindsTail, HasFoundTail, IsOf, IsOfLog, ReaderMeets, SeatsHaveMet, WriterMeets, with_tail}
 pub use Rattle.tmw_ring.specs.NewRing.{AreNewWriters, IsNewWriter}
-pub use Rattle.tmw_ring.specs.Parts.{Parts, key, made_from, new_parts, new_reader, new_writer, new_writers, run_of, size_of}
+pub use Rattle.tmw_ring.specs.SeatPart.{Parts, key, made_from, new_parts, new_reader, new_writer, new_writers, run_of, size_of}
 pub use Rattle.tmw_ring.specs.Record.{HasLooked, HasRecorded, HasStepped, IsRefusal, made_at}
 pub use Rattle.tmw_ring.specs.Room.{FindsFront, HasFoundFront, HasFoundRoom, RoomStaysLaw, with_run}
 pub use Rattle.tmw_ring.specs.Rule.{FitsPhase, IsReal, IsRecorded, Knows, Lies, PartFits, ReaderFits, Shown, WriterFits}
-pub use Rattle.tmw_ring.specs.Seats.{IsIdleWriter, IsReader, IsRingTable, IsWaitingReader, IsWriter, reader_in, reader_is, second_alone, without_second, writer_in, writer_is}
+pub use Rattle.tmw_ring.specs.SeatParts.{IsIdleWriter, IsReader, IsRingTable, IsWaitingReader, IsWriter, reader_in, reader_is, second_alone, without_second, writer_in, writer_is}
 pub use Rattle.tmw_ring.specs.Settle.{AreInOrder, HasEvent, IsSettled, event_at, events_from, header_at, part_of, value_at}
 pub use Rattle.tmw_ring.specs.Take.{HasFoundNone, HasTaken, IsReadyReader, IsToldEvent, IsToldReader, PlaceFreed, ReaderMade, StampSeen, ValueRead, after_free, after_look, after_read, freeing, next_event, peeking, phase_after, phase_with, reading}
-pub use Rattle.tmw_ring.specs.Words.{apart, cell_words, crossed, front_word, stamp_word, standing, tail_word, value_word, whole, word_count, words_of}
+pub use Rattle.tmw_ring.specs.TableWords.{apart, cell_words, crossed, front_word, stamp_word, standing, tail_word, value_word, whole, word_count, words_of}
 pub use Rattle.tmw_ring.specs.WriterSteps.{HasClaimed, HasFilled, HasPublished, HasSeenFront, HasSeenTail, IsSeatOf, WriterMade, claimed, claiming, done, filling, front_in, front_look, front_seen, place_in, publishing, tail_look, tail_seen, value_filled}
 pub use Rattle.tmw_ring.specs.declared.seat_part.Part.{Part}
 pub use Rattle.tmw_ring.specs.declared.seat_part.Part.TheVariants.{Reads, Writes}

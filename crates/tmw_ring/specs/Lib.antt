@@ -1,13 +1,13 @@
 pub mod Meet
 pub mod NewRing
-pub mod Parts
 pub mod Record
 pub mod RingEnds
 pub mod Room
 pub mod Rule
 pub mod RunLaws
-pub mod Seats
+pub mod SeatPart
+pub mod SeatParts
 pub mod Settle
+pub mod TableWords
 pub mod Take
-pub mod Words
 pub mod WriterSteps

@@ -7,7 +7,7 @@ use Rattle.tmw_events.specs.declared.event.Event.{Event}
 use Rattle.tmw_ring.specs.RingEnds.{WriterIs, ReaderIs}
 use Rattle.tmw_ring_defs.specs.Runs.{Gone, IsRunTo, reader_actor, writer_actor}
 use Rattle.tmw_ring_defs.specs.declared.ring_step.Answered.{Answered}
-use Rattle.tmw_ring.specs.Parts.{Parts, made_from, size_of}
+use Rattle.tmw_ring.specs.SeatPart.{Parts, made_from, size_of}
 use Rattle.tmw_ring.specs.Rule.{Knows}
 use Rattle.tmw_ring.specs.declared.seat_part.Part.{Part}
 use Rattle.tmw_ring.specs.declared.seat_part.Part.TheVariants.{Writes, Reads}

@@ -8,9 +8,9 @@ use Rattle.tmw_ring_defs.specs.Runs.{HasMade, writer_actor}
 use Rattle.tmw_ring_defs.specs.declared.ring_step.Answered.{Answered}
 use Rattle.tmw_ring.specs.RingEnds.{WriterIs}
 use Rattle.tmw_ring.specs.Meet.{FindsTail}
-use Rattle.tmw_ring.specs.Parts.{Parts}
+use Rattle.tmw_ring.specs.SeatPart.{Parts}
 use Rattle.tmw_ring.specs.Record.{IsRefusal}
-use Rattle.tmw_ring.specs.Seats.{writer_in, IsWriter}
+use Rattle.tmw_ring.specs.SeatParts.{writer_in, IsWriter}
 use Rattle.tmw_ring.specs.declared.seat_part.WriterPart.{WriterPart}
 use Rattle.tmw_ring.specs.declared.refused.Refused.{Refused}
 use Rattle.tmw_ring.specs.declared.refused.Refused.TheVariants.{Full, Spent}

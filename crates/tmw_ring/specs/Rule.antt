@@ -13,8 +13,8 @@ use Rattle.tmw_ring_defs.specs.declared.ring_phase.WriterPhase.{WriterPhase}
 use Rattle.tmw_ring_defs.specs.declared.ring_phase.WriterPhase.TheVariants.{Idle, Looked, Cleared, Claimed}
 use Rattle.tmw_ring_defs.specs.declared.ring_size.RingSize.{RingSize}
 use Rattle.tmw_ring_defs.specs.declared.ring_step.Answered.{Answered}
-use Rattle.tmw_ring.specs.Parts.{Parts, key, run_of, made_from}
-use Rattle.tmw_ring.specs.Words.{words_of}
+use Rattle.tmw_ring.specs.SeatPart.{Parts, key, run_of, made_from}
+use Rattle.tmw_ring.specs.TableWords.{words_of}
 use Rattle.tmw_ring.specs.declared.seat_part.Part.{Part}
 use Rattle.tmw_ring.specs.declared.seat_part.Part.TheVariants.{Writes, Reads}
 use Rattle.tmw_ring.specs.declared.seat_part.ReaderPart.{ReaderPart}

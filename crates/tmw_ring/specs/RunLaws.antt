@@ -13,9 +13,9 @@ use Rattle.tmw_ring_defs.specs.declared.ring_size.RingSize.{RingSize}
 use Rattle.tmw_ring_defs.specs.declared.ring_step.Answered.{Answered}
 use Rattle.tmw_ring_defs.specs.declared.ring_step.Reply.TheVariants.{Saw, NotReady}
 use Rattle.tmw_ring_defs.specs.declared.ring_step.Step.TheVariants.{Front, Peek}
-use Rattle.tmw_ring.specs.Parts.{Parts, key, run_of}
+use Rattle.tmw_ring.specs.SeatPart.{Parts, key, run_of}
 use Rattle.tmw_ring.specs.Rule.{Shown}
-use Rattle.tmw_ring.specs.Words.{words_of}
+use Rattle.tmw_ring.specs.TableWords.{words_of}
 use Rattle.tmw_ring.specs.declared.seat_part.Part.{Part}
 
 -- a state of a ring's table, which has no slot, and what a seat of it has

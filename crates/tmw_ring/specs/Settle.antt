@@ -10,8 +10,8 @@ use Rattle.tmw_ring_defs.specs.Runs.{Gone, IsRunTo, reader_actor, writer_actor}
 use Rattle.tmw_ring_defs.specs.declared.ring_phase.WriterPhase.TheVariants.{Idle}
 use Rattle.tmw_ring_defs.specs.declared.ring_step.Answered.{Answered}
 use Rattle.tmw_ring.specs.RingEnds.{WriterIs, ReaderIs}
-use Rattle.tmw_ring.specs.Parts.{made_from}
-use Rattle.tmw_ring.specs.Words.{stamp_word, value_word, word_count}
+use Rattle.tmw_ring.specs.SeatPart.{made_from}
+use Rattle.tmw_ring.specs.TableWords.{stamp_word, value_word, word_count}
 use Rattle.tmw_ring.specs.declared.seat_part.Part.{Part}
 use Rattle.tmw_ring.specs.declared.seat_part.Part.TheVariants.{Writes}
 

@@ -11,8 +11,8 @@ use Rattle.tmw_ring_defs.specs.declared.ring_step.Answered.{Answered}
 use Rattle.tmw_ring_defs.specs.declared.ring_step.Reply.TheVariants.{Ready as IsReady, NotReady, Word, Taken}
 use Rattle.tmw_ring_defs.specs.declared.ring_step.Step.TheVariants.{Peek, Read, Free}
 use Rattle.tmw_ring.specs.RingEnds.{ReaderIs}
-use Rattle.tmw_ring.specs.Parts.{Parts}
-use Rattle.tmw_ring.specs.Seats.{reader_in, IsReader}
+use Rattle.tmw_ring.specs.SeatPart.{Parts}
+use Rattle.tmw_ring.specs.SeatParts.{reader_in, IsReader}
 use Rattle.tmw_ring.specs.declared.seat_part.ReaderPart.{ReaderPart}
 
 -- how far the reader is that has taken so many events and found this word first in the next place's cell

@@ -10,9 +10,9 @@ use Rattle.tmw_ring_defs.specs.declared.ring_size.RingSize.{RingSize}
 use Rattle.tmw_ring_defs.specs.declared.ring_step.Answered.{Answered}
 use Rattle.tmw_ring_defs.specs.declared.ring_step.Reply.TheVariants.{Saw, Place, Filled, Published}
 use Rattle.tmw_ring_defs.specs.declared.ring_step.Step.TheVariants.{Front, Tail, Claim, Fill, Publish}
-use Rattle.tmw_ring.specs.Parts.{Parts}
+use Rattle.tmw_ring.specs.SeatPart.{Parts}
 use Rattle.tmw_ring.specs.Record.{made_at}
-use Rattle.tmw_ring.specs.Seats.{writer_in, IsWriter}
+use Rattle.tmw_ring.specs.SeatParts.{writer_in, IsWriter}
 use Rattle.tmw_ring.specs.declared.seat_part.WriterPart.{WriterPart}
 
 -- what a writer knows after it found this front, when the ring has run so

@@ -1,9 +1,9 @@
 //! A new ring, with all its ends.
 ghost use Rattle.std.specs.Prelude.{◌≡◌, [], length, IfOk, IfErr, OnOk};
 ghost use Rattle.tmw_ring.specs.NewRing.{AreNewWriters, IsNewRing};
-ghost use Rattle.tmw_ring.specs.Parts.{new_parts, new_reader};
-ghost use Rattle.tmw_ring.specs.Seats.{IsReader};
-ghost use Rattle.tmw_ring_defs.specs.Sizes.{IsNoRing};
+ghost use Rattle.tmw_ring.specs.SeatPart.{new_parts, new_reader};
+ghost use Rattle.tmw_ring.specs.SeatParts.{IsReader};
+ghost use Rattle.tmw_ring_defs.specs.RingSize.{IsNoRing};
 
 use crate::cell_layout::whole;
 use crate::ring_ends::{Reader, Ring, Writer};

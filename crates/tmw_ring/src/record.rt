@@ -6,8 +6,8 @@ ghost use Rattle.tmw_events.specs.EventWords.{packed_header, kind_value, IsHeade
 ghost use Rattle.tmw_events.specs.Text.{FitsKind};
 ghost use Rattle.tmw_ring.specs.RingEnds.{WriterOf};
 ghost use Rattle.tmw_ring.specs.Record.{HasRecorded, IsRefusal};
-ghost use Rattle.tmw_ring.specs.Seats.{writer_at, writer_in};
-ghost use Rattle.tmw_ring.specs.Words.{stamp_word, value_word};
+ghost use Rattle.tmw_ring.specs.SeatParts.{writer_at, writer_in};
+ghost use Rattle.tmw_ring.specs.TableWords.{stamp_word, value_word};
 ghost use Rattle.tmw_ring.specs.WriterSteps.{IsSeatOf, HasSeenFront, HasSeenTail, HasClaimed, HasFilled, HasPublished};
 
 use crate::cell_layout::{CellWords, words_at};

@@ -20,7 +20,7 @@ impl Model for Ring {
 
     ghost view = { λ ring. record { table = ring.table.shared.table_id; size = ring.size } };
 
-    ghost use Rattle.tmw_ring.specs.Seats.{IsRingTable};
+    ghost use Rattle.tmw_ring.specs.SeatParts.{IsRingTable};
 
     ghost invariant = { λ ring. IsRingTable ring.size ring.table.shared.key
         ring.table.shared.table_id };
@@ -38,7 +38,7 @@ impl Model for Writer {
 
     ghost Value = { WriterIs };
 
-    ghost use Rattle.tmw_ring.specs.Seats.{IsIdleWriter, writer_at, writer_in};
+    ghost use Rattle.tmw_ring.specs.SeatParts.{IsIdleWriter, writer_at, writer_in};
 
     ghost view = { λ writer. writer_at writer.seat.table_id writer.seat.me };
 
@@ -67,7 +67,7 @@ impl Model for Reader {
 
     ghost Value = { ReaderIs };
 
-    ghost use Rattle.tmw_ring.specs.Seats.{IsWaitingReader, reader_in, reader_is};
+    ghost use Rattle.tmw_ring.specs.SeatParts.{IsWaitingReader, reader_in, reader_is};
 
     ghost view = { λ reader. reader_is reader.seat.table_id (reader_in reader.seat.me.0) };
 

@@ -1,5 +1,5 @@
 //! The rule of the ring's table, which each step keeps.
-ghost use Rattle.tmw_ring.specs.Parts.{new_parts};
+ghost use Rattle.tmw_ring.specs.SeatPart.{new_parts};
 ghost use Rattle.tmw_ring.specs.Rule.{Shown};
 
 use crate::seat_part::Part;

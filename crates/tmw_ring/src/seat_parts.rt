@@ -1,6 +1,6 @@
 //! How the parts of a seat are split off, and joined with another's.
 ghost use Rattle.std.specs.Prelude.{[], ◌++◌};
-ghost use Rattle.tmw_ring.specs.Seats.{second_alone, without_second};
+ghost use Rattle.tmw_ring.specs.SeatParts.{second_alone, without_second};
 
 use crate::seat_part::Part;
 use atomic_table::{Join, Split};

@@ -1,9 +1,9 @@
 //! Taking the next event, in three steps of the reader.
 ghost use Rattle.std.specs.Prelude.{◌≡◌, ◌-◌, ◌<◌, ◌^◌, IfSome, IfNone};
 ghost use Rattle.tmw_ring.specs.RingEnds.{ReaderOf};
-ghost use Rattle.tmw_ring.specs.Seats.{IsWaitingReader};
+ghost use Rattle.tmw_ring.specs.SeatParts.{IsWaitingReader};
 ghost use Rattle.tmw_ring.specs.Take.{IsReadyReader, IsToldReader, StampSeen, ValueRead, PlaceFreed, HasTaken, HasFoundNone};
-ghost use Rattle.tmw_ring.specs.Words.{stamp_word, value_word};
+ghost use Rattle.tmw_ring.specs.TableWords.{stamp_word, value_word};
 
 use crate::cell_layout::{CellWords, words_at};
 use crate::ring_ends::{Reader, Ring};

@@ -32,7 +32,7 @@ pub struct RingSize {
 impl RingSize {
     ghost use Rattle.std.specs.Prelude.{◌≡◌, IfOk, IfErr};
     ghost use Rattle.tmw_ring_defs.specs.Room.{is_spent, is_full};
-    ghost use Rattle.tmw_ring_defs.specs.Sizes.{HasNumbers, IsWrongSize};
+    ghost use Rattle.tmw_ring_defs.specs.RingSize.{HasNumbers, IsWrongSize};
 
     /// Makes a size of these numbers. `BadSize`: there are not 1 to 8 writers, or fewer cells than writers, or more
     /// than 4,096 cells. `BadLimit`: cells and writers are right, and the limit is below the number of writers or

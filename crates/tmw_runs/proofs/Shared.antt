@@ -5,7 +5,7 @@ pub use Rattle.std.proofs.lemmas.List.{append-nil, drop_more, map-append, take-a
 pub use Rattle.std.specs.List.{list_all}
 pub use Rattle.std.specs.Prelude.{MatchBool, filter}
 pub use Rattle.tmw_defs.specs.History.{Txn, answers, ends, is_call, is_ended, is_text, is_well_formed, transactions}
-pub use Rattle.tmw_defs.specs.Texts.{AreTransactions, ended_but_last, joined_texts, kinds_of, of_thread, open_but_last}
+pub use Rattle.tmw_defs.specs.ThreadTransactions.{AreTransactions, ended_but_last, joined_texts, kinds_of, of_thread, open_but_last}
 pub use Rattle.tmw_events.specs.declared.event.Event.{Event}
 pub use Rattle.tmw_events.specs.declared.event.Kind.{Kind}
 pub use Rattle.tmw_events.specs.declared.event.Kind.TheVariants.{A, C, K, N, R, T, V, W, X}
@@ -15,6 +15,6 @@ pub use Rattle.tmw_tm.specs.Answers.Call.{Add, Begin, Commit, Read, Write}
 pub use Rattle.tmw_runs.specs.Laws.{FormedLaw, OverLaw, PlacedLaw, RunsLaw, StepLaw}
 pub use Rattle.tmw_runs.specs.Runs.{BeginsScript, IsBeginning, IsWholeRun, IsWholeText, is_abort}
 pub use Rattle.tmw_runs.specs.Scripts.{are_calls, are_transactions, is_operation, is_request, is_transaction}
-pub use Rattle.tmw_runs.specs.Stands.{AllStand, Gives, Stands, StandsSoFar}
+pub use Rattle.tmw_runs.specs.AnswersStand.{AllStand, Gives, Stands, StandsSoFar}
 pub use Rattle.tmw_runs.specs.ByTurns.{Follows, IsByTurns, IsPlaced, LeavesCalls}
-pub use Rattle.tmw_runs.specs.Turns.{is_turns}
+pub use Rattle.tmw_runs.specs.CallsAndAnswers.{is_turns}

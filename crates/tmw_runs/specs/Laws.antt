@@ -2,7 +2,7 @@
 -- and turns grow into whole runs.
 use Rattle.std.specs.Prelude.{◌≡◌, ◌<◌, ◌++◌, ℕ, suc, true, IsTrue, List, [], ◌∷◌, length, get_or, take}
 use Rattle.tmw_defs.specs.History.{is_call, is_well_formed}
-use Rattle.tmw_defs.specs.Texts.{kinds_of}
+use Rattle.tmw_defs.specs.ThreadTransactions.{kinds_of}
 use Rattle.tmw_events.specs.declared.event.Event.{Event}
 use Rattle.tmw_events.specs.declared.event.Kind.{Kind}
 use Rattle.tmw_events.specs.declared.event.Kind.TheVariants.{A}

@@ -1,7 +1,7 @@
+pub mod AnswersStand
 pub mod ByTurns
+pub mod CallsAndAnswers
 pub mod Laws
-pub mod Leaves
 pub mod Runs
+pub mod ScriptRest
 pub mod Scripts
-pub mod Stands
-pub mod Turns

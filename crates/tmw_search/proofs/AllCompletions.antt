@@ -1,6 +1,6 @@
 -- The ends from each start and by each completion are those of the criterion.
 use Rattle.tmw_search.proofs.Shared.{Adds, Agree, AllOpen, AreEnds, AreEndsFrom, Bool, Completes, Contains, Criterion, Effect, EndsBy, EndsByMore, EndsByReading, EndsFromAll, EndsIn, Entails, Event, In, IsEndOf, IsLegal, IsNode, IsRead, IsRoot, IsTrue, LeadsBy, List, Node, Open, Reads, ReadsAll, State, States, Window, [], arith, bit_at-zero, bit_at_ones, bit_or, contains_none, effects, false, get_or, get_or_default, inl, inr, length, map, members, members_of, refl, slice_index, subst, sym, transactions, true, view, views, ℕ, ◌%◌, ◌*◌, ◌+◌, ◌-◌, ◌<◌, ◌^◌, ◌↔◌, ◌∙◌, ◌≡◌, ◌≤◌}
-use Rattle.tmw_search.specs.declared.completions.Reading.{Reading}
+use Rattle.tmw_search.specs.declared.completion_ends.Reading.{Reading}
 use Rattle.tmw_search.specs.declared.end_states.EndStates.{EndStates}
 use Rattle.tmw_search.specs.declared.end_states.EndStates.TheVariants.{Few, Many}
 use Rattle.tmw_search.proofs.AddMembers.{OfFirst, adds-to, adds-empty, adds-both}

@@ -18,7 +18,7 @@ pub use Rattle.std.specs.Prelude.{MatchOption, get_or, if◌then◌else◌, remo
 pub use Rattle.tmw_cuts.proofs.Bits.{bit_at-before_of, bit_at-less_same, bit_at-more_other, bit_at-more_same, bit_small, mask-set, shift_is}
 pub use Rattle.tmw_cuts.proofs.FirstMembers.{contains_cases, contains_here, contains_none}
 pub use Rattle.tmw_cuts.specs.Members.{AddsMember, members}
-pub use Rattle.tmw_cuts.specs.Registers.{IsMaskOf, have}
+pub use Rattle.tmw_cuts.specs.RegisterMask.{IsMaskOf, have}
 pub use Rattle.tmw_cuts.specs.StandsFor.{StandsFor, before_of, view_of, views, views_of}
 pub use Rattle.tmw_cuts.specs.Views.{View, bit, effect_of, view}
 pub use Rattle.tmw_cuts.specs.RegisterUse.{needs, writes}
@@ -31,7 +31,7 @@ pub use Rattle.tmw_defs.specs.Criteria.{EndsBy, ExplainsBy, LeadsBy}
 pub use Rattle.tmw_defs.specs.History.{Txn, add_event, is_ended, is_over, operations, status_of, transactions, transactions_from}
 pub use Rattle.tmw_defs.specs.Opaque.{Placed, PlacesEach, State, after, after_writes, is_legal, keeps_order, may_be, may_hold, precedes, reads_hold}
 pub use Rattle.tmw_defs.specs.Outcomes.{Leads, Only, end_state}
-pub use Rattle.tmw_defs.specs.Quiet.{is_pending}
+pub use Rattle.tmw_defs.specs.QuietEvents.{is_pending}
 pub use Rattle.tmw_defs.specs.Strict.{AreHeld}
 pub use Rattle.tmw_defs.specs.declared.criterion.Criterion.{Criterion}
 pub use Rattle.tmw_defs.specs.declared.criterion.Criterion.TheVariants.{Opacity, Strict}
@@ -51,6 +51,6 @@ pub use Rattle.tmw_search.specs.declared.node.Branch.{Branch}
 pub use Rattle.tmw_search.specs.declared.node.Node.{Node}
 pub use Rattle.tmw_search.specs.declared.consequence.Consequence.{Consequence}
 pub use Rattle.tmw_search.specs.declared.consequence.Consequence.TheVariants.{Clear, Never, Stuck}
-pub use Rattle.tmw_search.specs.declared.choices.Choices.{Choices}
-pub use Rattle.tmw_search.specs.declared.choices.ReadSource.{ReadSource}
-pub use Rattle.tmw_search.specs.declared.choices.ReadSource.TheVariants.{From, Open, Start}
+pub use Rattle.tmw_search.specs.declared.source_choices.Choices.{Choices}
+pub use Rattle.tmw_search.specs.declared.source_choices.ReadSource.{ReadSource}
+pub use Rattle.tmw_search.specs.declared.source_choices.ReadSource.TheVariants.{From, Open, Start}

@@ -4,7 +4,7 @@ use Rattle.std.specs.List.{Contains}
 use Rattle.tmw_defs.specs.Opaque.{State}
 use Rattle.tmw_cuts.specs.declared.effect.Effect.{Effect}
 use Rattle.tmw_search.specs.declared.node.Node.{Node}
-use Rattle.tmw_search.specs.declared.choices.Choices.{Choices}
+use Rattle.tmw_search.specs.declared.source_choices.Choices.{Choices}
 use Rattle.tmw_search.specs.Precedence.{Chosen, Has}
 use Rattle.tmw_search.specs.NodeOrders.{In, left_at, IsLegal, IsNode}
 use Rattle.tmw_search.specs.LegalOrders.{EndsAt, EndsIn, members_of}
@@ -14,7 +14,7 @@ use Rattle.tmw_defs.specs.History.{transactions}
 use Rattle.tmw_events.specs.declared.event.Event.{Event}
 use Rattle.tmw_cuts.specs.StandsFor.{views_of}
 use Rattle.tmw_cuts.specs.Views.{view}
-use Rattle.tmw_search.specs.declared.completions.Reading.{Reading}
+use Rattle.tmw_search.specs.declared.completion_ends.Reading.{Reading}
 use Rattle.tmw_search.specs.declared.end_states.EndStates.{EndStates}
 use Rattle.tmw_search.specs.EndStates.{AreMembers}
 use Rattle.tmw_cuts.specs.declared.txn.Txn as cuts

@@ -13,12 +13,12 @@ use Rattle.tmw_defs.specs.Opaque.{State, precedes, may_hold, reads_hold, after_w
 use Rattle.tmw_defs.specs.Outcomes.{Only}
 use Rattle.tmw_search.specs.Precedence.{IsRanking, IsRead, source_at}
 use Rattle.tmw_cuts.specs.declared.effect.Effect.{Effect}
-use Rattle.tmw_search.specs.declared.choices.ReadSource.TheVariants.{Open}
+use Rattle.tmw_search.specs.declared.source_choices.ReadSource.TheVariants.{Open}
 use Rattle.tmw_search.specs.NodeOrders.{idle, In, Needs, left_at, Writes, Reads, Leaves}
 use Rattle.tmw_cuts.specs.Views.{View, bit, view, effect_of}
 use Rattle.std.specs.List.{Contains}
 use Rattle.tmw_events.specs.declared.event.Event.{Event}
-use Rattle.tmw_defs.specs.Quiet.{is_pending}
+use Rattle.tmw_defs.specs.QuietEvents.{is_pending}
 use Rattle.tmw_cuts.specs.StandsFor.{views_of}
 use Rattle.tmw_search.specs.OneEnd.{is_committed}
 use Rattle.tmw_search.specs.declared.node.Node.{Node}

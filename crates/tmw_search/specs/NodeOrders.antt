@@ -2,8 +2,8 @@
 use Rattle.std.specs.Prelude.{◌≡◌, ◌⊎◌, ◌↔◌, ◌<◌, ◌≤◌, ℕ, false, List, [], map, slice_index, get_or, IsTrue, Bool, IsFalse}
 use Rattle.std.specs.Int.{bit_at}
 use Rattle.tmw_defs.specs.Opaque.{State}
-use Rattle.tmw_search.specs.declared.choices.ReadSource.{ReadSource}
-use Rattle.tmw_search.specs.declared.choices.ReadSource.TheVariants.{Open, Start, From}
+use Rattle.tmw_search.specs.declared.source_choices.ReadSource.{ReadSource}
+use Rattle.tmw_search.specs.declared.source_choices.ReadSource.TheVariants.{Open, Start, From}
 use Rattle.tmw_cuts.specs.declared.effect.Effect.{Effect}
 use Rattle.tmw_cuts.specs.declared.txn.Txn.{Txn}
 use Rattle.tmw_cuts.specs.Views.{effect_of}

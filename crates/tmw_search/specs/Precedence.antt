@@ -4,9 +4,9 @@ use Rattle.std.specs.Prelude.{◌≡◌, ◌⊎◌, ◌<◌, ◌≤◌, ℕ, Boo
 use Rattle.std.specs.Int.{bit_at}
 use Rattle.tmw_search.specs.declared.consequence.Consequence.{Consequence}
 use Rattle.tmw_search.specs.declared.consequence.Consequence.TheVariants.{Never, Clear, Stuck}
-use Rattle.tmw_search.specs.declared.choices.Choices.{Choices}
-use Rattle.tmw_search.specs.declared.choices.ReadSource.{ReadSource}
-use Rattle.tmw_search.specs.declared.choices.ReadSource.TheVariants.{Open, Start, From}
+use Rattle.tmw_search.specs.declared.source_choices.Choices.{Choices}
+use Rattle.tmw_search.specs.declared.source_choices.ReadSource.{ReadSource}
+use Rattle.tmw_search.specs.declared.source_choices.ReadSource.TheVariants.{Open, Start, From}
 use Rattle.std.specs.List.{count_by}
 
 abbrev pub Has : List ℕ → ℕ → ℕ → Type 0

@@ -6,13 +6,13 @@ ghost use Rattle.tmw_search.specs.LastWriters.{ComeBefore, IsEndOf, EndWith, IsP
 ghost use Rattle.tmw_search.specs.NodeOrders.{In, effects, left_at, ordered, IsNode};
 ghost use Rattle.tmw_defs.specs.Opaque.{State};
 
-use crate::choices::Choices;
 use crate::effects::left_at;
 use crate::end_set::EndSet;
 use crate::node::Node;
 use crate::precedence::{Masks, join};
 use crate::search::any;
-use crate::settle_all::settle;
+use crate::settle_sources::settle;
+use crate::source_choices::Choices;
 use std::alloc::AllocError;
 use tmw_cuts::{MOST_TRANSACTIONS, State, Txn, lowest};
 

@@ -2,9 +2,8 @@
 //! whom and who reads from whom. Layers tell by opacity what each part of the window may end in.
 #![tactic(auto)]
 
-mod choices;
 #[tactic(auto, using(crate::proofs::Bits::masks))]
-mod completions;
+mod completion_ends;
 mod consequence;
 mod effects;
 mod end_set;
@@ -24,7 +23,8 @@ mod root;
 #[tactic(auto, using(crate::proofs::Bits::masks))]
 mod search;
 mod serial_order;
-mod settle_all;
+mod settle_sources;
+mod source_choices;
 mod window_outcomes;
 
 pub use end_states::EndStates;

@@ -1,5 +1,5 @@
 ghost use Rattle.std.specs.Prelude.{IsTrue, map};
-ghost use Rattle.tmw_cuts.specs.Registers.{IsMaskOf};
+ghost use Rattle.tmw_cuts.specs.RegisterMask.{IsMaskOf};
 ghost use Rattle.tmw_cuts.specs.Views.{view};
 ghost use Rattle.tmw_search.specs.OneEnd.{is_writer, AreForced};
 

@@ -1,15 +1,15 @@
 //! What follows at once from each read, before the search branches.
 ghost use Rattle.std.specs.Prelude.{◌≡◌, ◌<◌, ℕ, IsTrue, IsFalse, MatchOption, IfSome, IfNone, slice_index};
 ghost use Rattle.tmw_search.specs.Precedence.{IsRead, source_at};
-ghost use Rattle.tmw_search.specs.declared.choices.ReadSource.TheVariants.{Open};
+ghost use Rattle.tmw_search.specs.declared.source_choices.ReadSource.TheVariants.{Open};
 ghost use Rattle.tmw_search.specs.NodeOrders.{effects, need_at, In, IsNode, IsBranch, AllOpen, Entails, IsOnly, LeavesOut, NoneMay, TakesIn};
 
-use crate::choices::ReadSource;
 use crate::consequence::Consequence;
 use crate::effects::{need_at, written_at};
 use crate::node::{Branch, Node};
 use crate::search::{branch_of, give};
-use crate::settle_all::settle_source;
+use crate::settle_sources::settle_source;
+use crate::source_choices::ReadSource;
 use tmw_cuts::{State, Txn, lowest};
 
 /// Looks no more at a read that is settled.

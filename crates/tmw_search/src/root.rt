@@ -2,16 +2,16 @@
 ghost use Rattle.std.specs.Prelude.{◌≡◌, ◌<◌, ◌≤◌, ◌↔◌, ℕ, IsTrue, get_or, length, map};
 ghost use Rattle.tmw_cuts.specs.Views.{view};
 ghost use Rattle.tmw_defs.specs.Opaque.{State};
-ghost use Rattle.tmw_search.specs.declared.choices.ReadSource.TheVariants.{Open};
+ghost use Rattle.tmw_search.specs.declared.source_choices.ReadSource.TheVariants.{Open};
 ghost use Rattle.tmw_search.specs.NodeOrders.{In, effects, IsNode};
 ghost use Rattle.tmw_search.specs.Precedence.{IsOrder};
 ghost use Rattle.tmw_search.specs.LegalOrders.{members_of, Agree, Begins, IsRow, IsRoot, AreRising, ShowReads, ShowWriters, orderly, HaveEight, ShowsStatus};
 
-use crate::choices::{Choices, ReadSource};
 use crate::effects::{agrees, needed_at, written_at};
 use crate::node::Node;
 use crate::precedence::Masks;
 use crate::search::add_writer;
+use crate::source_choices::{Choices, ReadSource};
 use tmw_cuts::{MOST_TRANSACTIONS, State, Txn, lowest};
 use tmw_defs::{Criterion, Status};
 use tmw_events::MOST_REGISTERS;

@@ -1,17 +1,17 @@
 ghost use Rattle.std.specs.Prelude.{◌≡◌, ◌⊎◌, ◌↔◌, ◌<◌, IsTrue, ℕ, slice_index, get_or, MatchOption, None};
 ghost use Rattle.std.specs.Int.{bit_at};
 ghost use Rattle.tmw_search.specs.Precedence.{IsRead, WithinSource, source_at, opens, Has};
-ghost use Rattle.tmw_search.specs.declared.choices.ReadSource.{ReadSource};
-ghost use Rattle.tmw_search.specs.declared.choices.ReadSource.TheVariants.{From, Open};
+ghost use Rattle.tmw_search.specs.declared.source_choices.ReadSource.{ReadSource};
+ghost use Rattle.tmw_search.specs.declared.source_choices.ReadSource.TheVariants.{From, Open};
 ghost use Rattle.tmw_defs.specs.Opaque.{State};
 ghost use Rattle.tmw_search.specs.NodeOrders.{effects, left_at, In, Holds, FromIs, idle, MayBe, IsNode, IsFound, HasNone, IsBranch, MayGive, Gives};
 
-use crate::choices::{Choices, ReadSource};
 use crate::consequence::Consequence;
 use crate::effects::{agrees, left_at, need_at, needed_at, written_at};
 use crate::node::{Branch, Node};
 use crate::precedence::{Masks, has, precede};
-use crate::settle_all::settle;
+use crate::settle_sources::settle;
+use crate::source_choices::{Choices, ReadSource};
 use tmw_cuts::{State, Txn, lowest};
 use tmw_events::MOST_REGISTERS;
 

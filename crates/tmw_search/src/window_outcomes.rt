@@ -4,7 +4,7 @@ ghost use Rattle.tmw_cuts.specs.Members.{members};
 ghost use Rattle.tmw_cuts.specs.StandsFor.{StandsFor};
 ghost use Rattle.tmw_search.specs.EndStates.{TellsEnd, AreEnds, EndsOf, Replaces};
 
-use crate::completions::find_ends;
+use crate::completion_ends::find_ends;
 use crate::end_states::EndStates;
 use crate::find_serial_order::find_order;
 use crate::one_end::is_forced;

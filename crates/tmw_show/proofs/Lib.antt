@@ -1,4 +1,3 @@
-mod ReadFaults
 mod Shared
 mod ShowAnswers
 pub mod Shows

@@ -15,7 +15,6 @@ pub use Rattle.tmw_defs.specs.declared.verdict.Verdict.{Verdict}
 pub use Rattle.tmw_events.specs.Text.{FitsKind}
 pub use Rattle.tmw_events.specs.declared.event.Event.{Event}
 pub use Rattle.tmw_events.specs.declared.registers.Registers.{Registers}
-pub use Rattle.tmw_lines.specs.declared.text_fault.TextFault.TheVariants.{BadHeader, BadLine, Cut, Io, TooLong}
 pub use Rattle.tmw_monitor.specs.Fits.{rules_for}
 pub use Rattle.tmw_monitor.specs.declared.bounds.Bounds.{Bounds}
 pub use Rattle.tmw_part.specs.FindPart.{FindsPart, IsMinimalPart, IsSearched}
@@ -33,7 +32,7 @@ pub use Rattle.tmw_show.specs.Drawing.{blanks, last_thread, rows_text}
 pub use Rattle.tmw_show.specs.NeededEvents.{IsNeededOf, IsShownFor, IsViolation, marks_of}
 pub use Rattle.tmw_show.specs.RunShow.{AnswersShow, IsShownOf, shown_events}
 pub use Rattle.tmw_show.specs.TracesLaw.{AreJudgedLike, IsContradictory, IsHeaderFor, TellOf, TracesLaw, rules_from}
-pub use Rattle.tmw_show.specs.Values.{long_values, names_from, values_after}
+pub use Rattle.tmw_show.specs.ValueNames.{long_values, names_from, values_after}
 pub use Rattle.tmw_show.specs.declared.needed_events.NeededEvents.{NeededEvents}
 pub use Rattle.tmw_show.specs.declared.needed_events.NeededEvents.TheVariants.{NotViolated, Part, Unasked}
 pub use Rattle.tmw_show.specs.declared.show_options.ShowOptions.{ShowOptions}

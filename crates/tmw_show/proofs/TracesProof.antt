@@ -3,7 +3,7 @@ use Rattle.tmw_show.proofs.Shared.{All, AllByRecursion, AreJudgedLike, Bool, Bou
 use Rattle.std.proofs.lemmas.Bool.{and_parts}
 use Rattle.std.proofs.lemmas.List.Elements.{All-contains, All-drop, All-from_recursion, All-take, Contains-get_or, recursion_from_All}
 use Rattle.std.proofs.lemmas.List.Folds.{list_all-append}
-use Rattle.tmw_trace.specs.Start.{is_start}
+use Rattle.tmw_trace.specs.Version.{is_start}
 use Rattle.tmw_defs.specs.declared.verdict.Verdict.TheVariants.{Violated}
 use Rattle.tmw_part.specs.Marks.{kept_of}
 use Rattle.tmw_part.proofs.Fewer.{kept-all}

@@ -5,7 +5,7 @@ use Rattle.std.specs.List.{flat_map}
 use Rattle.std.specs.Fmt.{decimal}
 use Rattle.tmw_events.specs.declared.event.Event.{Event}
 use Rattle.tmw_events.specs.declared.registers.Registers.{Registers}
-use Rattle.tmw_lines.specs.Text.{line}
+use Rattle.tmw_lines.specs.LineFeeds.{line}
 use Rattle.tmw_trace.specs.Text.{values_text}
 use Rattle.tmw_defs.specs.Opaque.{State}
 use Rattle.tmw_defs.specs.declared.criterion.Criterion.{Criterion}
@@ -17,10 +17,10 @@ use Rattle.tmw_defs.specs.declared.verdict.Why.TheVariants.{Transactions, States
 use Rattle.tmw_wellformed.specs.declared.malformed.Malformed.{Malformed as Fault}
 use Rattle.tmw_wellformed.specs.declared.malformed.Malformed.TheVariants.{Register, Busy, Idle, Mismatch}
 use Rattle.tmw_part.specs.Marks.{kept_of}
-use Rattle.tmw_part.specs.Names.{names_of}
-use Rattle.tmw_part.specs.declared.name_places.Name.{Name}
-use Rattle.tmw_show.specs.Names.{label_at}
-use Rattle.tmw_show.specs.Values.{long_values, names_from, shown_kind}
+use Rattle.tmw_part.specs.NameInWindow.{names_of}
+use Rattle.tmw_part.specs.declared.name_in_window.Name.{Name}
+use Rattle.tmw_show.specs.TransactionNames.{label_at}
+use Rattle.tmw_show.specs.ValueNames.{long_values, names_from, shown_kind}
 use Rattle.tmw_monitor.specs.declared.broken_rule.BrokenRule.{BrokenRule}
 use Rattle.tmw_show.specs.declared.run_verdict.RunVerdict.{RunVerdict}
 

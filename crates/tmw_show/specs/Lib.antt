@@ -1,10 +1,10 @@
 pub mod Drawing
-pub mod Names
 pub mod NeededEvents
 pub mod Page
 pub mod RunShow
 pub mod Sentences
 pub mod TracesLaw
 pub mod TracesText
-pub mod Values
+pub mod TransactionNames
+pub mod ValueNames
 pub mod WhyLaw

@@ -7,7 +7,7 @@ use Rattle.tmw_defs.specs.declared.verdict.Verdict.{Verdict}
 use Rattle.tmw_defs.specs.declared.verdict.Verdict.TheVariants.{Violated}
 use Rattle.tmw_events.specs.declared.event.Event.{Event}
 use Rattle.tmw_events.specs.declared.registers.Registers.{Registers}
-use Rattle.tmw_lines.specs.Text.{line}
+use Rattle.tmw_lines.specs.LineFeeds.{line}
 use Rattle.tmw_defs.specs.History.{transactions}
 use Rattle.tmw_part.specs.FindPart.{FindsPart}
 use Rattle.tmw_part.specs.Reasons.{IsFound}

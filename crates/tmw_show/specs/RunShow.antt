@@ -29,7 +29,7 @@ use Rattle.tmw_show.specs.NeededEvents.{IsNeededOf, marks_of, needed_text, reaso
 use Rattle.tmw_show.specs.Page.{page_text, told_of}
 use Rattle.tmw_show.specs.Sentences.{reason_text, told_sentence}
 use Rattle.tmw_show.specs.TracesText.{traces_text}
-use Rattle.tmw_show.specs.Values.{long_values}
+use Rattle.tmw_show.specs.ValueNames.{long_values}
 
 -- The bytes are the text of a trace, and this is what is shown of its history.
 pub record IsShownOf (options : ShowOptions) (bytes : List ℕ) (shown : ShownTrace) : Type 0 where

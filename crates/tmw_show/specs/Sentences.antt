@@ -2,7 +2,7 @@
 use Rattle.std.specs.Prelude.{ℕ, ◌+◌, List, [], ◌∷◌, ◌++◌, codes, Option, Some, None}
 use Rattle.std.specs.List.{flat_map}
 use Rattle.std.specs.Fmt.{decimal}
-use Rattle.tmw_lines.specs.Text.{line}
+use Rattle.tmw_lines.specs.LineFeeds.{line}
 use Rattle.tmw_events.specs.declared.event.Event.{Event}
 use Rattle.tmw_part.specs.Origins.{origin_of}
 use Rattle.tmw_part.specs.declared.origin.Fate.{Fate}
@@ -14,8 +14,8 @@ use Rattle.tmw_part.specs.declared.reason_step.Contradiction.TheVariants.{Cycle,
 use Rattle.tmw_part.specs.declared.reason_step.ValueSource.{ValueSource}
 use Rattle.tmw_part.specs.declared.reason_step.ReasonStep.{ReasonStep}
 use Rattle.tmw_part.specs.declared.reason_step.ReasonStep.TheVariants.{RealTime, From, ReadFirst, ChangedFirst, Through}
-use Rattle.tmw_show.specs.Names.{name_text}
-use Rattle.tmw_show.specs.Values.{value_text}
+use Rattle.tmw_show.specs.TransactionNames.{name_text}
+use Rattle.tmw_show.specs.ValueNames.{value_text}
 
 -- what follows: the one stands before the other
 unfoldable pub so_text : ℕ → ℕ → List ℕ

@@ -1,5 +1,5 @@
 ghost use Rattle.std.specs.Prelude.{◌≡◌, ◌++◌, IfOk, OnOk};
-ghost use Rattle.tmw_lines.specs.Text.{line};
+ghost use Rattle.tmw_lines.specs.LineFeeds.{line};
 ghost use Rattle.tmw_streams.specs.Memory.{held_bytes};
 ghost use Rattle.tmw_show.specs.TracesText.{events_text, start_text, traces_text};
 

@@ -2,7 +2,7 @@
 use Rattle.tmw_steps.proofs.Shared.{steps_grammar, sym, ◌∙◌}
 use Rattle.tmw_lines.proofs.TextNames.{lines_text-injective}
 use Rattle.tmw_steps.specs.Laws.{StepsLaw}
-use Rattle.tmw_steps.specs.TextNames.{steps_naming}
+use Rattle.tmw_steps.specs.GrammarInjectivity.{steps_naming}
 
 pub steps_law : StepsLaw
 steps_law bytes size other_size steps other_steps one other =

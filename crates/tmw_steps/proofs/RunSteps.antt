@@ -2,7 +2,7 @@
 use Rattle.tmw_steps.proofs.Shared.{AnswersSteps, Err, IsMade, IsStepsText, List, Ok, Result, SizeLine, Step, [], append-nil, arith, inl, inr, steps_grammar, sym, ℕ, ◌∙◌}
 use Rattle.tmw_lines.specs.TextFault.{EndsSoon}
 use Rattle.tmw_report.specs.declared.fault.Fault.{Fault}
-use Rattle.tmw_steps.specs.declared.steps_run.RingRun.{RingRun}
+use Rattle.tmw_steps.specs.declared.steps_command.RingRun.{RingRun}
 use Rattle.tmw_lines.specs.declared.text_fault.TextFault.TheVariants.{Memory as WantsMemory}
 
 -- a whole text is also the beginning of one

@@ -2,8 +2,8 @@
 use Rattle.std.proofs.Common.{rules}
 use Rattle.tmw_steps.proofs.Shared.{FitsSize, List, SizeLine, [], ap, arith, drop, drop_all, length, length-drop, size_numbers, ℕ, ◌∷◌, ◌≡◌, ◌≢◌}
 use Rattle.tmw_trace.specs.Text.{values_text}
-use Rattle.tmw_trace.specs.Values.{IsFirstValue, IsNoFirstValue}
-use Rattle.tmw_trace.specs.ValueNames.{next-values}
+use Rattle.tmw_trace.specs.FirstValue.{IsFirstValue, IsNoFirstValue}
+use Rattle.tmw_trace.specs.ValueTextInjectivity.{next-values}
 use Rattle.tmw_trace.proofs.ValueParts.{value-split, value-rest}
 
 pub numbers-some : (bytes : List ℕ) (a b c n m k : ℕ) → IsFirstValue a n bytes → IsFirstValue b m (drop n bytes)

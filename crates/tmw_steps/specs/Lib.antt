@@ -1,7 +1,7 @@
+pub mod GrammarInjectivity
 pub mod Laws
 pub mod Lengths
 pub mod ReplyText
 pub mod RunSteps
-pub mod StepNames
+pub mod StepTextInjectivity
 pub mod Text
-pub mod TextNames

@@ -2,7 +2,7 @@
 use Rattle.std.specs.Prelude.{◌≡◌, ◌⊎◌, ℕ, List, length, Result, Ok, Err}
 use Rattle.tmw_lines.specs.TextFault.{HasTextFault}
 use Rattle.tmw_ring_defs.specs.RingMachine.{new_machine, after, replies}
-use Rattle.tmw_ring_defs.specs.Sizes.{HasRoom, HasLimit, HasNumbers}
+use Rattle.tmw_ring_defs.specs.RingSize.{HasRoom, HasLimit, HasNumbers}
 use Rattle.tmw_ring_defs.specs.declared.ring_size.RingSize.{RingSize}
 use Rattle.tmw_ring_defs.specs.declared.ring_step.Step.{Step}
 use Rattle.tmw_report.specs.CommandRun.{AnswersTextFault, IsCommandRun}
@@ -11,7 +11,7 @@ use Rattle.tmw_report.specs.declared.fault.Fault.{Fault}
 use Rattle.tmw_report.specs.declared.fault.Fault.TheVariants.{Size, Limit, Memory}
 use Rattle.tmw_steps.specs.ReplyText.{replies_text}
 use Rattle.tmw_steps.specs.Text.{steps_grammar, steps_text, AreSteps}
-use Rattle.tmw_steps.specs.declared.steps_run.RingRun.{RingRun}
+use Rattle.tmw_steps.specs.declared.steps_command.RingRun.{RingRun}
 use Rattle.tmw_steps.specs.declared.size_line.SizeLine.{SizeLine}
 
 -- Of these steps a new ring's machine of the size of these numbers makes this run.

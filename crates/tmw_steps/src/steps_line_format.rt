@@ -1,4 +1,4 @@
-ghost use Rattle.tmw_steps.specs.TextNames.{steps_naming};
+ghost use Rattle.tmw_steps.specs.GrammarInjectivity.{steps_naming};
 ghost use Rattle.tmw_steps.specs.Lengths.{long_no_size, long_no_step};
 ghost use Rattle.tmw_steps.specs.Text.{steps_grammar};
 

@@ -9,7 +9,7 @@ pub use Rattle.std.specs.Io.KnownBytes.{Appends, Consumes}
 pub use Rattle.std.specs.List.{flat_map}
 pub use Rattle.std.specs.Result.{IsErr}
 pub use Rattle.tmw_streams.specs.BoundedSink.{bounded_bytes, to_bounded}
-pub use Rattle.tmw_streams.specs.Lines.{lines_of}
+pub use Rattle.tmw_streams.specs.ItemLines.{lines_of}
 pub use Rattle.tmw_streams.specs.PutsOn.{PassesOn, PutsOn}
 pub use Rattle.tmw_streams.specs.Streams.{FromSource, ToSink}
 pub use Rattle.tmw_streams.specs.Transfers.{Adds, one_more, Puts, Reads, Takes, TakesBeginning, Tells}

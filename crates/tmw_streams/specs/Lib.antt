@@ -1,6 +1,6 @@
 pub mod AtEnd
 pub mod BoundedSink
-pub mod Lines
+pub mod ItemLines
 pub mod Memory
 pub mod PutsOn
 pub mod ReadFailures

@@ -85,11 +85,11 @@ pub record SourceCalled (old new : MemorySource) : Type 0 where
   pub most : source_most new ≡ source_most old
   pub fails_at : source_fails_at new ≡ source_fails_at old
 
--- A call of the source, into room for so many bytes, has told so many.
+-- A call of the source, with room for `room` bytes, has told `count`.
 pub record SourceGives (old new : MemorySource) (room count : ℕ) : Type 0 where
   -- It was not to fail.
   pub goes_on : SourceFails old → ⊥
-  -- There were as many, there was room for them, and a call may tell as many.
+  -- As many as there are, as fit, and as one call may tell.
   pub is : count ≡ min (min (from_memory.left old) room) (max (source_most old) 1)
   -- It has answered the end only if there was room and none came.
   pub over : IsTrue (source_over new) → (0 < room) × (count ≡ 0)

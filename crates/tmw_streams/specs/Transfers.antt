@@ -42,6 +42,8 @@ pub record FailsToRead {S : Type 0} (From : FromSource S) (old new : S) : Type 0
   pub failed : From.failures new ≡ one_more (From.failures old)
   -- The source told nothing.
   pub kept : Tells From old [] new
+  -- The bound on its bytes still to come did not rise.
+  pub falls : From.left new ≤ From.left old
   -- It has not answered its end.
   pub no_end : From.ended new → ⊥
 
@@ -49,7 +51,7 @@ pub record FailsToRead {S : Type 0} (From : FromSource S) (old new : S) : Type 0
 pub record TakesFront {K : Type 0} (To : ToSink K) (old new : K) (bytes : List ℕ) (count : ℕ) : Type 0 where
   -- There were so many.
   pub within : count ≤ length bytes
-  -- If there was one, one was taken.
+  -- If there was one, at least one was taken.
   pub some : 0 < length bytes → 0 < count
   -- The sink took them.
   pub takes : Takes To old (take count bytes) new

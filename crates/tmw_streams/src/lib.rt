@@ -3,6 +3,7 @@
 
 mod bounded_sink;
 mod io_fault;
+mod item_lines;
 mod memory_sink;
 mod memory_source;
 mod put_bytes;
@@ -12,10 +13,10 @@ mod sink;
 mod source;
 mod std_sink;
 mod std_source;
-mod text_lines;
 
 pub use bounded_sink::BoundedSink;
 pub use io_fault::IoFault;
+pub use item_lines::{Texts, put_lines};
 pub use memory_sink::MemorySink;
 pub use memory_source::MemorySource;
 pub use put_bytes::{put_all, put_with_number};
@@ -25,4 +26,3 @@ pub use sink::Sink;
 pub use source::Source;
 pub use std_sink::StdSink;
 pub use std_source::StdSource;
-pub use text_lines::{Texts, put_lines};

@@ -99,7 +99,8 @@ impl Source for MemorySource<'_> {
         ensures end_again { IsTrue (source_over self.old) → (result ≡ Ok 0)
             × (self.new ≡ self.old) }
 
-        // Each call is counted until the end was answered, and fails at the chosen call alone.
+        // Until the end was answered each call is counted, and the chosen one fails. Any other tells as many bytes as there are, as fit,
+        // and as it may.
         ensures called { source_over self.old ≡ false → SourceCalled self.old self.new }
         ensures gives { IfOk result (λ count. source_over self.old ≡ false
             → SourceGives self.old self.new (length buffer.old) count) }

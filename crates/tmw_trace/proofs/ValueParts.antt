@@ -1,10 +1,10 @@
 -- The first of the values in a header, and the values that a loop has read.
 use Rattle.tmw_trace.proofs.Shared.{All, All-set, List, [], add-one, and_parts, ap, append-nil, append_assoc, are_zeros, arith, cases_Bool, decimal, drop, drop-cons, drop-set-lt, flat_map-append, get_or, inl, inr, length, length-set, not, position_or_len, refl, set, suc, sym, take, take-append-drop, take_more_set, true, values_text, ℕ, ◌++◌, ◌+◌, ◌<◌, ◌==◌, ◌^◌, ◌∙◌, ◌∷◌, ◌≡◌, ◌≤◌}
-use Rattle.tmw_trace.specs.Values.{IsFirstValue, IsNoFirstValue}
+use Rattle.tmw_trace.specs.FirstValue.{IsFirstValue, IsNoFirstValue}
 use Rattle.std.proofs.Math.Seq.{take-append_seam}
 use Rattle.std.proofs.lemmas.List.Sums.{prefix_len-le-length}
 use Rattle.tmw_lines.specs.FreeParts.{is_next}
-use Rattle.tmw_trace.specs.ValueNames.{next-values}
+use Rattle.tmw_trace.specs.ValueTextInjectivity.{next-values}
 use Rattle.tmw_lines.proofs.Splits.{free-decimal, position_or_len-free, split_free}
 
 next-before : (stop : ℕ) (bytes : List ℕ) → is_next stop (drop (position_or_len (λ byte. byte == stop) bytes) bytes) ≡ true

@@ -1,8 +1,8 @@
-pub mod KindNames
+pub mod FirstValue
+pub mod GrammarInjectivity
+pub mod KindTextInjectivity
 pub mod Laws
 pub mod Lengths
-pub mod Start
 pub mod Text
-pub mod TextNames
-pub mod ValueNames
-pub mod Values
+pub mod ValueTextInjectivity
+pub mod Version

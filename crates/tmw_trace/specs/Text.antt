@@ -5,7 +5,7 @@ use Rattle.std.specs.Fmt.{decimal}
 use Rattle.tmw_events.specs.Text.{event_text, FitsKind}
 use Rattle.tmw_events.specs.declared.event.Event.{Event}
 use Rattle.tmw_lines.specs.Grammar.{Grammar, lines_text, AreLines}
-use Rattle.tmw_trace.specs.Start.{is_spoken}
+use Rattle.tmw_trace.specs.Version.{is_spoken}
 use Rattle.tmw_trace.specs.declared.header.Header.{Header}
 use Rattle.tmw_trace.specs.declared.version.Version.{Version}
 use Rattle.tmw_trace.specs.declared.version.Version.TheVariants.{One, Two}

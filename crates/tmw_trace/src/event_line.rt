@@ -1,7 +1,7 @@
 ghost use Rattle.std.specs.Prelude.{◌≡◌, IfSome, IfNone};
 ghost use Rattle.tmw_events.specs.Text.{event_text};
 ghost use Rattle.tmw_lines.specs.Grammar.{IsNoItem};
-ghost use Rattle.tmw_trace.specs.Start.{is_spoken};
+ghost use Rattle.tmw_trace.specs.Version.{is_spoken};
 ghost use Rattle.tmw_trace.specs.Text.{trace_grammar, FitsEvent};
 
 use crate::version::Version;

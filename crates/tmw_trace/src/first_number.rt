@@ -1,6 +1,6 @@
 ghost use Rattle.std.specs.Prelude.{◌≡◌, ◌<◌, ◌≤◌, ◌++◌, length, drop, get_or, IfSome};
 ghost use Rattle.std.specs.Fmt.{decimal};
-ghost use Rattle.tmw_lines.specs.Text.{line};
+ghost use Rattle.tmw_lines.specs.LineFeeds.{line};
 
 /// Reads the number that these bytes begin with, up to a line feed, and returns it and the length of both. A number
 /// of twenty digits, which may be too large for 64 bits, is left to `number_of`.

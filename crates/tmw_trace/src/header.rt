@@ -1,5 +1,5 @@
 ghost use Rattle.std.specs.Prelude.{IsTrue};
-ghost use Rattle.tmw_trace.specs.Start.{is_start};
+ghost use Rattle.tmw_trace.specs.Version.{is_start};
 
 use crate::version::Version;
 use tmw_events::{MOST_REGISTERS, Registers};

@@ -1,5 +1,5 @@
 ghost use Rattle.std.specs.Prelude.{IsTrue};
-ghost use Rattle.tmw_trace.specs.Start.{are_spoken};
+ghost use Rattle.tmw_trace.specs.Version.{are_spoken};
 
 use crate::header::Header;
 use tmw_events::Event;

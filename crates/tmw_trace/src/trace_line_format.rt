@@ -1,9 +1,9 @@
 ghost use Rattle.tmw_trace.specs.Text.{trace_grammar};
 ghost use Rattle.tmw_trace.specs.Lengths.{long_no_header, long_no_event};
-ghost use Rattle.tmw_trace.specs.TextNames.{trace_naming};
+ghost use Rattle.tmw_trace.specs.GrammarInjectivity.{trace_naming};
 
 use crate::event_line::event_of;
-use crate::first_event::give_event;
+use crate::give_event::give_event;
 use crate::header::Header;
 use crate::version::Version;
 use tmw_events::Event;

@@ -1,5 +1,5 @@
 ghost use Rattle.std.specs.Prelude.{◌≡◌};
-ghost use Rattle.tmw_trace.specs.Start.{are_spoken, version_of};
+ghost use Rattle.tmw_trace.specs.Version.{are_spoken, version_of};
 
 use crate::event_line::speaks;
 use tmw_events::Event;

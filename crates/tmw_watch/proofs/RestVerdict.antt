@@ -5,7 +5,7 @@ use Rattle.std.specs.Prelude.{Result, Ok, Err, IfOk}
 use Rattle.tmw_events.specs.declared.event.Event.{Event}
 use Rattle.tmw_pump.proofs.Turns.{IsFew, all_judged}
 use Rattle.tmw_pump.specs.declared.pumped.Pumped.{Pumped}
-use Rattle.tmw_ring.specs.Parts.{made_from}
+use Rattle.tmw_ring.specs.SeatPart.{made_from}
 use Rattle.tmw_watch.specs.declared.leftover.Leftover.{Leftover}
 use Rattle.tmw_watch.specs.declared.report.WatchReport.{WatchReport}
 use Rattle.tmw_watch.specs.declared.watch.Watch.{Watch}

@@ -3,7 +3,7 @@ use Rattle.std.specs.Prelude.{◌≡◌, ◌<◌, ℕ, List, [], None, length, g
 use Rattle.tmw_monitor.specs.Fits.{Fits, rules_of}
 use Rattle.tmw_ring.specs.RingEnds.{RingIs}
 use Rattle.tmw_ring.specs.NewRing.{IsNewWriter}
-use Rattle.tmw_ring_defs.specs.Sizes.{HasNumbers}
+use Rattle.tmw_ring_defs.specs.RingSize.{HasNumbers}
 use Rattle.tmw_pump.specs.Front.{held_of, judged_of, monitor_of}
 use Rattle.tmw_pump.specs.Pump.{reader_of}
 use Rattle.tmw_watch.specs.WatchParts.{recorder_ring, watch_front, watch_pump, watch_ring, writer_of}

@@ -33,7 +33,7 @@ pub enum CloseError {
     Unjudged(Leftover),
 }
 
-// Watches, recorders, writers and closings have no `Debug`, so only the case's name is shown.
+// Watches, recorders, writers and leftovers have no `Debug`, so only the case's name is shown.
 impl fmt::Debug for CloseError {
     fn fmt<W: Write>(&self, f: &mut Formatter<W>) -> Result<(), fmt::Error> {
         f.write_str(match self {

@@ -14,7 +14,7 @@ pub struct Leftover {
 }
 
 impl Leftover {
-    /// Makes a closing of what was left when the ring ended.
+    /// Holds what was left when the ring ended.
     pub(crate) fn new(rest: Rest<()>) -> Leftover
         ensures { rest_of result ≡ rest_in rest }
     {

@@ -1,4 +1,4 @@
--- A watcher of the last window that was refused memory for an event stands for the same history.
+-- A `LastWindow` that lacked memory for an event stands for the same history.
 use Rattle.tmw_window.proofs.Shared.{Event, Fits, KeepsSame, KeptWindow, LastWindow, List, Rules, members, refl, rules}
 use Rattle.tmw_monitor.specs.declared.monitor.Monitor.{Monitor}
 use Rattle.tmw_window.specs.LastWindow.{Watches}

@@ -16,7 +16,7 @@ pub use Rattle.tmw_defs.specs.Criteria.{IsFinalBy, outcomes_by, so_far}
 pub use Rattle.tmw_defs.specs.Cuts.{is_cut}
 pub use Rattle.tmw_defs.specs.History.{Txn, add_event, answers, ends, is_call, is_ended, is_text, is_well_formed, operation, operations, transactions, transactions_from}
 pub use Rattle.tmw_defs.specs.Opaque.{Placed, State, after, after_writes}
-pub use Rattle.tmw_defs.specs.Summary.{IsLastCut}
+pub use Rattle.tmw_defs.specs.LastCut.{IsLastCut}
 pub use Rattle.tmw_defs.specs.Verdict.{AreFine, HasMany, IsFine, IsFirst, IsMalformed, IsTooMany, IsTooWide, IsVerdict, IsViolated, Rules}
 pub use Rattle.tmw_defs.specs.Windows.{HasWide, IsCutAt, between}
 pub use Rattle.tmw_defs.specs.declared.criterion.Criterion.{Criterion}

@@ -1,4 +1,4 @@
--- Which history a watcher of the last window stands for.
+-- Which history a `LastWindow` stands for.
 use Rattle.std.specs.Prelude.{List}
 use Rattle.tmw_events.specs.declared.event.Event.{Event}
 use Rattle.tmw_defs.specs.Verdict.{Rules}

@@ -1,4 +1,4 @@
--- What a showing tells of a history.
+-- What a `ShownWindow` says of a history.
 use Rattle.std.specs.Prelude.{◌≡◌, List, length}
 use Rattle.tmw_events.specs.declared.event.Event.{Event}
 use Rattle.tmw_defs.specs.Verdict.{Rules, IsVerdict}

@@ -1,5 +1,5 @@
 ghost use Rattle.std.specs.Prelude.{◌++◌};
-ghost use Rattle.tmw_window.specs.WindowTaker.{TakeEvents, LackAnEvent, WatchesSoMany};
+ghost use Rattle.tmw_window.specs.WindowTaker.{window_taking};
 ghost use Rattle.std.proofs.Common.{append_assoc, append-nil};
 
 use crate::last_window::LastWindow;
@@ -7,13 +7,9 @@ use std::alloc::AllocError;
 use tmw_events::Event;
 use tmw_lines::Taker;
 
-/// A watcher of the last window takes events by being fed them.
+/// A `LastWindow` takes events by being fed them.
 impl Taker<Event> for LastWindow {
-    ghost takes = { TakeEvents };
-
-    ghost lacks = { LackAnEvent };
-
-    ghost counts = { WatchesSoMany };
+    ghost taking = { window_taking };
 
     fn take(&mut self, event: Event) -> Result<(), AllocError> {
         self.feed(event)

@@ -24,6 +24,6 @@ pub use Rattle.tmw_search.proofs.Bits.{bit_cases, same_place}
 pub use Rattle.tmw_search.proofs.LayerSteps.{slice_get_some}
 pub use Rattle.tmw_search.specs.NodeOrders.{In}
 pub use Rattle.tmw_search.proofs.WindowViews.{shown_at, shows-views_of}
-pub use Rattle.tmw_witness.specs.TurnsAt.{PrecedesNone, TurnsAt}
+pub use Rattle.tmw_witness.specs.EventAtPlace.{PrecedesNone, TurnsAt}
 pub use Rattle.tmw_witness.specs.Witness.{Below, HasWriter, IsWitness, MayStand, PlacesThose, Stands, Witnesses, committed_of, rank_of, state_of}
 pub use Rattle.tmw_witness.specs.declared.witness.Witness.{Witness}

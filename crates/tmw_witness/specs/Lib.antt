@@ -1,2 +1,2 @@
-pub mod TurnsAt
+pub mod EventAtPlace
 pub mod Witness

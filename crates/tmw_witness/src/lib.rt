@@ -2,8 +2,8 @@
 #![tactic(auto)]
 
 mod explains;
-mod follow;
-mod replay;
+mod order_search;
 mod witness;
+mod witness_update;
 
 pub use witness::Witness;

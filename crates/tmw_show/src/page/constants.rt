@@ -1,4 +1,4 @@
-//! The constant parts of a page: tests/page.sh writes them from the files of page/.
+//! The constant parts of a page: tests/page.sh writes them from the files of this crate's page/.
 
 /// What stands before the window: head.html.
 pub const HEAD: &[u8] = br##"<!DOCTYPE html>

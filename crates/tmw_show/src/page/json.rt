@@ -7,7 +7,7 @@ use crate::event_text::push_event;
 use crate::item_text::{ItemText, push_each, push_list};
 use crate::needed_events::NeededEvents;
 use crate::numbers::push_values;
-use crate::origins::told_by;
+use crate::origin_sentence::told_by;
 use crate::run_verdict::{RunVerdict, marked_at, wrong_of};
 use crate::sentences::push_clauses;
 use crate::shown_trace::ShownTrace;

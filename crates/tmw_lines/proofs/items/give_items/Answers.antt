@@ -12,7 +12,7 @@ lines-init g c = (
 
 pub returns-in_default-clause-gives : goal.returns-in_default-clause-gives
 returns-in_default-clause-gives g c =
-    lacks-held-last c.lines.invariant.0 _ _ g.T.Taker.lacks g.met.T.Taker.takes_more c.give_held.new.self c.give_held.new.taker c.in_default.ensures.lacks
+    lacks-held-last c.lines.invariant.0 _ _ g.met.T.Taker.takes_more c.give_held.new.self c.give_held.new.taker c.in_default.ensures.lacks
 
 pub take-requires : goal.take-requires
 take-requires g c =
@@ -26,7 +26,7 @@ lines-preserved g c =
     let given = rw c.in-Ok-Some.field-0-is at c.in-Ok-Some.ensures.reads in (
       HasGiven-push held given g.met.T.Taker.takes_more c.take.new.self c.in-Ok-take.ensures.taken,
       c.in-Ok-Some.ensures.failures (reads_on held c.requires.begun) ∙ c.lines.invariant.1,
-      subst (λ count. g.T.Taker.counts c.take.new.self count) (sym (count-next held given c.requires.begun))
+      subst (λ count. g.T.Taker.taking.counts c.take.new.self count) (sym (count-next held given c.requires.begun))
           (c.in-Ok-take.ensures.counted c.give_held.new.self.count c.in-Ok.ensures.counted),
     )
 
@@ -34,17 +34,17 @@ pub returns-in_default-take-clause-gives : goal.returns-in_default-take-clause-g
 returns-in_default-take-clause-gives g c =
     let held = HasGiven-held c.lines.invariant.0 g.met.T.Taker.takes_more c.give_held.new.self c.give_held.new.taker c.in-Ok.ensures.gives in
     let given = rw c.in-Ok-Some.field-0-is at c.in-Ok-Some.ensures.reads in
-    lacks-next held given _ g.T.Taker.lacks c.take.new.self c.in_default-take.ensures.lacks
+    lacks-next held given _ c.take.new.self c.in_default-take.ensures.lacks
 
 pub returns-in-Ok-None-clause-gives : goal.returns-in-Ok-None-clause-gives
 returns-in-Ok-None-clause-gives g c =
     let held = HasGiven-held c.lines.invariant.0 g.met.T.Taker.takes_more c.give_held.new.self c.give_held.new.taker c.in-Ok.ensures.gives in
-    gives-end held tt g.T.Taker.lacks (rw c.in-Ok-None.field-0-is at c.in-Ok-None.ensures.reads)
+    gives-end held tt (rw c.in-Ok-None.field-0-is at c.in-Ok-None.ensures.reads)
 
 pub returns-in-Err-clause-gives : goal.returns-in-Err-clause-gives
 returns-in-Err-clause-gives g c =
     let held = HasGiven-held c.lines.invariant.0 g.met.T.Taker.takes_more c.give_held.new.self c.give_held.new.taker c.in-Ok.ensures.gives in
-    gives-fault held _ g.T.Taker.lacks c.requires.begun c.in-Err.ensures.reads
+    gives-fault held _ c.requires.begun c.in-Err.ensures.reads
 
 pub returns-in-Err-clause-failures : goal.returns-in-Err-clause-failures
 returns-in-Err-clause-failures g c =

@@ -4,6 +4,6 @@ use Rattle.tmw_lines.proofs.items.read_items.Goals as goal
 
 pub returns-clause-reads : goal.returns-clause-reads
 returns-clause-reads g c =
-    reads-given g.F.LineFormat.grammar g.S.Source.from (g.S.Source.from.ended c.give_items.new.source) _ _
-    (λ list. list.items) (λ x items y t. t.0) (λ x item y l. l.0) c.args.source.now c.give_items.new.source c.args.lines.now
-    c.give_items.new.lines c.args.items.now c.give_items.new.taker c.give_items.result c.give_items.ensures.gives
+    reads-given g.F.LineFormat.grammar (g.S.Source.from.ended c.give_items.new.source) _ (λ list. list.items)
+    (λ x items y t. t.0) (λ x item y l. l.0) c.args.lines.now c.give_items.new.lines c.args.items.now c.give_items.new.taker
+    g.S.Source.from c.args.source.now c.give_items.new.source c.give_items.result c.give_items.ensures.gives

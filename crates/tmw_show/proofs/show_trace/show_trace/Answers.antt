@@ -1,13 +1,11 @@
 -- What was told is the first line and what was read behind it.
-use Rattle.tmw_show.proofs.Shared.{[], refl, rules_for, trace_grammar, ◌++◌}
+use Rattle.tmw_show.proofs.Shared.{Err, [], refl, rules_for, trace_grammar, ◌++◌}
 use Rattle.tmw_lines.specs.declared.text_fault.TextFault.TheVariants.{Memory}
-use Rattle.tmw_lines.proofs.TextsRead.{soon-behind, text_fault-first, text_fault-read}
+use Rattle.tmw_lines.proofs.TextsRead.{given-read, soon-behind, text_fault-first, text_fault-read}
 use Rattle.tmw_streams.proofs.Transfers.{Tells-more}
-use Rattle.tmw_window.specs.WindowTaker.{TakeEvents, LackAnEvent}
-use Rattle.tmw_window.specs.declared.last_window.LastWindow.{LastWindow}
+use Rattle.tmw_window.specs.WindowTaker.{window_taking}
 use Rattle.tmw_report.proofs.Quotes.{quoted-first, quoted-read}
 use Rattle.tmw_show.proofs.ShowAnswers.{explained-answers, explained-remarks}
-use Rattle.tmw_show.proofs.ReadFaults.{given-read}
 use Rattle.tmw_show.proofs.show_trace.show_trace.Goals as goal
 
 pub returns-in_default-clause-right : goal.returns-in_default-clause-right
@@ -48,8 +46,9 @@ returns-in-Err-give_items-clause-right g c =
     let all = c.in-Err-give_items.ensures.gives in
     let Ended = g.S.Source.from.ended c.give_items.new.source in
     let bytes = first.0 ++ all.bytes in
-    let read = given-read (Unit {0}) LastWindow TakeEvents LackAnEvent Ended c.header.new.self c.give_items.new.lines
-    c.in-Ok-new.window c.give_items.new.taker c.in-Ok.header first.0 all.bytes all.items first.2 c.in-Err-give_items.fault all.given in
+    let read = given-read {Done = Unit {0}} trace_grammar Ended window_taking c.header.new.self c.give_items.new.lines
+    c.in-Ok-new.window c.give_items.new.taker all.items all.bytes (Err c.in-Err-give_items.fault) all.given c.in-Ok.header [] first.0
+    first.2 in
     rw c.quote_fault-in-Err-give_items.ensures.fault (
       bytes,
       Tells-more g.S.Source.from c.args.source.now c.header.new.source c.give_items.new.source first.0 all.bytes first.1 all.told,

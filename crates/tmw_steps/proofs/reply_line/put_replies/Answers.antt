@@ -1,6 +1,6 @@
 -- The line of the counts came after those of the replies.
 use Rattle.tmw_steps.proofs.Shared.{Puts-more, counts_text, lines_text}
-use Rattle.tmw_lines.specs.Text.{line}
+use Rattle.tmw_lines.specs.LineFeeds.{line}
 use Rattle.tmw_steps.proofs.reply_line.put_replies.Goals as goal
 
 pub returns : goal.returns

@@ -1,7 +1,7 @@
 use Rattle.tmw_trace.proofs.Shared.{trace_grammar}
 use Rattle.tmw_events.proofs.EventWords.{pack-injective}
 use Rattle.tmw_lines.proofs.TextNames.{lines_text-injective}
-use Rattle.tmw_trace.specs.TextNames.{trace_naming}
+use Rattle.tmw_trace.specs.GrammarInjectivity.{trace_naming}
 use Rattle.tmw_trace.proofs.laws.law_3.Goals as goal
 
 pub returns-clause-texts : goal.returns-clause-texts

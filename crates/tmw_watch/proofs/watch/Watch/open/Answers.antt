@@ -1,6 +1,6 @@
 use Rattle.tmw_watch.proofs.Shared.{Fits, ReaderIs, RingIs, [], ap, rules_of, subst, sym, ◌∙◌}
 use Rattle.tmw_monitor.specs.declared.monitor.Monitor.{Monitor}
-use Rattle.tmw_ring_defs.specs.Sizes.{HasNumbers}
+use Rattle.tmw_ring_defs.specs.RingSize.{HasNumbers}
 use Rattle.tmw_watch.proofs.watch.Watch.open.Goals as goal
 
 pub returns-clause-ok : goal.returns-clause-ok

@@ -1,0 +1,128 @@
+//! The way that most events take: few steps, no search and no memory.
+ghost use Rattle.std.specs.Prelude.{◌≡◌, IsTrue, IsFalse};
+ghost use Rattle.tmw_defs.specs.declared.criterion.Criterion.{Criterion};
+ghost use Rattle.tmw_events.specs.declared.event.Kind.TheVariants.{V};
+ghost use Rattle.tmw_defs.specs.declared.op.Op.TheVariants.{Add};
+ghost use Rattle.tmw_cuts.specs.StandsFor.{IsNext};
+ghost use Rattle.tmw_cuts.specs.declared.turn.Move.TheVariants.{Answer, Begin, End};
+ghost use Rattle.tmw_monitor.specs.declared.bounds.Bounds.{Bounds};
+ghost use Rattle.tmw_monitor.specs.TakeAtOnce.{StaysFine, StaysKept};
+
+use crate::bounds::Bounds;
+use crate::history_digest::HistoryDigest;
+use tmw_cuts::Move;
+use tmw_defs::Op;
+use tmw_events::{Event, Ix, Kind};
+
+/// Takes the next event if it begins a transaction for which the window has room, or if the serial order that is kept explains it: by no
+/// criterion is anything wrong with it then. At a cut it has to end the only transaction, from the only outcome before. Else it returns
+/// `false`, and what is kept is of the history without it. It is inlined into the reading of each kind of line.
+#[inline(always)]
+pub fn take_at_once(kept: &mut HistoryDigest, bounds: &Bounds, event: Event) -> bool
+    ensures taken { IsTrue result → (criterion : Criterion)
+        → StaysFine criterion bounds.now event kept.old kept.new }
+    ensures left { IsFalse result → StaysKept kept.old kept.new }
+{
+    match kept.window.next(event) {
+        Ok(Move::Begin) => begin_at_once(kept, bounds, event),
+        Ok(Move::Ask(place)) => {
+            if !kept.witness.is_known() {
+                return false;
+            }
+            kept.window.ask(event, place);
+            true
+        }
+        // Adds are rare: the steps of reads and writes have nothing of them.
+        Ok(Move::Answer(place, Op::Add(register, added, answer))) => {
+            add_at_once(kept, event.thread, place, register, added, answer)
+        }
+        Ok(Move::Answer(place, op)) => answer_at_once(kept, event, place, op),
+        Ok(Move::End(place)) => end_at_once(kept, event, place),
+        Err(_) => false,
+    }
+}
+
+/// Takes at once an event that begins a transaction, if the window has room.
+#[inline(always)]
+fn begin_at_once(kept: &mut HistoryDigest, bounds: &Bounds, event: Event) -> bool
+    requires next { IsNext kept.old.window event Begin }
+    ensures taken { IsTrue result → (criterion : Criterion)
+        → StaysFine criterion bounds.now event kept.old kept.new }
+    ensures left { IsFalse result → kept.new ≡ kept.old }
+{
+    if kept.window.count() >= bounds.window {
+        return false;
+    }
+    let place = kept.window.begin(event);
+    kept.witness.begin(place);
+    true
+}
+
+/// Takes at once an answer, which makes this operation, if the serial order that is kept explains it.
+#[inline(always)]
+fn answer_at_once(kept: &mut HistoryDigest, event: Event, place: Ix, op: Op) -> bool
+    requires next { IsNext kept.old.window event (Answer place op) }
+    ensures taken { IsTrue result → (criterion : Criterion) (bounds : Bounds)
+        → StaysFine criterion bounds event kept.old kept.new }
+    ensures left { IsFalse result → kept.new ≡ kept.old }
+{
+    if !kept.witness.explains_answer(&kept.window, event, place, op) {
+        return false;
+    }
+    kept.window.answer(event, place, op);
+    true
+}
+
+/// Takes at once the thread's answer to an add, if the serial order that is kept explains it. It is called with the event's parts, since
+/// the event is no value in memory.
+#[inline(never)]
+fn add_at_once(
+    kept: &mut HistoryDigest,
+    thread: Ix,
+    place: Ix,
+    register: Ix,
+    added: u64,
+    answer: u64,
+) -> bool
+    requires next { IsNext kept.old.window (record { thread = thread; kind = V answer })
+        (Answer place (Add register added answer)) }
+    ensures taken { IsTrue result → (criterion : Criterion) (bounds : Bounds)
+        → StaysFine criterion bounds (record { thread = thread; kind = V answer }) kept.old kept.new }
+    ensures left { IsFalse result → kept.new ≡ kept.old }
+{
+    let event = Event {
+        thread,
+        kind: Kind::V(answer),
+    };
+    answer_at_once(kept, event, place, Op::Add(register, added, answer))
+}
+
+/// Takes at once an event that ends a transaction, if the serial order that is kept explains it. Where it ends the only one, from the
+/// only outcome before it, the order leads to the only outcome.
+#[inline(always)]
+fn end_at_once(kept: &mut HistoryDigest, event: Event, place: Ix) -> bool
+    requires next { IsNext kept.old.window event (End place) }
+    ensures taken { IsTrue result → (criterion : Criterion) (bounds : Bounds)
+        → StaysFine criterion bounds event kept.old kept.new }
+    ensures left { IsFalse result → StaysKept kept.old kept.new }
+{
+    kept.witness.hold_pending(&kept.window, event, place);
+    if !kept.witness.explains_end(&kept.window, event, place) {
+        return false;
+    }
+    if !kept.window.is_cut_with(place) {
+        kept.window.end(event, place);
+        return true;
+    }
+    if kept.window.count() != 1 || kept.states.len() != 1 {
+        return false;
+    }
+    let Some(end) = kept.witness.known_end() else {
+        return false;
+    };
+    kept.states.put_only(end);
+    kept.witness.restart_at_end();
+    kept.window.end(event, place);
+    kept.window.clear();
+    true
+}

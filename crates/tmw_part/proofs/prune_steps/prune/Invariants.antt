@@ -1,0 +1,11 @@
+use Rattle.tmw_part.proofs.Shared.{IsFalse, IsNeededEachIn, IsReasonIn, if◌then◌else◌, length, ◌+◌}
+use Rattle.tmw_part.proofs.prune_steps.prune.Given as goal
+
+abbrev pub invariant-loop-more : goal.invariant-loop-more
+invariant-loop-more l = record {
+  reason : IsReasonIn l.judged l.end l.kept.items;
+  needed : IsFalse l.more → IsNeededEachIn l.judged l.end l.kept.items;
+}
+
+abbrev pub decreases-loop-more : goal.decreases-loop-more
+decreases-loop-more l = if l.more then length l.kept.items + 1 else 0

@@ -1,4 +1,0 @@
-use Rattle.tmw_search.proofs.completions.+add_completions.Given as goal
-
-abbrev pub decreases-add_completions : goal.decreases-add_completions
-decreases-add_completions l = l.left

@@ -1,5 +1,0 @@
-use Rattle.tmw_search.proofs.Shared.{In, slice_index, ℕ, ◌<◌, ◌≡◌}
-use Rattle.tmw_search.proofs.completions.differ.Given as goal
-
-abbrev pub invariant-loop-r : goal.invariant-loop-r
-invariant-loop-r l = (q : ℕ) → q < l.r → In l.mask q → slice_index l.one q ≡ slice_index l.other q
