@@ -4,7 +4,7 @@ pub mod Kinds
 pub mod Laws
 pub mod Open
 pub mod Record
-pub mod Room
+pub mod RecordRoom
 pub mod Statuses
 pub mod Summary
 pub mod TurnCalls

@@ -4,7 +4,7 @@ ghost use Rattle.tmw_c.specs.Close.{AreOfWatch, IsClosing};
 ghost use Rattle.tmw_c.specs.Judge.{IsPumping, IsReporting};
 ghost use Rattle.tmw_c.specs.Open.{IsOpening};
 ghost use Rattle.tmw_c.specs.Record.{IsRecording};
-ghost use Rattle.tmw_c.specs.Room.{IsAsking};
+ghost use Rattle.tmw_c.specs.RecordRoom.{IsAsking};
 ghost use Rattle.tmw_c.specs.Statuses.{Tells};
 ghost use Rattle.tmw_c.specs.Summary.{IsSumming};
 ghost use Rattle.tmw_handles.specs.HandleContent.{recorder_in, watch_in};
@@ -12,7 +12,7 @@ ghost use Rattle.tmw_handles.specs.HandleContent.{recorder_in, watch_in};
 use crate::c_counts::CCounts;
 use crate::c_settings::CSettings;
 use crate::c_verdict::CVerdict;
-use crate::{close, judge, open, record, room};
+use crate::{close, judge, open, record, record_room};
 use std::alloc::Global;
 use tmw_handles::{RecorderHandle, WatchHandle};
 
@@ -66,7 +66,7 @@ pub extern "C" fn tmwatch_room(recorder: &mut RecorderHandle, records: u64) -> u
     ensures { Tells result (IsAsking records (recorder_in recorder.old)
         (recorder_in recorder.new)) }
 {
-    room::ask(recorder, records).number()
+    record_room::ask(recorder, records).number()
 }
 
 /// Judges up to `most` events.

@@ -14,6 +14,6 @@ mod kind_exports;
 mod laws;
 mod open;
 mod record;
-mod room;
+mod record_room;
 mod turn_calls;
 mod turn_exports;

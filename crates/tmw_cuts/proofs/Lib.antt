@@ -12,5 +12,6 @@ pub mod OneEventMore
 pub mod Pushes
 mod RegisterUse
 mod Shared
+mod Steps
 pub mod StrictOrder
 pub mod TurnSteps

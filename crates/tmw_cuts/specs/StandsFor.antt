@@ -6,7 +6,7 @@ use Rattle.tmw_defs.specs.History.{Txn, operations, status_of, transactions, is_
 use Rattle.tmw_defs.specs.Opaque.{precedes}
 use Rattle.tmw_wellformed.specs.Faults.{lacks_register}
 use Rattle.tmw_events.specs.declared.ix.Ix.{Ix}
-use Rattle.tmw_cuts.specs.declared.mark.Mark.{Mark}
+use Rattle.tmw_cuts.specs.declared.undo_mark.Mark.{Mark}
 use Rattle.tmw_cuts.specs.declared.turn.Move.{Move}
 use Rattle.tmw_cuts.specs.declared.turn.Move.TheVariants.{Begin, End}
 use Rattle.tmw_cuts.specs.declared.turn.Turn.{Turn}

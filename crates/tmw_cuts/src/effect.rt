@@ -7,7 +7,7 @@ ghost use Rattle.tmw_cuts.specs.RegisterMask.{IsMaskOf, chosen, have};
 ghost use Rattle.tmw_cuts.specs.Replays.{Replays};
 ghost use Rattle.tmw_cuts.specs.RegisterUse.{writes, needs};
 
-use crate::mask::lowest;
+use crate::lowest_bit::lowest;
 use crate::states::State;
 use tmw_defs::Op;
 use tmw_events::{Ix, MOST_REGISTERS};

@@ -2,21 +2,21 @@
 #![tactic(auto)]
 
 mod effect;
-mod mark;
-mod mask;
+mod ghost_list;
+mod lowest_bit;
 mod operation_and_status;
-mod operations;
 mod states;
 mod turn;
 mod txn;
+mod undo_mark;
 mod window;
 
 pub use effect::Effect;
-pub use mark::Mark;
-pub use mask::lowest;
+pub use ghost_list::GhostList;
+pub use lowest_bit::lowest;
 pub use operation_and_status::{operation, status_after};
-pub use operations::Operations;
 pub use states::{State, States};
 pub use turn::{Move, Stage, Turn};
 pub use txn::{MOST_TRANSACTIONS, Txn};
+pub use undo_mark::Mark;
 pub use window::Window;

@@ -6,8 +6,8 @@ ghost use Rattle.tmw_cuts.specs.Replays.{Replays};
 ghost use Rattle.tmw_cuts.specs.RegisterUse.{writes, needs};
 
 use crate::effect::Effect;
+use crate::ghost_list::GhostList;
 use crate::operation_and_status::status_after;
-use crate::operations::Operations;
 use crate::states::State;
 use tmw_defs::{Op, Status};
 use tmw_events::Kind;
@@ -19,7 +19,7 @@ pub const MOST_TRANSACTIONS: usize = 8;
 #[derive(Debug, Drop)]
 pub struct Txn {
     /// Its answered operations, in order, for clauses alone.
-    pub ops: Operations,
+    pub ops: GhostList<Op>,
     pub status: Status,
     /// Bit j says that transaction j of the window had completed before this one's first event.
     pub before: u8,
@@ -36,7 +36,7 @@ impl Txn {
         ensures { view result ≡ new_view kind before }
     {
         Txn {
-            ops: Operations::new(),
+            ops: GhostList::new(),
             status: status_after(kind),
             before,
             effect: Effect::new(),
@@ -48,7 +48,7 @@ impl Txn {
     pub(crate) fn begin(&mut self, kind: Kind, before: u8)
         ensures { view self.new ≡ new_view kind before }
     {
-        self.ops = Operations::new();
+        self.ops = GhostList::new();
         self.status = status_after(kind);
         self.before = before;
         self.effect.clear();

@@ -3,10 +3,10 @@ ghost use Rattle.tmw_wellformed.specs.Faults.{lacks_register};
 ghost use Rattle.tmw_cuts.specs.Turns.{change};
 ghost use Rattle.tmw_cuts.specs.Views.{view, with_op, with_status};
 
-use crate::mark::Mark;
 use crate::operation_and_status::status_after;
 use crate::turn::{self, Move, Turn};
 use crate::txn::{MOST_TRANSACTIONS, Txn};
+use crate::undo_mark::Mark;
 use tmw_defs::{Op, Status};
 use tmw_events::{Event, Ix, Kind, MOST_THREADS, Registers};
 use tmw_wellformed::{Malformed, Note};

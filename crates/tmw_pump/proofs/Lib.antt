@@ -5,6 +5,5 @@ pub mod KeepSteps
 pub mod KindsMade
 pub mod OneLog
 mod Shared
-mod Steps
 pub mod Turns
 pub mod Verdicts

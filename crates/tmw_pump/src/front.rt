@@ -2,10 +2,10 @@ ghost use Rattle.std.specs.Prelude.{◌≡◌, ◌∷◌, ◌++◌, ◌+◌, ◌
 ghost use Rattle.tmw_counts.specs.Summary.{IsSummary};
 ghost use Rattle.tmw_pump.specs.HeldEvent.{JudgesOpacity, WasCounted, WasFed, listed};
 
-use crate::judged_log::JudgedLog;
 use crate::pumped::Pumped;
 use std::alloc::AllocError;
 use tmw_counts::{Counter, Summary, is_open};
+use tmw_cuts::GhostList;
 use tmw_defs::Verdict;
 use tmw_events::Event;
 use tmw_monitor::Monitor;
@@ -16,7 +16,7 @@ use tmw_monitor::Monitor;
 pub struct Front {
     monitor: Monitor,
     counter: Counter,
-    judged: JudgedLog,
+    judged: GhostList<Event>,
     held: Option<Event>,
     pub ghost opacity: { JudgesOpacity monitor },
     pub ghost fed: { ∥ WasFed judged.items monitor ∥₁ },
@@ -39,7 +39,7 @@ impl Front {
         Front {
             monitor,
             counter,
-            judged: JudgedLog::new(),
+            judged: GhostList::new(),
             held: None,
         }
     }
@@ -67,7 +67,7 @@ impl Front {
         if open {
             let _refused = self.counter.take(event);
         }
-        self.judged = self.judged.then(&event);
+        self.judged = self.judged.then(&Some(event));
         self.held = None;
         Ok(())
     }

@@ -2,14 +2,12 @@
 #![tactic(auto)]
 
 mod front;
-mod judged_log;
 mod keep;
 mod pump;
 mod pumped;
 mod rest;
 
 pub use front::Front;
-pub use judged_log::JudgedLog;
 pub use keep::Keep;
 pub use pump::Pump;
 pub use pumped::Pumped;

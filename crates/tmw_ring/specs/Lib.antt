@@ -4,10 +4,10 @@ pub mod Record
 pub mod RingEnds
 pub mod Room
 pub mod Rule
-pub mod RunLaws
 pub mod SeatPart
 pub mod SeatParts
 pub mod Settle
+pub mod TableChangeLaws
 pub mod TableWords
 pub mod Take
 pub mod WriterSteps

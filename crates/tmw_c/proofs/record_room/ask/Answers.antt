@@ -1,5 +1,5 @@
 use Rattle.tmw_c.proofs.Shared.{inr, rules}
-use Rattle.tmw_c.proofs.room.ask.Goals as goal
+use Rattle.tmw_c.proofs.record_room.ask.Goals as goal
 
 pub returns : goal.returns
 returns c =

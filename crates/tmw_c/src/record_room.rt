@@ -1,6 +1,6 @@
 //! Asking for room for several records by a handle.
 ghost use Rattle.tmw_c.specs.Record.{IsSameEnd};
-ghost use Rattle.tmw_c.specs.Room.{Finds, IsAsking};
+ghost use Rattle.tmw_c.specs.RecordRoom.{Finds, IsAsking};
 ghost use Rattle.tmw_handles.specs.HandleContent.{recorder_in};
 
 use crate::call_status::CallStatus;

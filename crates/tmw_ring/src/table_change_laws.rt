@@ -1,5 +1,5 @@
 //! What a change of a ring's table can be, whoever makes it.
-ghost use Rattle.tmw_ring.specs.RunLaws.{RunLaw, SeatLaw, EmptySeatLaw, ClaimLaw, NotReadyLaw, FrontLaw, SilentLaw};
+ghost use Rattle.tmw_ring.specs.TableChangeLaws.{RunLaw, SeatLaw, EmptySeatLaw, ClaimLaw, NotReadyLaw, FrontLaw, SilentLaw};
 
 use crate::seat_part::Part;
 use atomic_table::Play;
