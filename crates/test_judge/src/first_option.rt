@@ -1,7 +1,8 @@
 //! `judge --first` asks for no byte after the line of the event that makes all verdicts final.
 use tmw_defs::Asked;
-use tmw_judge::{Options, run_judge_with};
+use tmw_judge::run_judge_with;
 use tmw_monitor::Bounds;
+use tmw_options::JudgeOptions;
 use tmw_streams::{MemorySink, MemorySource};
 
 const BOUNDS: Bounds = Bounds {
@@ -52,9 +53,9 @@ fn nothing_is_asked_for_behind_the_final_verdict(rt: HostRuntime) {
         let mut source = MemorySource::limited(text.as_bytes(), 1, fails_at);
         let mut sink = MemorySink::new(rt.alloc());
         let mut errors = MemorySink::new(rt.alloc());
-        let options = Options {
+        let options = JudgeOptions {
             first: true,
-            ..Options::plain(BOUNDS, asked)
+            ..JudgeOptions::plain(BOUNDS, asked)
         };
         let answered = run_judge_with(rt.alloc(), &mut source, &mut sink, &mut errors, options);
         assert_eq!(rt; sink.bytes(), lines.as_bytes());

@@ -35,5 +35,5 @@ pub use Rattle.tmw_args.specs.ReadWords.{FailsAs, IsRefusal, Reads}
 pub use Rattle.tmw_args.specs.CommandOrder.{bounds_in, bounds_of, count_in, flag_in, help_as_flag, kinds_of, names_help, order_in, settings_of, ◌>>=◌}
 pub use Rattle.tmw_args.specs.declared.refusal.Refusal.{Refusal}
 pub use Rattle.tmw_args.specs.declared.refusal.Refusal.TheVariants.{Help, Memory, Usage, Version}
-pub use Rattle.tmw_bench.specs.declared.settings.Settings.{Settings}
+pub use Rattle.tmw_options.specs.declared.bench_settings.Settings.{Settings}
 pub use Rattle.tmw_monitor.specs.declared.bounds.Bounds.{Bounds}

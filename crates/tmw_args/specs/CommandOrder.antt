@@ -9,9 +9,9 @@ use Rattle.clap.specs.declared.error.kind.ErrorKind.TheVariants.{DisplayHelp, Di
 use Rattle.tmw_defs.specs.declared.criterion.Asked.{Asked}
 use Rattle.tmw_defs.specs.declared.criterion.Criterion.{Criterion}
 use Rattle.tmw_monitor.specs.declared.bounds.Bounds.{Bounds}
-use Rattle.tmw_bench.specs.declared.settings.Settings.{Settings}
-use Rattle.tmw_show.specs.declared.form.Form.{Form}
-use Rattle.tmw_show.specs.declared.form.Form.TheVariants.{Drawing, Traces, Page}
+use Rattle.tmw_options.specs.declared.bench_settings.Settings.{Settings}
+use Rattle.tmw_options.specs.declared.form.Form.{Form}
+use Rattle.tmw_options.specs.declared.form.Form.TheVariants.{Drawing, Traces, Page}
 use Rattle.tmw_args.specs.OptionNumbers.{Count, counted}
 use Rattle.tmw_args.specs.CriteriaAndMemories.{asked_named, criterion_named, memory_named, named}
 use Rattle.tmw_args.specs.declared.command_order.Order.{Order}

@@ -1,5 +1,5 @@
 use crate::run_options::RunOptions;
-use tmw_bench::Settings;
+use tmw_options::Settings;
 
 /// What the options of `bench` say.
 #[derive(Clone, Copy, PartialEq, Eq, Debug)]

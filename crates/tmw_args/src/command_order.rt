@@ -1,15 +1,14 @@
 use crate::bench_options::BenchOptions;
 use crate::run_options::RunOptions;
 use crate::which_memory::Which;
-use tmw_judge::Options;
 use tmw_monitor::Bounds;
-use tmw_show::ShowOptions;
+use tmw_options::{JudgeOptions, ShowOptions};
 
 /// What the command line asks the program to do.
 #[derive(Clone, Copy, PartialEq, Eq, Debug)]
 pub enum Order {
     /// To judge the trace on standard input, as these options say.
-    Judge(Options),
+    Judge(JudgeOptions),
     /// To judge the trace on standard input, and to show where it went wrong, as these options say.
     Show(ShowOptions),
     /// To run the workload on standard input on this memory, and to judge the run within these bounds. The options say

@@ -15,11 +15,9 @@ use clap::error::ErrorKind;
 use clap::{ArgMatches, Command, Error};
 use std::alloc::{AllocError, Global};
 use std::convert::AsStr;
-use tmw_bench::Settings;
 use tmw_defs::{Asked, Criterion};
-use tmw_judge::Options;
 use tmw_monitor::Bounds;
-use tmw_show::{Form, ShowOptions};
+use tmw_options::{Form, JudgeOptions, Settings, ShowOptions};
 
 /// The most cells of a ring.
 const MOST_CELLS: u64 = 4096;
@@ -130,7 +128,7 @@ fn judge_of(judge: &ArgMatches<'_>) -> Option<Order>
     let summary = flag_of(judge, "summary")?;
     let first = flag_of(judge, "first")?;
     let bounds = bounds_of(judge)?;
-    Some(Order::Judge(Options {
+    Some(Order::Judge(JudgeOptions {
         bounds,
         asked,
         first,

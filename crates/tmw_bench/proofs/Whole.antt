@@ -2,7 +2,7 @@
 use Rattle.tmw_bench.proofs.Shared.{All, AllOpaque, Answer, AreEndings, AreInOrder, Call, Ending, Event, HasBenched, HasNumbers, HaveAllPlayedLast, Headline, IsInRounds, IsLogOfAll, IsSettled, IsTrue, IsVerdict, Kind, List, None, OpaqueSoFar, Option, ReaderIs, ReaderOf, Refused, RingIs, Rules, Some, SomeStopped, Verdict, WriterIs, WriterOf, ap, are_transactions, ending_of, get_or, length, rules_of, script_at, subst, sym, zeros, ℕ, ◌++◌, ◌+◌, ◌<◌, ◌∙◌, ◌≡◌, ◌≢◌, ◌≤◌, ◌⊎◌}
 use Rattle.tmw_bench.proofs.InRounds.{in_rounds, log_of_all-settled}
 use Rattle.tmw_bench.proofs.NeverMalformed.{formed-in_rounds}
-use Rattle.tmw_bench.specs.declared.settings.Settings.{Settings}
+use Rattle.tmw_options.specs.declared.bench_settings.Settings.{Settings}
 use Rattle.tmw_events.specs.declared.registers.Registers.{Registers}
 use Rattle.tmw_ring_defs.specs.Runs.{IsRunTo}
 use Rattle.tmw_ring_defs.specs.declared.ring_size.RingSize.{RingSize}

@@ -4,7 +4,7 @@ use Rattle.tmw_bench.specs.declared.bench_result.BenchResult.{BenchResult}
 use Rattle.tmw_bench.specs.declared.fault.BenchFault.{BenchFault}
 use Rattle.tmw_bench.specs.declared.fault.BenchFault.TheVariants.{Registers as TooManyRegisters, Ring, Memory, Spawn}
 use Rattle.tmw_bench.specs.declared.hunt_result.HuntResult.{HuntResult}
-use Rattle.tmw_bench.specs.declared.settings.Settings.{Settings}
+use Rattle.tmw_options.specs.declared.bench_settings.Settings.{Settings}
 use Rattle.tmw_counts.specs.CountedPart.{part_by}
 use Rattle.tmw_counts.specs.Summary.{IsSummary}
 use Rattle.tmw_defs.specs.Opaque.{zeros}

@@ -2,7 +2,7 @@
 use Rattle.std.specs.Prelude.{ℕ, List}
 use Rattle.tmw_bench.specs.BenchHeadline.{HasBenched}
 use Rattle.tmw_bench.specs.declared.bench.Carried.{Carried}
-use Rattle.tmw_bench.specs.declared.settings.Settings.{Settings}
+use Rattle.tmw_options.specs.declared.bench_settings.Settings.{Settings}
 use Rattle.tmw_defs.specs.Opaque.{zeros}
 use Rattle.tmw_events.specs.declared.event.Kind.{Kind}
 use Rattle.tmw_events.specs.declared.registers.Registers.{Registers}

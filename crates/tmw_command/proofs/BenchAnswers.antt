@@ -14,7 +14,7 @@ use Rattle.tmw_command.specs.declared.bench.hunt_run.HuntRun.{HuntRun}
 use Rattle.tmw_bench.specs.declared.fault.BenchFault.{BenchFault}
 use Rattle.tmw_bench.specs.declared.fault.BenchFault.TheVariants.{Memory as LacksMemory, Registers as LacksRegisters, Ring as HasNoRing, Spawn as LacksThreads}
 use Rattle.tmw_bench.specs.declared.hunt_result.HuntResult.{HuntResult}
-use Rattle.tmw_bench.specs.declared.settings.Settings.{Settings}
+use Rattle.tmw_options.specs.declared.bench_settings.Settings.{Settings}
 use Rattle.tmw_command.proofs.DriveAnswers.{text_over}
 use Rattle.tmw_events.specs.declared.registers.Registers.{Registers as Width}
 use Rattle.tmw_runs.specs.Scripts.{scripts_of, script_of}

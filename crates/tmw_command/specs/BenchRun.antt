@@ -4,8 +4,8 @@ use Rattle.tmw_bench.specs.declared.bench_result.BenchResult.{BenchResult}
 use Rattle.tmw_bench.specs.declared.hunt_result.HuntResult.{HuntResult}
 use Rattle.tmw_defs.specs.declared.criterion.Criterion.TheVariants.{Opacity}
 use Rattle.tmw_report.specs.Lines.{report_text}
-use Rattle.tmw_show.specs.declared.form.Form.{Form}
-use Rattle.tmw_show.specs.declared.form.Form.TheVariants.{Drawing, Traces}
+use Rattle.tmw_options.specs.declared.form.Form.{Form}
+use Rattle.tmw_options.specs.declared.form.Form.TheVariants.{Drawing, Traces}
 use Rattle.tmw_command.specs.Ends.{ends_line}
 use Rattle.tmw_command.specs.declared.bench.bench_run.BenchRun.{BenchRun}
 use Rattle.tmw_args.specs.declared.bench_options.BenchOptions.{BenchOptions}

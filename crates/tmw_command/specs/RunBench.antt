@@ -4,7 +4,7 @@ use Rattle.std.specs.Bool.{MatchBool}
 use Rattle.tmw_bench.specs.BenchHeadline.{IsBenched, IsHunted, IsNoBench}
 use Rattle.tmw_bench.specs.declared.fault.BenchFault.{BenchFault}
 use Rattle.tmw_bench.specs.declared.fault.BenchFault.TheVariants.{Memory as LacksMemory, Registers as LacksRegisters, Ring as HasNoRing, Spawn as LacksThreads}
-use Rattle.tmw_bench.specs.declared.settings.Settings.{Settings}
+use Rattle.tmw_options.specs.declared.bench_settings.Settings.{Settings}
 use Rattle.tmw_events.specs.declared.registers.Registers.{Registers}
 use Rattle.tmw_defs.specs.declared.criterion.Criterion.TheVariants.{Opacity}
 use Rattle.tmw_report.specs.Remark.{IsRemarkedRun, RemarksRun}

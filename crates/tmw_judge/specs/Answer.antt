@@ -28,7 +28,7 @@ use Rattle.tmw_report.specs.SummaryLine.{summary_text}
 use Rattle.tmw_judge.specs.declared.judge_result.JudgeResult.{JudgeResult}
 use Rattle.tmw_judge.specs.declared.by_criterion.ByCriterion.{ByCriterion}
 use Rattle.tmw_judge.specs.declared.by_criterion.ByCriterion.TheVariants.{Opacity, Strict, Both}
-use Rattle.tmw_judge.specs.declared.options.Options.{Options}
+use Rattle.tmw_options.specs.declared.judge_options.JudgeOptions.{JudgeOptions}
 use Rattle.tmw_judge.specs.declared.report.Report.{Report}
 use Rattle.tmw_judge.specs.Tally.{all_open, any_open, counted_part, HasSummary}
 use Rattle.tmw_judge.specs.Judge.{AreReports, report_lines, report_status, trace_rules}
@@ -112,10 +112,10 @@ AnswersBy first summary bounds asked Ended bytes (Ok answer) = IsAnswer first su
 AnswersBy first summary bounds asked Ended bytes (Err fault) = AnswersTextFault (HasFaultFor first bounds asked Ended bytes) fault
 
 -- The options of a run that reads the whole trace and counts nothing.
-abbrev pub plain : Bounds → Asked → Options
+abbrev pub plain : Bounds → Asked → JudgeOptions
 plain bounds asked = record { bounds = bounds; asked = asked; first = false; summary = false }
 
-abbrev pub Answers : Options → Type 0 → List ℕ → Result JudgeResult Fault → Type 0
+abbrev pub Answers : JudgeOptions → Type 0 → List ℕ → Result JudgeResult Fault → Type 0
 Answers options = AnswersBy options.first options.summary options.bounds options.asked
 
 -- The line of the counts, if there are counts.
@@ -159,6 +159,6 @@ abbrev pub remark_of : JudgeResult → Option Remark
 remark_of answer = remark_by answer.broken answer
 
 -- What a run of `judge` does. The sink for errors is told a remark on the run, or which line has a fault.
-abbrev pub JudgesWith : {S K E : Type 0} → FromSource S → ToSink K → ToSink E → Options → S → S → K → K → E → E → ℕ → Type 0
+abbrev pub JudgesWith : {S K E : Type 0} → FromSource S → ToSink K → ToSink E → JudgeOptions → S → S → K → K → E → E → ℕ → Type 0
 JudgesWith From To Errors options =
     IsRemarkedRun From To (Answers options) judged_lines judged_status (RemarksTrace Errors remark_of)

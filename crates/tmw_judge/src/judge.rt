@@ -13,13 +13,13 @@ use crate::feed_first::feed_first;
 use crate::judge_result::JudgeResult;
 use crate::judges::Judges;
 use crate::monitors::{broken_of, monitors_for, reports_of};
-use crate::options::Options;
 use crate::tally::{NoTally, StrictNoTally, Tally};
 use std::alloc::Global;
 use tmw_counts::Counter;
 use tmw_defs::Asked;
 use tmw_lines::TextFault;
 use tmw_monitor::Bounds;
+use tmw_options::JudgeOptions;
 use tmw_report::{Fault, quote_fault};
 use tmw_streams::{Sink, Source};
 use tmw_trace::TraceLines;
@@ -33,7 +33,7 @@ pub fn judge<S: Source, E: Sink>(
     alloc: Global,
     source: &mut S,
     errors: &mut E,
-    options: Options,
+    options: JudgeOptions,
 ) -> Result<JudgeResult, Fault>
     ensures right { (bytes : List ℕ) × Tells S.from source.old bytes source.new
         × Answers options (S.from.ended source.new) bytes result
@@ -55,7 +55,7 @@ fn judge_by<S: Source, E: Sink, C: Tally>(
     alloc: Global,
     source: &mut S,
     errors: &mut E,
-    options: Options,
+    options: JudgeOptions,
 ) -> Result<JudgeResult, Fault>
     ensures right { (bytes : List ℕ) × Tells S.from source.old bytes source.new
         × AnswersBy options.first C.counted options.bounds options.asked (S.from.ended source.new)
@@ -78,7 +78,7 @@ fn feed_judges<S: Source, E: Sink, C: Tally>(
     alloc: Global,
     source: &mut S,
     errors: &mut E,
-    options: Options,
+    options: JudgeOptions,
 ) -> Result<Judges<C>, Fault>
     ensures right { (bytes : List ℕ) × Tells S.from source.old bytes source.new
         × AnswersFed options.first C.counts options.bounds options.asked (S.from.ended source.new)

@@ -9,10 +9,10 @@ ghost use Rattle.tmw_judge.specs.Judge.{JudgesBytes};
 use crate::answer_lines::{judged_lines, remark_of, status_of_reports};
 use crate::judge::judge;
 use crate::judge_result::JudgeResult;
-use crate::options::Options;
 use std::alloc::Global;
 use tmw_defs::Asked;
 use tmw_monitor::Bounds;
+use tmw_options::JudgeOptions;
 use tmw_report::{FAULT_STATUS, Fault, answer_fault, send_remark};
 use tmw_streams::{BoundedSink, Sink, Source, put_all};
 
@@ -30,7 +30,7 @@ pub fn run_judge<S: Source, K: Sink>(
     ensures { JudgesBytes S.from K.to bounds asked
         source.old source.new sink.old sink.new result }
 {
-    let options = Options::plain(bounds, asked);
+    let options = JudgeOptions::plain(bounds, asked);
     run_judge_with(alloc, source, sink, &mut BoundedSink::new(), options)
 }
 
@@ -45,7 +45,7 @@ pub fn run_judge_with<S: Source, K: Sink, E: Sink>(
     source: &mut S,
     sink: &mut K,
     errors: &mut E,
-    options: Options,
+    options: JudgeOptions,
 ) -> u8
     ensures { JudgesWith S.from K.to E.to options
         source.old source.new sink.old sink.new errors.old errors.new result }

@@ -11,11 +11,9 @@ mod judge_command;
 mod judge_result;
 mod judges;
 mod monitors;
-mod options;
 mod report;
 mod tally;
 
 pub use by_criterion::ByCriterion;
 pub use judge_command::{run_judge, run_judge_with};
-pub use options::Options;
 pub use report::Report;

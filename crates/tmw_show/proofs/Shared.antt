@@ -35,5 +35,5 @@ pub use Rattle.tmw_show.specs.TracesLaw.{AreJudgedLike, IsContradictory, IsHeade
 pub use Rattle.tmw_show.specs.ValueNames.{long_values, names_from, values_after}
 pub use Rattle.tmw_show.specs.declared.needed_events.NeededEvents.{NeededEvents}
 pub use Rattle.tmw_show.specs.declared.needed_events.NeededEvents.TheVariants.{NotViolated, Part, Unasked}
-pub use Rattle.tmw_show.specs.declared.show_options.ShowOptions.{ShowOptions}
+pub use Rattle.tmw_options.specs.declared.show_options.ShowOptions.{ShowOptions}
 pub use Rattle.tmw_show.specs.declared.shown_trace.ShownTrace.{ShownTrace}

@@ -20,9 +20,9 @@ use Rattle.tmw_report.specs.declared.remark.Remark.TheVariants.{Broken as IsBrok
 use Rattle.tmw_streams.specs.Streams.{FromSource, ToSink}
 use Rattle.tmw_window.specs.ShownWindow.{IsShowing}
 use Rattle.tmw_part.specs.Marks.{kept_of}
-use Rattle.tmw_show.specs.declared.form.Form.{Form}
-use Rattle.tmw_show.specs.declared.form.Form.TheVariants.{Drawing, Traces, Page}
-use Rattle.tmw_show.specs.declared.show_options.ShowOptions.{ShowOptions}
+use Rattle.tmw_options.specs.declared.form.Form.{Form}
+use Rattle.tmw_options.specs.declared.form.Form.TheVariants.{Drawing, Traces, Page}
+use Rattle.tmw_options.specs.declared.show_options.ShowOptions.{ShowOptions}
 use Rattle.tmw_show.specs.declared.shown_trace.ShownTrace.{ShownTrace}
 use Rattle.tmw_show.specs.Drawing.{states_text, window_text}
 use Rattle.tmw_show.specs.NeededEvents.{IsNeededOf, marks_of, needed_text, reason_of}

@@ -17,10 +17,10 @@ use Rattle.tmw_cuts.specs.Members.{members}
 use Rattle.tmw_monitor.specs.declared.bounds.Bounds.{Bounds}
 use Rattle.tmw_monitor.specs.Fits.{rules_for}
 use Rattle.tmw_window.specs.WindowLaw.{at_end}
-use Rattle.tmw_show.specs.declared.form.Form.TheVariants.{Traces}
+use Rattle.tmw_options.specs.declared.form.Form.TheVariants.{Traces}
 use Rattle.tmw_show.specs.declared.needed_events.NeededEvents.{NeededEvents}
 use Rattle.tmw_show.specs.declared.needed_events.NeededEvents.TheVariants.{Part}
-use Rattle.tmw_show.specs.declared.show_options.ShowOptions.{ShowOptions}
+use Rattle.tmw_options.specs.declared.show_options.ShowOptions.{ShowOptions}
 use Rattle.tmw_show.specs.declared.shown_trace.ShownTrace.{ShownTrace}
 use Rattle.tmw_show.specs.RunShow.{IsShownOf, shown_events, shown_text}
 

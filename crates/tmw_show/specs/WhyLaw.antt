@@ -4,7 +4,7 @@ use Rattle.tmw_cuts.specs.Members.{members}
 use Rattle.tmw_part.specs.FindPart.{IsMinimalPart}
 use Rattle.tmw_show.specs.NeededEvents.{IsViolation, marks_of}
 use Rattle.tmw_show.specs.RunShow.{IsShownOf}
-use Rattle.tmw_show.specs.declared.show_options.ShowOptions.{ShowOptions}
+use Rattle.tmw_options.specs.declared.show_options.ShowOptions.{ShowOptions}
 use Rattle.tmw_show.specs.declared.shown_trace.ShownTrace.{ShownTrace}
 
 -- Where it is asked why a run is violated, and its last window has at most 1,000 events, those that are shown of them are a part that is

@@ -5,7 +5,6 @@ ghost use Rattle.tmw_show.specs.NeededEvents.{reason_of};
 ghost use Rattle.tmw_show.specs.Sentences.{reason_text, told_sentence};
 ghost use Rattle.tmw_show.specs.TracesText.{traces_text};
 
-use crate::form::Form;
 use crate::item_text::push_each;
 use crate::needed_events::{NeededEvents, marks_of, push_needed};
 use crate::origin_sentence::told_by;
@@ -20,6 +19,7 @@ use crate::window_text::push_window;
 use std::alloc::{AllocError, Global};
 use tmw_defs::Criterion;
 use tmw_events::Event;
+use tmw_options::Form;
 use tmw_part::kept_of;
 use tmw_report::report_by;
 

@@ -3,7 +3,6 @@
 #![tactic(auto)]
 
 mod event_text;
-mod form;
 mod form_text;
 mod item_text;
 mod laws;
@@ -16,7 +15,6 @@ mod run_verdict;
 mod sentences;
 mod show_answer;
 mod show_command;
-mod show_options;
 mod show_trace;
 mod shown_trace;
 mod state_line;
@@ -25,10 +23,8 @@ mod transaction_names;
 mod value_names;
 mod window_text;
 
-pub use form::Form;
 pub use form_text::shown_text;
 pub use laws::{law_traces, law_why};
 pub use needed_events::NeededEvents;
 pub use show_command::run_show;
-pub use show_options::ShowOptions;
 pub use shown_trace::ShownTrace;

@@ -5,11 +5,11 @@ ghost use Rattle.tmw_report.specs.Remark.{Remarks};
 ghost use Rattle.tmw_report.specs.declared.fault.Fault.TheVariants.{Memory};
 ghost use Rattle.tmw_show.specs.RunShow.{remark_by, remark_of, shown_status, shown_text};
 
-use crate::form::Form;
 use crate::form_text::shown_text;
 use crate::shown_trace::ShownTrace;
 use std::alloc::Global;
 use tmw_defs::{Criterion, Verdict};
+use tmw_options::Form;
 use tmw_report::{FAULT_STATUS, Fault, Remark, answer_fault, send_remark, status_of};
 use tmw_streams::{Sink, put_all};
 use tmw_window::ShownWindow;

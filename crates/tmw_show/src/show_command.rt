@@ -1,9 +1,9 @@
 ghost use Rattle.tmw_show.specs.RunShow.{ShowsBytes};
 
 use crate::show_answer::answer_shown;
-use crate::show_options::ShowOptions;
 use crate::show_trace::show_trace;
 use std::alloc::Global;
+use tmw_options::ShowOptions;
 use tmw_report::answer_fault;
 use tmw_streams::{Sink, Source};
 

@@ -6,11 +6,11 @@ ghost use Rattle.tmw_report.specs.CommandRun.{failures_after_answer};
 ghost use Rattle.tmw_report.specs.Quote.{RemarksFault};
 ghost use Rattle.tmw_show.specs.RunShow.{AnswersShow};
 
-use crate::show_options::ShowOptions;
 use crate::shown_trace::ShownTrace;
 use std::alloc::Global;
 use tmw_events::Registers;
 use tmw_lines::give_items;
+use tmw_options::ShowOptions;
 use tmw_report::{Fault, quote_fault};
 use tmw_streams::{Sink, Source};
 use tmw_trace::TraceLines;

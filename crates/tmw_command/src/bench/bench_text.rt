@@ -15,10 +15,11 @@ use tmw_args::BenchOptions;
 use tmw_counts::{Summary, is_open};
 use tmw_defs::{Criterion, Verdict};
 use tmw_drive::Ending;
+use tmw_options::Form;
 use tmw_report::{
     FAULT_STATUS, Fault, answer_fault, nothing_shown_if, report_text, send_remark, status_of,
 };
-use tmw_show::{Form, shown_text};
+use tmw_show::shown_text;
 use tmw_streams::{Sink, put_all};
 
 /// Writes the log's trace, and behind it the lines that these options request, and returns the exit status. The lines are

@@ -1,12 +1,11 @@
-ghost use Rattle.std.specs.Prelude.{◌≡◌};
-ghost use Rattle.tmw_judge.specs.Answer.{plain};
+ghost use Rattle.std.specs.Prelude.{◌≡◌, false};
 
 use tmw_defs::Asked;
 use tmw_monitor::Bounds;
 
 /// What `judge` is to do.
 #[derive(Clone, Copy, PartialEq, Eq, Debug)]
-pub struct Options {
+pub struct JudgeOptions {
     pub bounds: Bounds,
     pub asked: Asked,
     /// It ends at the first event at which all verdicts are final, if one comes.
@@ -15,12 +14,13 @@ pub struct Options {
     pub summary: bool,
 }
 
-impl Options {
+impl JudgeOptions {
     /// Returns the options of a run that reads the whole trace and counts nothing.
-    pub const fn plain(bounds: Bounds, asked: Asked) -> Options
-        ensures { result ≡ plain bounds asked }
+    pub const fn plain(bounds: Bounds, asked: Asked) -> JudgeOptions
+        ensures { result ≡ record
+            { bounds = bounds; asked = asked; first = false; summary = false } }
     {
-        Options {
+        JudgeOptions {
             bounds,
             asked,
             first: false,
