@@ -109,7 +109,7 @@ fn close_open(
     }
 }
 
-/// Closes what is held, and returns what `close_open` does, also if it is a closing that was left.
+/// Closes what is held, and returns what `close_open` does, also if it is a `Leftover`.
 fn end(
     alloc: Global,
     held: HeldWatch,

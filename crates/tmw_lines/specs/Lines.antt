@@ -90,11 +90,11 @@ IsNextRead grammar Ended old new bytes (Ok None) = GivesEnd grammar Ended old by
 IsNextRead grammar Ended old new bytes (Err fault) =
     FailsAtLine grammar Ended old new bytes fault × GivesFault grammar Ended old bytes fault × HasFailed new fault
 
--- a call of `next`: of the source, it was told some bytes, and the reader answers by them
+-- a call of `next`, in which the source goes from `a` to `b` and the reader from `old` to `new`, has answered this
 pub record ReadsNext {F H E S : Type 0} (grammar : Grammar F H E) (From : FromSource S) (a b : S) (old new : Lines F)
     (result : Result (Option E) TextFault) : Type 0 where
   -- the source told these bytes
   pub bytes : List ℕ
   pub told : Tells From a bytes b
-  -- and answered by them
+  -- the reader has answered by them
   pub is : IsNextRead grammar (From.ended b) old new bytes result
