@@ -12,9 +12,8 @@ static void stop(struct bench *b, uint32_t status)
 }
 
 static void step(tmwatch_attempt *a, unsigned pauses);
-static void break_at_event(const struct bench *b);
 
-/* One time in two a few turns, and one time in 64 another thread's turn; by steps, a step. Nobody is met in a look. */
+/* One time in two a few turns, and one time in 64 another thread's turn, unless calls give it anyway; by steps, a step. Nobody is met in a look. */
 static void pause_sometimes(tmwatch_attempt *a, unsigned pauses)
 {
     uint64_t most = a->looks ? 0 : a->bench->plan.pause;
@@ -25,7 +24,7 @@ static void pause_sometimes(tmwatch_attempt *a, unsigned pauses)
     bool waits = draw(&a->pauses, 2) == 0;
     for (volatile uint64_t turns = waits ? draw(&a->pauses, most) : 0; turns > 0; turns--)
         ;
-    if (draw(&a->pauses, 64) == 0)
+    if (!a->bench->has_asked && draw(&a->pauses, 64) == 0)
         sched_yield();
 }
 
@@ -47,61 +46,64 @@ unsigned tmwatch_thread(void)
     return this_thread ? this_thread->thread : 0;
 }
 
-/* Keeps an event that was recorded at this place, if the watch has answered so, after what is counted of it. */
-static void keep(tmwatch_attempt *a, uint32_t status, uint64_t place, uint32_t letter, uint64_t reg, uint64_t value)
-{
-    bool looks = a->looks && letter == 'C' && a->calls[0].letter == 'R';
-    if (status != TMWATCH_DONE) {
-        stop(a->bench, status);
-        return;
-    }
-    a->stores += letter == 'W' || letter == 'N';
-    a->bench->kept[place % KEPT] = (struct kept){value, (uint8_t)a->thread, (uint8_t)reg, (char)letter, looks};
-    if (by_steps(a->bench))
-        a->bench->steps.recorded = place + 1;
-    if (a->looks && a->made <= FIRST_ATTEMPTS)
-        a->bench->rejected_at = place + 1;
-    a->keeps++;
-}
-
-/* Before an event, what the thread has stored comes out: so the record is that of the memory. */
-static void before_event(const struct bench *b)
-{
-    if (tmwatch_step_drain)
-        tmwatch_step_drain();
-    if (by_steps(b))
-        break_at_event(b);
-}
-
-/* Says where the thread is. */
 static void set_place(tmwatch_attempt *a, enum place place, unsigned reg)
 {
     atomic_store_explicit(&a->inside, (unsigned)place + 256 * reg, memory_order_relaxed);
 }
 
-/* Records the attempt's next call. There is room for it: the thread has asked for all of the round, or the attempt, before that began. */
+/* Whether the attempt is one of before the memory's crash, so that nothing more is known of it. */
+static bool is_lost(const tmwatch_attempt *a)
+{
+    return a->bench->restart && a->thread < a->bench->plan.threads;
+}
+
+void tmwatch_bench_crash(void (*restart)(void *memory))
+{
+    this_thread->bench->restart = restart;
+    this_thread->bench->stops = true;
+}
+
+/* Records the attempt's next call, or this answer to the one that waits, and keeps the event. There is room for it: the thread has asked for
+   all of the round, or the attempt, before that began. What the thread has stored comes out before: so the record is that of the memory. */
+static void record(tmwatch_attempt *a, const tmwatch_call *answer)
+{
+    struct bench *b = a->bench;
+    const tmwatch_call *it = answer ? answer : &a->now.calls[a->turn.place];
+    bool looks = a->looks && it->letter == 'C' && a->now.calls[0].letter == 'R';
+    uint64_t place = 0;
+    if (is_lost(a))
+        return;
+    if (tmwatch_step_drain)
+        tmwatch_step_drain();
+    uint64_t round = b->steps.begun > 0 ? b->steps.begun : 1; /* (the first look is of round 1) */
+    if (by_steps(b) && round == b->plan.round && b->steps.recorded + 1 - b->steps.starts[b->steps.begun % STARTS] == b->plan.event)
+        tmwatch_break();
+    uint32_t status = answer ? tmwatch_answered(a->recorder, a->now.calls, a->now.count, &a->turn, it->letter, it->value, &place)
+                             : tmwatch_next(a->recorder, a->now.calls, a->now.count, &a->turn, &place);
+    if (status != TMWATCH_DONE) {
+        stop(b, status);
+        return;
+    }
+    a->stores += it->letter == 'W' || it->letter == 'N';
+    b->kept[place % KEPT] = (struct kept){it->value, (uint8_t)a->thread, (uint8_t)it->register_number, (char)it->letter, looks};
+    if (by_steps(b))
+        b->steps.recorded = place + 1;
+    if (a->looks && a->now.made <= FIRST_ATTEMPTS)
+        b->rejected_at = place + 1;
+    a->keeps++;
+}
+
 static void note_call(tmwatch_attempt *a)
 {
-    uint64_t place = 0;
-    const tmwatch_call *call = &a->calls[a->turn.place];
-    before_event(a->bench);
-    uint32_t status = tmwatch_next(a->recorder, a->calls, a->count, &a->turn, &place);
-    keep(a, status, place, call->letter, call->register_number, call->value);
+    if (is_lost(a))
+        return;
+    record(a, NULL);
     if (a->turn.place == 0) {
         a->before = a->bench->asked;
         if (a->bench->orders)
             tmwatch_orders_begins(a->bench->orders, a->thread);
     }
     pause_sometimes(a, 0);
-}
-
-/* Records the answer to the call that waits for it. There is room as for the call. */
-static void note_answer(tmwatch_attempt *a, char letter, uint64_t value)
-{
-    uint64_t place = 0;
-    before_event(a->bench);
-    uint32_t status = tmwatch_answered(a->recorder, a->calls, a->count, &a->turn, (uint32_t)letter, value, &place);
-    keep(a, status, place, (uint32_t)letter, 0, value);
 }
 
 /* Records that the attempt has ended. None follows one that has committed, or was asked to abort. */
@@ -112,12 +114,12 @@ static void end_attempt(tmwatch_attempt *a, bool has_committed)
     if (committed > a->before && committed - a->before > a->foreign)
         a->foreign = committed - a->before;
     b->asked += has_committed;
-    note_answer(a, has_committed ? 'C' : 'A', 0);
+    record(a, &(tmwatch_call){has_committed ? 'C' : 'A', 0, 0});
     b->committed += has_committed;
     if (b->orders)
         tmwatch_orders_ends(b->orders, a->thread);
     if (has_committed || a->has_asked)
-        a->made = a->most;
+        a->now.made = a->now.most;
     if (a->writes && (has_committed || !a->has_asked))
         atomic_fetch_or(has_committed ? &b->stored : &b->refused, a->writes);
     a->is_live = false;
@@ -125,18 +127,47 @@ static void end_attempt(tmwatch_attempt *a, bool has_committed)
         tmwatch_permits_give(&b->permits);
 }
 
-static bool may_look(tmwatch_attempt *a);
-static bool take_permit(tmwatch_attempt *a);
+/* So many events are recorded at most until room is asked for again: those of this round, of the one before, which others may still record,
+   and of a look; or by permits those of eight attempts. */
+enum { ATTEMPT_EVENTS = 4 * MOST_USES + 2, LOOK_EVENTS = 2 * MOST_REGISTERS + 2, ROOM = MOST_ATTEMPTS * (2 * ATTEMPT_EVENTS + LOOK_EVENTS) };
 
-/* Whether a further attempt may begin. By permits it is put off if a look is due, which then comes between two attempts. */
+/* Waits for room, so that no record waits inside a transaction. */
+static void wait_for_room(tmwatch_attempt *a)
+{
+    struct bench *b = a->bench;
+    uint32_t status = TMWATCH_FULL;
+    while (!b->stops && (status = tmwatch_room(a->recorder, ROOM)) == TMWATCH_FULL)
+        nap(REST);
+    /* The watch's 2^40 places come to their end: so do the rounds. */
+    if (status == TMWATCH_SPENT)
+        b->stops = true;
+    else if (status != TMWATCH_DONE && status != TMWATCH_FULL)
+        stop(b, status);
+}
+
+static bool gives_up(tmwatch_attempt *a);
+
+/* Whether a further attempt may begin. By permits it takes one, and until that is given, others record seven attempts at most; it is put off
+   if a look is due, which then comes between two attempts. */
 static bool may_begin(tmwatch_attempt *a)
 {
-    if (a->made == a->most)
+    struct bench *b = a->bench;
+    bool takes = by_permits(b) && !a->looks;
+    if (a->now.made == a->now.most || is_lost(a))
         return false;
-    if (a->looks || !by_permits(a->bench))
-        return !a->looks || may_look(a);
-    a->is_put_off = a->made > 0 && a->bench->attempted >= a->bench->next_look;
-    return !a->is_put_off && take_permit(a);
+    if (!takes && !a->looks)
+        return true;
+    a->is_put_off = takes && a->now.made > 0 && b->attempted >= b->next_look;
+    if (a->is_put_off || (a->looks && a->now.made > 0 && gives_up(a)))
+        return false;
+    if (takes)
+        tmwatch_permits_take(&b->permits);
+    wait_for_room(a);
+    bool begins = !b->stops && !(takes && b->is_late);
+    if (takes && !begins)
+        tmwatch_permits_give(&b->permits);
+    b->attempted += begins && by_permits(b);
+    return begins;
 }
 
 bool tmwatch_begins(tmwatch_attempt *a)
@@ -145,13 +176,18 @@ bool tmwatch_begins(tmwatch_attempt *a)
         end_attempt(a, false);
     if (!may_begin(a))
         return false;
-    a->made++;
+    a->now.made++;
     a->tried++;
     a->is_live = true;
     a->has_called = false;
     a->writes = 0;
     a->turn = (tmwatch_turn)TMWATCH_FIRST_TURN;
-    draw_values(a);
+    /* It writes and adds other values than the one before. With addends below 2^64 - 1, hardly a sum comes twice. */
+    for (tmwatch_call *call = a->now.calls; call < a->now.calls + a->now.count; call++)
+        if (call->letter == 'W')
+            call->value = fresh_value(a);
+        else if (call->letter == 'N')
+            call->value = draw(&a->addends, a->bench->plan.small ? SMALL_ADDENDS : UINT64_MAX);
     note_call(a);
     return true;
 }
@@ -162,19 +198,17 @@ static bool make_call(tmwatch_attempt *a, const tmwatch_call *call)
     const tmwatch_memory *m = &a->bench->memory;
     unsigned reg = (unsigned)call->register_number;
     uint64_t value = 0;
-    bool is_done;
     set_place(a, call->letter == 'W' ? IN_WRITE : call->letter == 'N' ? IN_ADD : IN_READ, reg);
     a->writes |= call->letter == 'R' ? 0 : 1u << reg;
-    if (call->letter == 'W')
-        is_done = m->write(m->memory, a->tx, reg, call->value);
-    else if (call->letter == 'N')
-        is_done = m->add(m->memory, a->tx, reg, call->value, &value);
-    else
-        is_done = m->read(m->memory, a->tx, reg, &value);
+    bool is_done = call->letter == 'W'   ? m->write(m->memory, a->tx, reg, call->value)
+                   : call->letter == 'N' ? m->add(m->memory, a->tx, reg, call->value, &value)
+                                         : m->read(m->memory, a->tx, reg, &value);
     set_place(a, m->run ? IN_RUN : OUTSIDE, 0);
     pause_sometimes(a, 0);
+    if (is_done && a->bench->orders && call->letter == 'R')
+        tmwatch_orders_answers(a->bench->orders, a->thread, value);
     if (is_done)
-        note_answer(a, call->letter == 'W' ? 'K' : 'V', value);
+        record(a, &(tmwatch_call){call->letter == 'W' ? 'K' : 'V', 0, value});
     return is_done;
 }
 
@@ -185,13 +219,15 @@ bool tmwatch_calls(tmwatch_attempt *a)
     if (!a->is_live || a->has_called)
         return false;
     a->has_called = true;
-    for (size_t i = 0; i + 1 < a->count; i++) {
+    for (size_t i = 0; i + 1 < a->now.count && !is_lost(a); i++) {
         if (i > 0)
             note_call(a);
-        if (!make_call(a, &a->calls[i]))
+        if (!make_call(a, &a->now.calls[i]))
             return false;
     }
-    a->has_asked = a->calls[a->count - 1].letter == 'X';
+    if (is_lost(a))
+        return false;
+    a->has_asked = a->now.calls[a->now.count - 1].letter == 'X';
     note_call(a);
     return !a->has_asked;
 }
@@ -215,16 +251,16 @@ static bool run_once(const tmwatch_memory *m, tmwatch_attempt *a)
     return false;
 }
 
-static void look_within(tmwatch_attempt *a);
+static void look_if_due(tmwatch_attempt *a);
 
 /* Makes the thread's transaction, until it has ended or no attempt is left. A `run` that begins none makes none. */
 static void make_transaction(tmwatch_attempt *a)
 {
     const tmwatch_memory *m = &a->bench->memory;
     bool goes_on = true;
-    a->made = 0;
+    a->now.made = 0;
     a->has_asked = a->is_put_off = false;
-    while (goes_on && a->made < a->most) {
+    while (goes_on && a->now.made < a->now.most) {
         uint64_t before = a->tried;
         set_place(a, m->run ? IN_RUN : OUTSIDE, 0);
         bool has_committed = m->run ? m->run(m->memory, a->tx, a) : run_once(m, a);
@@ -235,8 +271,12 @@ static void make_transaction(tmwatch_attempt *a)
         else if (m->run && has_committed)
             stop(a->bench, TMWATCH_MISFIT);
         goes_on = a->tried > before || a->is_put_off;
-        if (a->is_put_off)
-            look_within(a);
+        if (a->is_put_off) {
+            const struct transaction held = a->now;
+            look_if_due(a);
+            a->now = held;
+            a->has_asked = a->is_put_off = false;
+        }
     }
 }
 
@@ -244,6 +284,7 @@ static void make_transaction(tmwatch_attempt *a)
 static void make_share(tmwatch_attempt *a)
 {
     bool is_mixed = draw_share(a), has_tried = true;
+    a->how.has_buffers = a->bench->steps.has_buffers;
     while (a->left > 0 && has_tried) {
         uint64_t before = a->tried;
         draw_transaction(a);
@@ -251,22 +292,4 @@ static void make_share(tmwatch_attempt *a)
         has_tried = a->tried > before;
         a->left = is_mixed ? a->left - (a->tried - before) : 0;
     }
-}
-
-/* So many events are recorded at most until room is asked for again: those of this round, of the one before, which others may still record,
-   and of a look; or by permits those of eight attempts. */
-enum { ATTEMPT_EVENTS = 4 * MOST_USES + 2, LOOK_EVENTS = 2 * MOST_REGISTERS + 2, ROOM = MOST_ATTEMPTS * (2 * ATTEMPT_EVENTS + LOOK_EVENTS) };
-
-/* Waits for room, so that no record waits inside a transaction. */
-static void wait_for_room(tmwatch_attempt *a)
-{
-    struct bench *b = a->bench;
-    uint32_t status = TMWATCH_FULL;
-    while (!b->stops && (status = tmwatch_room(a->recorder, ROOM)) == TMWATCH_FULL)
-        nap(REST);
-    /* The watch's 2^40 places come to their end: so do the rounds. */
-    if (status == TMWATCH_SPENT)
-        b->stops = true;
-    else if (status != TMWATCH_DONE && status != TMWATCH_FULL)
-        stop(b, status);
 }

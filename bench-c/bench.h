@@ -1,8 +1,10 @@
 /* What the files of the bench share. */
+#include "instrumented/found.h"
 #include "instrumented/step.h"
 #include "tmwatch_permits.h"
 #include <errno.h>
-#include <link.h>
+#include <fcntl.h>
+#include <inttypes.h>
 #include <pthread.h>
 #include <sched.h>
 #include <semaphore.h>
@@ -10,30 +12,21 @@
 #include <stdatomic.h>
 #include <stdlib.h>
 #include <string.h>
+#include <sys/mman.h>
+#include <sys/prctl.h>
+#include <sys/stat.h>
 #include <sys/syscall.h>
+#include <sys/wait.h>
 #include <time.h>
 #include <unistd.h>
 
 /* A look comes after each LOOK rounds, or as many attempts as those may have. As many events are kept as two looks may lie apart, and what
    is recorded and not judged yet. By steps, as many rounds' beginnings are kept as there may be from a violation to the last round. By all,
    the first legs go by steps, and a leg has so many rounds at most. */
-enum {
-    SECOND = 1000000, /* in microseconds */
-    MOST_THREADS = 8,
-    MOST_ATTEMPTS = 8,
-    MOST_USES = 16,
-    MOST_CALLS = 2 * MOST_USES + 1,
-    MOST_REGISTERS = 8,
-    APART = 128, /* bytes */
-    KEPT = 1 << 17,
-    MOST_LOOKED = KEPT / 2, /* events of one look */
-    LOOK = 64,
-    FIRST_ATTEMPTS = 8, /* of a look: what is written of one that is given up */
-    STARTS = 1 << 13,
-    LISTED = 1 << 14,
-    STEPS_LEGS = 20,
-    LEG_ROUNDS = 1000
-};
+enum { MOST_THREADS = 8, MOST_REGISTERS = 8, MOST_ATTEMPTS = 8, MOST_USES = 16, MOST_CALLS = 2 * MOST_USES + 1 };
+enum { LOOK = 64, KEPT = 1 << 17, STARTS = 1 << 13, LISTED = 1 << 14, STEPS_LEGS = 20, LEG_ROUNDS = 1000 };
+enum { MOST_LOOKED = KEPT / 2 /* events of one look */, FIRST_ATTEMPTS = 8 /* of a look: what is written of one that is given up */ };
+enum { SECOND = 1000000 /* microseconds */, APART = 128 /* bytes */ };
 
 /* An event. `looks` is set if it ends a transaction that has read all registers alone. */
 struct kept {
@@ -43,7 +36,13 @@ struct kept {
     bool looks;
 };
 
-struct bench;
+/* A transaction: its calls in their order, the last of which asks to commit or to abort; how many attempts were begun, or all, since none is to
+   follow; and how many there may be. */
+struct transaction {
+    size_t count;
+    tmwatch_call calls[MOST_CALLS];
+    uint64_t made, most;
+};
 
 /* A thread, its transaction of this round, and how far that is: the library says by the turn which call is recorded next, and takes an
    answer only to that one. */
@@ -53,14 +52,12 @@ struct tmwatch_attempt {
     void *tx;
     unsigned thread;
     bool looks;
-    size_t count;
-    tmwatch_call calls[MOST_CALLS]; /* of the attempt, in their order: the last asks to commit or to abort */
+    struct transaction now;
     tmwatch_turn turn;
     atomic_uint inside;                  /* in which function of the memory it is, and with which register (a `place`, and 256 times it) */
     bool is_live, has_called, has_asked; /* an attempt is recorded and not ended; its calls are made; it has asked to abort */
     bool is_put_off;          /* by permits, a look comes before its next attempt */
     unsigned writes;          /* which registers the attempt has asked to write */
-    uint64_t made, most;  /* how many attempts were begun, or all, since none is to follow; and how many there may be */
     uint64_t tried;       /* how many attempts were begun, of all transactions */
     uint64_t uses, left;  /* in this round: how many registers a transaction uses, and how many attempts are left */
     atomic_uint_least64_t begun; /* by permits: how many transactions were begun */
@@ -86,11 +83,12 @@ struct listed {
 };
 
 struct steps {
-    atomic_bool is_locked;    /* over the sets and the runner, which a rescue changes too */
+    sem_t free;               /* whether nobody has locked the sets and the runner, which a rescue changes too */
     atomic_int runner, awake; /* who may run, or nobody; and who does so, in the memory or beside it, where it may be blocked */
     unsigned ready;           /* which threads have not ended the round */
     unsigned waiting;         /* which of them wait for a lock that another of them holds, or for a condition */
-    unsigned stuck;           /* which of them were running when a rescue came, and have made no step since */
+    unsigned lost;            /* which of those wait for a signal that nobody can send any more, unless one of them goes on */
+    unsigned stuck;           /* which of them were running when a rescue came, or wait outside, and have made no step since */
     const void *lock[MOST_THREADS];
     uint64_t draws;
     uint64_t odds; /* by walk: one step in so many hands over; 0: by priorities */
@@ -98,14 +96,15 @@ struct steps {
     uint64_t changes, change[MOST_CHANGES]; /* after which steps of the round the runner gets the lowest priority */
     uint64_t step, spin;                    /* the round's steps, and the pauses since the runner's last call or turn */
     uint64_t length[2];                     /* about how many steps a round has, times 16: an even one, a mixed one */
-    bool is_mixed;
-    atomic_uint_least64_t steps, switches, rescues;
+    bool is_mixed, has_buffers; /* of the round: it is mixed; stores are buffered */
+    atomic_uint_least64_t steps, switches, rescues, waits;
+    atomic_bool asks; /* the runner asks outside, so that no rescue comes */
     sem_t go[MOST_THREADS];
     atomic_int tid[MOST_THREADS];
-    clockid_t clock[MOST_THREADS];
     atomic_uint_least64_t recorded; /* how many events */
     uint64_t starts[STARTS]; /* how many events precede a round */
-    uint64_t begun;          /* the round that has begun last */
+    atomic_uint_least64_t begun;   /* the round that has begun last */
+    atomic_uint_least64_t ordered; /* how many rounds were to have stale loads or delayed stores */
     struct listed listed[LISTED];
     atomic_uint_least64_t inner; /* how many steps were the memory's own */
 };
@@ -130,13 +129,17 @@ struct session {
     uint64_t start[MOST_REGISTERS]; /* what the registers hold */
     uint64_t began, shown;          /* when the session began, and when its progress was last shown: microseconds */
     bool is_stuck, has_steps;       /* no event has come for too long; the memory has steps of its own */
+    bool asks, is_slow;             /* the memory asks elsewhere, and then a leg by steps has taken long */
+    uint64_t took;                  /* how long the last leg by steps has taken: microseconds */
     tmwatch_benched all;            /* of all legs before this one */
+    struct second_runs *second_runs; /* or null: none are to be made */
 };
 
 struct bench {
     struct session *session; /* of the judge alone: threads that are stuck outlive it */
     tmwatch_memory memory;
     tmwatch_plan plan;
+    unsigned workers;   /* how many threads the session has */
     uint64_t most_time; /* how many microseconds the leg may take; 0: any time */
     tmwatch watch;
     tmwatch_recorder recorders[MOST_THREADS];
@@ -148,6 +151,7 @@ struct bench {
     atomic_uint_least64_t attempted, next_look; /* by permits: how many attempts were begun, and at how many a look is due */
     struct steps steps;
     tmwatch_simulation *orders; /* by the orders of C++20: the memory that is simulated; or null */
+    tmwatch_delays *delays;     /* of that memory: loads that may be delayed are found, or one is made; or null */
     atomic_bool is_told;        /* of that memory is told: no access is simulated any more */
     struct watchdog {
         uint64_t looked, steps, used, sleeps;
@@ -157,13 +161,16 @@ struct bench {
     atomic_bool stops, is_late;  /* no round is to follow, since something is wrong, or since the time is up */
     atomic_bool has_no_time;     /* no leg is to follow, since the time of all is up */
     atomic_bool is_over;         /* no round follows */
-    uint64_t idle, moved;        /* for how many microseconds; and how far the rounds were at the judge's last look */
+    void (*_Atomic restart)(void *memory); /* after a crash, so that nothing is recorded but a look; or null */
+    atomic_bool has_asked;       /* the memory asks outside */
+    unsigned running;            /* how many threads have a part now */
+    uint64_t idle;               /* for how many microseconds no event has come, nor anything else */
     atomic_uint_least64_t asked, committed; /* how many commits are recorded, or about to be; and how many are recorded */
     atomic_uint refused, stored; /* since the last look, which registers were written by attempts that were rolled back, or committed */
     uint64_t looked;             /* how many values looks have written */
-    uint64_t rejected;           /* how many times a look was rolled back that was given up, or 0 */
-    uint64_t rejected_at;        /* how many events there were after its first attempts */
-    unsigned rejected_reg;       /* which register it was to write, or MOST_REGISTERS, if it was to read all */
+    struct transaction rejected; /* of a look that was given up, since it was rolled back again and again; or no attempt */
+    unsigned rejected_thread;    /* whose look that was */
+    uint64_t rejected_at;            /* how many events there were after the first attempts of the last look */
 };
 
 #define TO(field) offsetof(tmwatch_plan, field)

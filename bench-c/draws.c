@@ -12,6 +12,9 @@ static uint64_t draw(uint64_t *draws, uint64_t below)
     return (word ^ word >> 31) % below;
 }
 
+/* By how much small values of one thread differ, so that others have theirs between; and what addends are below. */
+enum { SMALL_APART = 2 * MOST_THREADS, SMALL_ADDENDS = 1 << 16 };
+
 static bool is_start(const tmwatch_plan *plan, uint64_t value)
 {
     for (unsigned reg = 0; reg < plan->registers; reg++)
@@ -20,30 +23,23 @@ static bool is_start(const tmwatch_plan *plan, uint64_t value)
     return false;
 }
 
-/* A value of all 64 bits that no register began with and nobody else writes: none comes twice, since the factor is odd. */
+/* A value that no register began with and nobody else writes. Of all 64 bits none comes twice, since the factor is odd. Looks have the other
+   half of those numbers. */
 static uint64_t fresh_value(tmwatch_attempt *a)
 {
-    uint64_t value;
-    do
-        value = (++a->written * MOST_THREADS + a->thread) * apart_values;
-    while (is_start(&a->bench->plan, value));
+    const tmwatch_plan *plan = &a->bench->plan;
+    uint64_t value, *count = a->looks ? &a->bench->looked : &a->written;
+    do {
+        ++*count;
+        value = a->looks ? (UINT64_C(1) << 63) + *count : *count * MOST_THREADS + a->thread;
+        value = plan->small ? *count * SMALL_APART + (a->looks ? MOST_THREADS : a->thread) : value * apart_values;
+    } while (is_start(plan, value));
     return value;
-}
-
-/* Draws what an attempt writes and adds: other values than the one before. A look writes of the other half of those numbers. With addends
-   below 2^64 - 1, hardly a sum comes twice. */
-static void draw_values(tmwatch_attempt *a)
-{
-    for (tmwatch_call *call = a->calls; call < a->calls + a->count; call++)
-        if (call->letter == 'W')
-            call->value = a->looks ? ((UINT64_C(1) << 63) + ++a->bench->looked) * apart_values : fresh_value(a);
-        else if (call->letter == 'N')
-            call->value = draw(&a->addends, UINT64_MAX);
 }
 
 static void add_call(tmwatch_attempt *a, char letter, uint64_t reg)
 {
-    a->calls[a->count++] = (tmwatch_call){(uint32_t)letter, reg, 0};
+    a->now.calls[a->now.count++] = (tmwatch_call){(uint32_t)letter, reg, 0};
 }
 
 /* A transaction uses registers, one after another: it adds to one, or reads it, and then may write it. A blind one writes each. */
@@ -51,8 +47,8 @@ static void draw_transaction(tmwatch_attempt *a)
 {
     const tmwatch_plan *plan = &a->bench->plan;
     a->looks = false;
-    a->most = plan->attempts > 0 && plan->attempts < a->left ? plan->attempts : a->left;
-    a->count = 0;
+    a->now.most = plan->attempts > 0 && plan->attempts < a->left ? plan->attempts : a->left;
+    a->now.count = 0;
     bool asks_abort = draw(&a->draws, 100) < plan->aborts;
     bool is_blind = draw(&a->draws, 100) < plan->blinds && plan->writes > 0;
     for (uint64_t used = 0; used < a->uses; used++) {
@@ -80,16 +76,13 @@ static bool draw_share(tmwatch_attempt *a)
     const tmwatch_plan *plan = &a->bench->plan;
     uint64_t draws, threads = plan->threads;
     a->uses = plan->calls;
-    a->left = plan->attempts > 0 ? plan->attempts : by_permits(a->bench) ? UINT64_MAX : MOST_ATTEMPTS / threads;
+    a->left = plan->attempts > 0 ? plan->attempts : by_permits(a->bench) ? UINT64_MAX : most_attempts(plan) / threads;
     if (!draw_mix(a->bench, &draws))
         return false;
     uint64_t first = draw(&draws, threads), others = 1 + draw(&draws, threads - 1);
     a->left = a->thread == first;
-    for (unsigned i = 1; i < MOST_ATTEMPTS; i++)
+    for (unsigned i = 1; i < most_attempts(plan); i++)
         a->left += a->thread == (first + 1 + draw(&draws, others)) % threads;
-    if (a->thread == first)
-        a->uses = 2 * plan->calls < MOST_USES ? 2 * plan->calls : MOST_USES;
-    else
-        a->uses = 1 + draw(&a->draws, 2);
+    a->uses = a->thread != first ? 1 + draw(&a->draws, 2) : 2 * plan->calls < MOST_USES ? 2 * plan->calls : MOST_USES;
     return true;
 }

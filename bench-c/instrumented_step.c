@@ -1,16 +1,14 @@
 /* What the objects call that are linked with the memory (instrumented/step.h). */
 
-/* Sets how the accesses of this thread are made. */
+enum { NO_TASKS = 2 /* links of the system's folder of a process's threads, without any */ };
+
 static void set_accesses(tmwatch_attempt *a)
 {
-    const tmwatch_plan *plan = &a->bench->plan;
     tmwatch_step_how *how = &a->how;
     pthread_attr_t of;
     void *stack;
     size_t size;
-    how->has_buffers = plan->orders == TMWATCH_X86;
-    how->orders = a->bench->orders;
-    how->has_plain = plan->plain > 0;
+    how->has_plain = a->bench->plan.plain > 0;
     how->draws = ~a->pauses;
     how->own[1] = (uintptr_t)a->tx;
     how->own_end[1] = how->own[1] + a->bench->memory.tx_size;
@@ -18,10 +16,9 @@ static void set_accesses(tmwatch_attempt *a)
         stop(a->bench, TMWATCH_MEMORY);
         return;
     }
-    if (pthread_attr_getstack(&of, &stack, &size) == 0) {
-        how->own[0] = (uintptr_t)stack;
-        how->own_end[0] = how->own[0] + size;
-    }
+    pthread_attr_getstack(&of, &stack, &size);
+    how->own[0] = (uintptr_t)stack;
+    how->own_end[0] = how->own[0] + size;
     pthread_attr_destroy(&of);
 }
 
@@ -37,21 +34,24 @@ bool tmwatch_step_is_run(void)
 
 tmwatch_simulation *tmwatch_step_orders(void)
 {
-    bool is_simulated = this_thread && this_thread->how.orders && !this_thread->bench->is_told && tmwatch_step_is_run();
-    return is_simulated ? this_thread->how.orders : NULL;
+    bool is_simulated = this_thread && this_thread->bench->orders && !this_thread->bench->is_told && tmwatch_step_is_run();
+    return is_simulated ? this_thread->bench->orders : NULL;
 }
 
-enum tmwatch_step_waited tmwatch_step_wait(const void *lock)
+enum tmwatch_step_waited tmwatch_step_wait(const void *lock, bool is_for_signal)
 {
     struct steps *s = &this_thread->bench->steps;
     unsigned own = 1u << this_thread->thread;
+    struct stat of; /* (nobody else can send a signal if the process has no thread but the bench's, which the judge has begun, and the judge) */
+    bool is_lost = is_for_signal && stat("/proc/self/task", &of) == 0 && of.st_nlink == NO_TASKS + this_thread->bench->workers + 1;
     lock_as_runner(this_thread);
     int next = choose(s, ~own);
-    if (next == NOBODY) {
-        unlock_steps(s);
+    if (next == NOBODY && !is_lost) {
+        post(&s->free);
         return TMWATCH_STEP_ALONE;
     }
     s->waiting |= own;
+    s->lost |= is_lost ? own : 0;
     s->lock[this_thread->thread] = lock;
     s->switches++;
     let_go(s, next);
@@ -59,7 +59,8 @@ enum tmwatch_step_waited tmwatch_step_wait(const void *lock)
     lock_as_runner(this_thread);
     bool is_free = !(s->waiting & own);
     s->waiting &= ~own;
-    unlock_steps(s);
+    s->lost &= s->waiting;
+    post(&s->free);
     return is_free ? TMWATCH_STEP_FREED : TMWATCH_STEP_OTHERS;
 }
 
@@ -71,5 +72,6 @@ void tmwatch_step_free(const void *lock, bool is_for_one)
     for (unsigned i = 0; i < MOST_THREADS; i++)
         freed |= s->lock[i] == lock ? s->waiting & 1u << i : 0;
     s->waiting &= ~(is_for_one && freed ? 1u << any_of(s, freed) : freed);
-    unlock_steps(s);
+    s->lost &= s->waiting;
+    post(&s->free);
 }

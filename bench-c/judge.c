@@ -8,74 +8,72 @@ void tmwatch_bench_end(void)
     is_interrupted = true;
 }
 
+/* Why the memory can't answer, or null. */
+static _Atomic(const char *) failure;
+
+void tmwatch_bench_fail(const char *why)
+{
+    const char *none = NULL;
+    atomic_compare_exchange_strong(&failure, &none, why);
+    for (;;)
+        pause();
+}
+
 /* Judges some of what is recorded: how many events. Another verdict than opaque so far ends the rounds. */
 static uint64_t judge_some(struct bench *b)
 {
     tmwatch_told told = {0, 0, 0, 0};
     uint64_t judged = 0;
-    uint32_t status = tmwatch_pump(&b->watch, 1024, &judged);
-    if (status == TMWATCH_DONE)
-        status = tmwatch_report(&b->watch, &told);
-    if (status != TMWATCH_DONE)
+    uint32_t status;
+    if ((status = tmwatch_pump(&b->watch, 1024, &judged)) != TMWATCH_DONE || (status = tmwatch_report(&b->watch, &told)) != TMWATCH_DONE)
         stop(b, status);
-    if (told.verdict != TMWATCH_OPAQUE_SO_FAR)
+    if (told.verdict != TMWATCH_OPAQUE_SO_FAR && !b->plan.goes_on)
         b->stops = true;
     return judged;
 }
 
-/* A look at the time counts for no more than MOST_WAITED, so that what stops the whole process, as a debugger, isn't taken for a wait. */
+/* A look at the time counts for no more than MOST_WAITED, so that what stops the whole process, as a debugger, isn't taken for a wait. An
+   interrupt waits for no more than half a second. */
 enum { MOST_WAITED = SECOND / 10, SHOWN_EACH = SECOND / 2, INTERRUPTED_WAIT = SECOND / 2 };
 
-/* Whether nothing has come for too long, after so much more time. An interrupt waits for no more than half a second. */
-static bool is_idle(struct bench *b, uint64_t passed, uint64_t judged)
-{
-    uint64_t moved = b->round + b->attempted + b->ended;
-    b->idle = judged > 0 || moved != b->moved ? 0 : b->idle + (passed < MOST_WAITED ? passed : MOST_WAITED);
-    b->moved = moved;
-    return (is_interrupted && b->idle >= INTERRUPTED_WAIT) || (b->plan.patience > 0 && b->idle / SECOND >= b->plan.patience);
-}
-
-/* Shows how far all legs are. */
 static void show_progress(struct bench *b, uint64_t now)
 {
     const tmwatch_benched *all = &b->session->all;
     tmwatch_counts counts;
     tmwatch_told told;
-    if (!b->plan.progress || now - b->session->shown < SHOWN_EACH)
+    if (!b->plan.progress || now - b->session->shown < SHOWN_EACH || tmwatch_summary(&b->watch, &counts) != TMWATCH_DONE ||
+        tmwatch_report(&b->watch, &told) != TMWATCH_DONE)
         return;
     b->session->shown = now;
-    if (tmwatch_summary(&b->watch, &counts) != TMWATCH_DONE || tmwatch_report(&b->watch, &told) != TMWATCH_DONE)
-        return;
     uint64_t rounds = all->rounds + (by_permits(b) || b->round == 0 ? 0 : b->round - 1);
-    fprintf(b->plan.progress, "\r\033[K%llu rounds, %llu events, %llu unasked aborts", (unsigned long long)rounds,
-            (unsigned long long)(all->told.events + told.events), (unsigned long long)(all->counts.unasked + counts.unasked));
+    fprintf(b->plan.progress, "\r\033[K%" PRIu64 " rounds, %" PRIu64 " events, %" PRIu64 " unasked aborts", rounds,
+            all->told.events + told.events, all->counts.unasked + counts.unasked);
     fflush(b->plan.progress);
 }
 
-/* Looks whether the leg's time is up, or that of all. */
-static void look_for_end(struct bench *b, uint64_t leg_began, uint64_t now)
-{
-    if (is_interrupted || (b->plan.seconds > 0 && (now - b->session->began) / SECOND >= b->plan.seconds))
-        b->has_no_time = true;
-    if (b->has_no_time || (b->most_time > 0 && now - leg_began >= b->most_time))
-        b->is_late = true;
-}
-
-/* Judges until all threads have ended, and then what is left; or until nothing has come for too long. */
+/* Judges until all threads have ended, and then what is left; or until nothing has come for too long. Meanwhile it looks whether the leg's time
+   is up, or that of all. */
 static void judge(struct bench *b)
 {
-    uint64_t began = microseconds_of(CLOCK_MONOTONIC), looked = began;
-    while (b->ended < b->plan.threads && !b->session->is_stuck) {
+    uint64_t began = microseconds_of(CLOCK_MONOTONIC), looked = began, moved = 0;
+    while (b->ended < b->running && !b->session->is_stuck) {
         uint64_t judged = judge_some(b);
         if (judged == 0)
-            nap(REST);
-        uint64_t now = microseconds_of(CLOCK_MONOTONIC);
+            nap(b->has_asked ? LONG_REST : REST);
+        uint64_t now = microseconds_of(CLOCK_MONOTONIC), passed = now - looked, moved_before = moved;
+        looked = now;
         if (by_steps(b))
             watch_steps(b, now);
-        b->session->is_stuck = is_idle(b, now - looked, judged);
-        looked = now;
+        moved = b->round + b->attempted + b->ended;
+        b->idle = judged > 0 || moved != moved_before ? 0 : b->idle + (passed < MOST_WAITED ? passed : MOST_WAITED);
+        b->session->is_stuck = failure || (is_interrupted && b->idle >= INTERRUPTED_WAIT) ||
+                               (b->plan.patience > 0 && b->idle / SECOND >= b->plan.patience);
         show_progress(b, now);
-        look_for_end(b, began, now);
+        if (is_interrupted || (b->plan.seconds > 0 && (now - b->session->began) / SECOND >= b->plan.seconds))
+            b->has_no_time = true;
+        bool is_timed = b->most_time > 0 && (!by_steps(b) || b->has_asked);
+        if (b->has_no_time || (is_timed && now - began >= b->most_time))
+            b->is_late = true;
     }
     /* What is stuck may come back: then it ends. */
     if (b->session->is_stuck)
@@ -84,15 +82,26 @@ static void judge(struct bench *b)
         ;
 }
 
-/* Tells where each thread is that is stuck. */
-static void tell_places(struct bench *b)
+/* Tells how the memory has lost progress: why it can't answer, where each thread is that is stuck, or which transaction was rolled back. */
+static void tell_lost(struct bench *b)
 {
     static const char *const places[] = {"none", "begin", "read", "write", "add", "commit", "abort", "run"};
-    if (b->idle < SECOND)
+    if (b->plan.progress)
+        fputs("\r\033[K", b->plan.progress);
+    if (failure)
+        fprintf(stderr, "%s\n", failure);
+    else if (!b->session->is_stuck) {
+        const tmwatch_call *call = b->rejected.calls;
+        fprintf(stderr, "a transaction of thread %u that ran alone was rolled back %" PRIu64 " times: ", b->rejected_thread, b->rejected.made);
+        if (call->letter == 'W')
+            fprintf(stderr, "it writes register %u. Is a lock left held, or a reader's mark?\n", (unsigned)call->register_number);
+        else
+            fputs("it reads all registers. Is a lock left held, or has a clock wrapped?\n", stderr);
+    } else if (b->idle < SECOND)
         fputs("interrupted, and no event for half a second\n", stderr);
     else
-        fprintf(stderr, "no event for %llu seconds\n", (unsigned long long)(b->idle / SECOND));
-    for (unsigned i = 0; i < b->plan.threads; i++) {
+        fprintf(stderr, "no event for %" PRIu64 " seconds\n", b->idle / SECOND);
+    for (unsigned i = 0; i < b->plan.threads && b->session->is_stuck && !failure; i++) {
         unsigned inside = b->parts[i].inside, place = inside % 256;
         if (place == OUTSIDE)
             fprintf(stderr, "thread %u waits for the others\n", i);
@@ -101,20 +110,4 @@ static void tell_places(struct bench *b)
         else
             fprintf(stderr, "thread %u: `%s` has not returned\n", i, places[place]);
     }
-}
-
-/* Tells how the memory has lost progress. */
-static void tell_lost(struct bench *b)
-{
-    if (b->plan.progress)
-        fputs("\r\033[K", b->plan.progress);
-    if (b->session->is_stuck) {
-        tell_places(b);
-        return;
-    }
-    fprintf(stderr, "a transaction that ran alone was rolled back %llu times: ", (unsigned long long)b->rejected);
-    if (b->rejected_reg < MOST_REGISTERS)
-        fprintf(stderr, "it writes register %u. Is a lock left held, or a reader's mark?\n", b->rejected_reg);
-    else
-        fputs("it reads all registers. Is a lock left held, or has a clock wrapped?\n", stderr);
 }

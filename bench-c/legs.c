@@ -5,61 +5,88 @@
    most and soonest, have nine tenths of the time; what only processors do, as to let two threads meet between two steps, is found by the
    rest. If the memory has no step of its own, steps find little more than calls that overlap, so that only one leg in four goes by them.
 
+   If the memory asks elsewhere, its rounds may be slow, so legs go by time: the first ones by steps end with one that has taken SLOW_LEG, later
+   ones take LATER_LEG, and those in rounds or by permits twice as long as the last one by steps. What is made again goes by rounds.
+
    One leg in two has the usual numbers and another seed. In the others all is drawn, since what one memory needs another doesn't.
 
    With libtmwatch_steps.a one leg by steps in four has delayed stores, one in four the orders of C++20, and one in eight plain accesses that
    are steps too: each finds what the others can't, and finds all else more slowly. */
-enum { CYCLE = 20, FEW_STEPS_CYCLE = 4, LEG_MICROSECONDS = SECOND / 10, USUAL_LEGS = 2, ORDERED_LEGS = 4, PLAIN_LEGS = 8 };
+enum { CYCLE = 20, FEW_STEPS_CYCLE = 4, LEG_MICROSECONDS = SECOND / 10, SLOW_LEG = 5 * SECOND, LATER_LEG = SECOND };
+enum { USUAL_LEGS = 2, ORDERED_LEGS = 4, PLAIN_LEGS = 8 };
 
-/* Draws the plan of a leg that isn't the first. */
+/* Draws what a leg that isn't the first has in its plan, but the seed. */
 static void draw_plan(tmwatch_plan *plan, uint64_t *draws)
 {
     static const uint64_t pauses[] = {0, 10, 100, 1000};
-    plan->seed = draw(draws, UINT64_MAX);
     bool is_usual = draw(draws, USUAL_LEGS) == 0;
-    uint64_t more = draw(draws, 2) * 4;
-    uint64_t threads = 2 + draw(draws, 3 + more), registers = 1 + draw(draws, 4), calls = 1 + draw(draws, 5);
+    uint64_t more = draw(draws, 2) * 4, threads = 2 + draw(draws, 3 + more);
+    uint64_t wider = draw(draws, 2) * 4, registers = 1 + draw(draws, 4 + wider), calls = 1 + draw(draws, 5);
     uint64_t writes = 30 + 20 * draw(draws, 4), adds = 20 * draw(draws, 2);
     uint64_t aborts = draw(draws, 4) == 0 ? 52 : 12, pause = pauses[draw(draws, 4)];
     uint64_t drawn_orders = draw(draws, ORDERED_LEGS);
     bool has_plain = draw(draws, PLAIN_LEGS) == 0, draws_orders = plan->orders == TMWATCH_DRAWN;
     const uint64_t numbers[DRAWN] = {threads, registers, calls, writes, adds, aborts, pause, 50, 10, TMWATCH_SEQUENTIAL};
     *plan = filled_plan(plan, is_usual ? NULL : numbers);
-    if (tmwatch_step_drain && plan->schedule == TMWATCH_STEPS) {
+    if (tmwatch_step_drain && !tmwatch_step_unwrapped() && plan->schedule == TMWATCH_STEPS) {
         if (draws_orders && drawn_orders <= TMWATCH_CXX)
             plan->orders = drawn_orders;
         plan->plain |= has_plain;
     }
 }
 
-/* The schedule of a leg. */
 static uint64_t schedule_of_leg(const struct session *session, uint64_t leg)
 {
     uint64_t cycle = session->all.steps > 0 && !session->has_steps ? FEW_STEPS_CYCLE : CYCLE, place = (leg - STEPS_LEGS) % cycle;
     if (leg < STEPS_LEGS)
         return TMWATCH_STEPS;
     if (cycle == FEW_STEPS_CYCLE && place + 1 < cycle)
-        return place % 2 == 0 ? TMWATCH_ROUNDS : TMWATCH_PERMITS;
-    return place == 0 ? TMWATCH_ROUNDS : place == cycle / 2 ? TMWATCH_PERMITS : TMWATCH_STEPS;
+        return place % 2 == 0 || session->plan->crashes ? TMWATCH_ROUNDS : TMWATCH_PERMITS;
+    return place == 0 ? TMWATCH_ROUNDS : place == cycle / 2 && !session->plan->crashes ? TMWATCH_PERMITS : TMWATCH_STEPS;
 }
 
-/* The plan of a leg. */
-static tmwatch_plan plan_of_leg(const struct session *session, uint64_t leg, uint64_t *draws)
+/* The plan of the next leg. By one schedule there is one, but after a crash. */
+static tmwatch_plan next_plan(const struct session *session, uint64_t leg, uint64_t *draws)
 {
     tmwatch_plan it = *session->plan;
-    uint64_t left = it.rounds - session->all.rounds;
-    it.schedule = schedule_of_leg(session, leg);
-    if (leg > 0)
+    bool is_all = it.schedule == TMWATCH_ALL;
+    uint64_t made = session->all.rounds, left = it.rounds - made, most = is_all ? LEG_ROUNDS : UINT64_MAX;
+    it.schedule = is_all ? schedule_of_leg(session, leg) : it.schedule;
+    it.seed = leg > 0 ? draw(draws, UINT64_MAX) : it.seed;
+    if (is_all && leg > 0)
         draw_plan(&it, draws);
     else
         it = filled_plan(&it, NULL);
-    it.rounds = left < LEG_ROUNDS ? left : LEG_ROUNDS;
-    it.round = it.round > session->all.rounds && it.round - session->all.rounds <= LEG_ROUNDS ? it.round - session->all.rounds : 0;
-    if (it.schedule != TMWATCH_PERMITS && it.attempts > MOST_ATTEMPTS / it.threads)
+    it.orders = it.schedule == TMWATCH_STEPS ? it.orders : TMWATCH_SEQUENTIAL;
+    it.threads = it.threads > MOST_THREADS - it.crashes ? MOST_THREADS - it.crashes : it.threads;
+    it.rounds = left < most ? left : most;
+    it.round = (is_all || leg == 0) && it.round > made && it.round - made <= most ? it.round - made : 0;
+    if (it.schedule != TMWATCH_PERMITS && it.attempts > most_attempts(&it) / it.threads)
         it.attempts = 0;
     memset(it.start, 0, sizeof it.start);
     memcpy(it.start, session->start, it.registers * sizeof it.start[0]);
     return it;
+}
+
+/* How many microseconds a leg may take; 0: any time. */
+static uint64_t time_of_leg(const struct session *session, uint64_t schedule)
+{
+    if (session->plan->schedule != TMWATCH_ALL || (schedule == TMWATCH_STEPS && session->plan->round > 0))
+        return 0;
+    if (schedule == TMWATCH_STEPS)
+        return session->is_slow ? LATER_LEG : SLOW_LEG;
+    return session->asks && session->took > LEG_MICROSECONDS / 2 ? 2 * session->took : LEG_MICROSECONDS;
+}
+
+/* Notes how long a leg by steps has taken, and returns the number of the next leg. */
+static uint64_t leg_after(struct session *session, uint64_t leg, const struct bench *b, uint64_t took)
+{
+    if (!by_steps(b))
+        return leg + 1;
+    session->took = took;
+    session->asks = session->asks || b->has_asked;
+    session->is_slow = session->is_slow || (session->asks && took >= SLOW_LEG);
+    return session->is_slow && leg < STEPS_LEGS ? STEPS_LEGS : leg + 1;
 }
 
 /* The numbers of what came out that are added up over the legs. */
@@ -67,9 +94,8 @@ static tmwatch_plan plan_of_leg(const struct session *session, uint64_t leg, uin
 static const size_t summed[] = {
     OF(told.events),         OF(counts.aborted), OF(counts.committed), OF(counts.cuts), OF(counts.live), OF(counts.overlapping),
     OF(counts.transactions), OF(counts.unasked), OF(rounds),           OF(steps),       OF(switches),    OF(rescues),
-    OF(stores)};
+    OF(waits),               OF(crashes),        OF(stores)};
 
-/* Adds what came out of a leg to what came out of those before. */
 static void add_leg(tmwatch_benched *all, const tmwatch_benched *leg)
 {
     tmwatch_benched before = *all;
@@ -80,7 +106,9 @@ static void add_leg(tmwatch_benched *all, const tmwatch_benched *leg)
     all->counts.widest = leg->counts.widest > before.counts.widest ? leg->counts.widest : before.counts.widest;
     all->told.at += leg->told.at > 0 ? before.told.events : 0;
     all->counts.none_overlapped &= before.told.events == 0 || before.counts.none_overlapped;
-    all->is_undelayed |= before.is_undelayed;
+    all->unseen |= before.unseen;
+    if (!leg->race[0])
+        memcpy(all->race, before.race, sizeof all->race);
     if (!leg->shown[0])
         memcpy(all->shown, before.shown, sizeof all->shown);
 }
@@ -99,8 +127,8 @@ static bool keep_start(const struct bench *b, uint64_t events)
 static void set_again(struct session *session, const tmwatch_plan *plan, uint64_t leg, const tmwatch_benched *out)
 {
     tmwatch_benched *all = &session->all;
-    bool is_right = all->told.verdict == TMWATCH_OPAQUE_SO_FAR && out->rejected == 0 && !session->is_stuck;
-    bool has_steps = plan->schedule == TMWATCH_STEPS && !is_right;
+    bool is_right = !is_wrong(session->plan, out) && out->rejected == 0 && !session->is_stuck;
+    bool has_steps = plan->schedule == TMWATCH_STEPS && !is_right && all->crashes == 0;
     bool is_given = is_right || session->plan->schedule != TMWATCH_ALL || leg < STEPS_LEGS;
     uint64_t rounds = is_given ? all->rounds : out->rounds;
     all->again = is_given ? *session->plan : *plan;
@@ -110,29 +138,18 @@ static void set_again(struct session *session, const tmwatch_plan *plan, uint64_
         all->again.rounds = all->again.round = rounds > 0 ? rounds : 1;
         all->again.seconds = all->again.event = 0;
     }
-    all->is_certain = has_steps && is_given && all->rescues == 0;
+    all->is_certain = has_steps && is_given && all->rescues == 0 && all->waits == 0 && !plan->goes_on;
 }
 
-/* Prints the words of a leg's plan. */
 static void print_leg(FILE *file, uint64_t leg, const tmwatch_plan *plan)
 {
     tmwatch_plan it = *plan;
     if (!file)
         return;
     it.seconds = 0;
-    fprintf(file, "leg %llu: ", (unsigned long long)leg);
+    fprintf(file, "leg %" PRIu64 ": ", leg);
     tmwatch_bench_words(file, &it);
     fputc('\n', file);
-}
-
-/* Writes the trace and the listing of what ended the run, after so many events of earlier legs. */
-static void write_end(struct session *session, const struct bench *b, const tmwatch_benched *out, uint64_t before)
-{
-    const tmwatch_plan *plan = session->plan;
-    if (plan->trace)
-        session->all.from = before + write_trace(b, out->told);
-    if (plan->listing && (out->told.at > 0 || out->rejected > 0))
-        write_steps(b, plan->listing, out->rounds);
 }
 
 /* Runs one leg after another until the rounds or the time are over, or something is wrong. */
@@ -147,19 +164,23 @@ static uint32_t run_legs(struct session *session)
         struct bench *b = calloc(1, sizeof *b);
         if (!b)
             return TMWATCH_MEMORY;
-        tmwatch_plan it = plan->schedule == TMWATCH_ALL ? plan_of_leg(session, leg, &draws) : filled_plan(plan, NULL);
-        b->most_time = plan->schedule == TMWATCH_ALL && it.schedule != TMWATCH_STEPS ? LEG_MICROSECONDS : 0;
+        tmwatch_plan it = next_plan(session, leg, &draws);
+        b->most_time = time_of_leg(session, it.schedule);
+        b->delays = leg == 0 && session->second_runs ? &session->second_runs->delays : NULL;
         print_leg(plan->legs, leg + 1, &it);
+        uint64_t began = microseconds_of(CLOCK_MONOTONIC), before = all->told.events;
         status = run_leg(b, session, &it, &out);
-        uint64_t before = all->told.events;
         add_leg(all, &out);
-        set_again(session, &it, leg++, &out);
-        goes_on = status == TMWATCH_DONE && plan->schedule == TMWATCH_ALL && out.told.verdict == TMWATCH_OPAQUE_SO_FAR &&
-                  !b->has_no_time && !session->is_stuck && out.rejected == 0 && all->rounds < plan->rounds &&
-                  keep_start(b, out.told.events);
+        set_again(session, &it, leg, &out);
+        leg = leg_after(session, leg, b, microseconds_of(CLOCK_MONOTONIC) - began);
+        goes_on = status == TMWATCH_DONE && (plan->schedule == TMWATCH_ALL || out.crashes > 0) && !is_wrong(plan, &out) && !b->has_no_time &&
+                  !session->is_stuck && out.rejected == 0 && all->rounds < plan->rounds && keep_start(b, out.told.events);
         if (!goes_on && status == TMWATCH_DONE) {
-            write_end(session, b, &out, before);
-            status = session->is_stuck ? TMWATCH_STUCK : out.rejected > 0 ? TMWATCH_NO_PROGRESS : TMWATCH_DONE;
+            if (plan->trace)
+                all->from = before + write_trace(b, out.told);
+            if (plan->listing && (out.told.at > 0 || out.rejected > 0))
+                write_steps(b, plan->listing, out.rounds);
+            status = failure ? TMWATCH_FAILED : session->is_stuck ? TMWATCH_STUCK : out.rejected > 0 ? TMWATCH_NO_PROGRESS : TMWATCH_DONE;
         }
         /* What is stuck still uses it. */
         if (!session->is_stuck)
@@ -176,10 +197,12 @@ uint32_t tmwatch_bench(const tmwatch_memory *memory, const tmwatch_plan *plan, t
         return status;
     struct session session = {.memory = memory, .plan = plan, .began = now, .shown = now};
     memcpy(session.start, plan->start, sizeof session.start);
+    start_second_runs(&session);
     status = run_legs(&session);
+    end_second_runs(&session, status);
     if (plan->progress)
         fputs("\r\033[K", plan->progress);
-    if (status == TMWATCH_DONE || status == TMWATCH_STUCK || status == TMWATCH_NO_PROGRESS)
+    if (has_run(status))
         *benched = session.all;
     end_threads(&session, session.is_stuck);
     return status;

@@ -1,15 +1,24 @@
 /* The options of a program: read into a plan, and printed from one. */
 
-static const char *const schedules[] = {"rounds", "permits", "steps", "all", NULL};
-static const char *const orders[] = {"sequential", "x86", "c++", NULL};
-
 /* The words for the numbers that stand there in a plan, or null. */
 static const char *const *choices_of(size_t to)
 {
-    return to == TO(schedule) ? schedules : to == TO(orders) ? orders : NULL;
+    static const char *const schedules[] = {"rounds", "permits", "steps", "all", NULL};
+    static const char *const orders[] = {"sequential", "x86", "c++", NULL}, *const races[] = {"tell", "fail", NULL};
+    return to == TO(schedule) ? schedules : to == TO(orders) ? orders : to == TO(races) ? races : NULL;
 }
 
-/* An option: its name, what it takes, or nothing, where its number goes in a plan, and what it is for, with its default. */
+/* What the words say: a plan, the names of files, or null, and what is written on standard error; and what is listed of the steps. */
+struct given {
+    tmwatch_plan plan;
+    const char *trace, *junit;
+    uint64_t legs, quiet;
+    char *steps;
+    size_t size;
+};
+#define IN(field) offsetof(struct given, field)
+
+/* An option: its name, what it takes, or nothing, where its number or name goes in what is given, and what it is for, with its default. */
 struct option {
     const char *name, *takes;
     size_t to;
@@ -34,30 +43,18 @@ static const struct option options[] = {
     {"--mixes", "0-100", TO(mixes), "percent of rounds with a long transaction (50)"},
     {"--blinds", "0-100", TO(blinds), "percent of transactions that do nothing but write (10)"},
     {"--attempts", "N", TO(attempts), "of each transaction, at most (as many as are decided)"},
-    {"--orders", "WORD", TO(orders), "sequential, x86, c++ (libtmwatch_steps.a; by all, drawn)"},
+    {"--orders", "WORD", TO(orders), "by steps: sequential, x86, c++ (libtmwatch_steps.a; by all, drawn)"},
     {"--plain", "", TO(plain), "plain accesses are steps too (libtmwatch_steps.a)"},
-    {"--patience", "N", TO(patience), "seconds without an event until the run is given up (5)"},
-    {"--trace", "FILE", SIZE_MAX, "the run's end; FILE.run: of which run; FILE.steps: its steps"},
-    {"--junit", "FILE", SIZE_MAX, "what came out, as CI systems read it"},
-    {"--legs", "", SIZE_MAX, "the plan of each leg on standard error"},
-    {"--quiet", "", SIZE_MAX, "no progress on a terminal"},
+    {"--races", "WORD", TO(races), "a race on plain data: tell, or fail, with status 1 (tell)"},
+    {"--small", "", TO(small), "values and addends are small, for words of fewer bits"},
+    {"--go-on", "", TO(goes_on), "rounds go on after what is wrong"},
+    {"--crashes", "", TO(crashes), "the memory crashes: a thread and an attempt are left for a look"},
+    {"--patience", "N", TO(patience), "seconds without an event or progress until the run is given up (5)"},
+    {"--trace", "FILE", IN(trace), "the run's end; FILE.run: of which run; FILE.steps: its steps"},
+    {"--junit", "FILE", IN(junit), "what came out, as CI systems read it"},
+    {"--legs", "", IN(legs), "the plan of each leg on standard error"},
+    {"--quiet", "", IN(quiet), "no progress on a terminal"},
     {NULL, NULL, SIZE_MAX, NULL}};
-
-/* The word's number, if it is one that fits, or that of the choice which it names. */
-static bool read_value(const struct option *option, const char *word, uint64_t *number)
-{
-    const char *const *choices = choices_of(option->to);
-    size_t digits = strspn(word, "0123456789");
-    if (!choices) {
-        errno = 0;
-        *number = strtoull(word, NULL, 10);
-        return digits > 0 && word[digits] == '\0' && errno == 0;
-    }
-    for (*number = 0; choices[*number]; ++*number)
-        if (strcmp(word, choices[*number]) == 0)
-            return true;
-    return false;
-}
 
 static const struct option *find_option(const char *word)
 {
@@ -67,29 +64,25 @@ static const struct option *find_option(const char *word)
     return option;
 }
 
-/* What the words say: a plan, and the names of files, or null. */
-struct given {
-    tmwatch_plan plan;
-    const char *trace, *junit;
-};
-
-/* Reads an option's word: the word that is wrong, or none. */
+/* Reads an option's word, or that it is there: the word that is wrong, or none. A number has to fit, and a choice stands for its number. */
 static const char *read_option(struct given *given, const struct option *option, char **words)
 {
     if (!option->name || (option->takes[0] && !words[1]))
         return words[0];
-    if (strcmp(option->name, "--trace") == 0)
-        given->trace = words[1];
-    else if (strcmp(option->name, "--junit") == 0)
-        given->junit = words[1];
-    else if (strcmp(option->name, "--legs") == 0)
-        given->plan.legs = stderr;
-    else if (option->to == SIZE_MAX)
-        given->plan.progress = NULL;
+    const char *const *choices = choices_of(option->to);
+    uint64_t *number = number_of(given, option->to);
+    if (strcmp(option->takes, "FILE") == 0)
+        *(const char **)number = words[1];
     else if (!option->takes[0])
-        *number_of(&given->plan, option->to) = 1;
-    else if (!read_value(option, words[1], number_of(&given->plan, option->to)))
-        return words[1];
+        *number = 1;
+    else if (!choices) {
+        errno = 0;
+        *number = strtoull(words[1], NULL, 10);
+        return words[1][0] && words[1][strspn(words[1], "0123456789")] == '\0' && errno == 0 ? NULL : words[1];
+    } else
+        for (*number = 0; strcmp(words[1], choices[*number]) != 0; ++*number)
+            if (!choices[*number + 1])
+                return words[1];
     return NULL;
 }
 
@@ -112,29 +105,23 @@ static const char *read_words(struct given *given, char **words)
     return wrong;
 }
 
-/* Whether a plan has the same number without this option. */
-static bool is_left_out(const tmwatch_plan *plan, size_t to)
-{
-    if (to == TO(rounds))
-        return plan->round > 0 || plan->rounds == UINT64_MAX;
-    if (to == TO(orders))
-        return plan->schedule != TMWATCH_ALL && plan->orders == TMWATCH_SEQUENTIAL;
-    return to == TO(patience);
-}
-
 void tmwatch_bench_words(FILE *file, const tmwatch_plan *plan)
 {
     const tmwatch_plan usual = TMWATCH_PLAN;
     const char *before = "";
-    for (const struct option *option = options; option->to != SIZE_MAX; option++) {
-        uint64_t number = *number_of(plan, option->to);
-        if (is_left_out(plan, option->to) || (number == *number_of(&usual, option->to) && option->to != TO(seed)))
+    for (const struct option *option = options; option->to < sizeof *plan; option++) {
+        size_t to = option->to;
+        uint64_t number = *number_of(plan, to);
+        bool is_left_out = to == TO(rounds)   ? plan->round > 0 || plan->rounds == UINT64_MAX
+                           : to == TO(orders) ? plan->schedule != TMWATCH_ALL && plan->orders == TMWATCH_SEQUENTIAL
+                                              : to == TO(patience);
+        if (is_left_out || (number == *number_of(&usual, to) && to != TO(seed)))
             continue;
         fprintf(file, "%s%s", before, option->name);
-        if (choices_of(option->to))
-            fprintf(file, " %s", choices_of(option->to)[number]);
+        if (choices_of(to))
+            fprintf(file, " %s", choices_of(to)[number]);
         else if (option->takes[0])
-            fprintf(file, " %llu", (unsigned long long)number);
+            fprintf(file, " %" PRIu64, number);
         before = " ";
     }
 }

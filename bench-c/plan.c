@@ -6,9 +6,21 @@ static uint64_t *number_of(const void *it, size_t at)
     return (uint64_t *)((uintptr_t)it + at);
 }
 
+/* Whether the bench tells what came out. */
+static bool has_run(uint32_t status)
+{
+    return status == TMWATCH_DONE || (status >= TMWATCH_STUCK && status <= TMWATCH_FAILED);
+}
+
 static bool by_permits(const struct bench *b)
 {
     return b->plan.schedule == TMWATCH_PERMITS;
+}
+
+/* How many attempts a round may have. */
+static uint64_t most_attempts(const tmwatch_plan *plan)
+{
+    return MOST_ATTEMPTS - plan->crashes;
 }
 
 static bool by_steps(const struct bench *b)
@@ -39,31 +51,27 @@ static tmwatch_plan filled_plan(const tmwatch_plan *plan, const uint64_t *number
 /* The first function that is null and that the memory has to have, or none. */
 static const char *missing_function(const tmwatch_memory *m)
 {
-    if (!m->read || !m->write)
-        return m->read ? "write" : "read";
-    if (m->run)
-        return NULL;
+    if (!m->read || !m->write || m->run)
+        return !m->read ? "read" : !m->write ? "write" : NULL;
     return !m->begin ? "begin" : !m->commit ? "commit" : !m->abort ? "abort" : NULL;
 }
 
-/* Whether the memory is compiled for the plan's orders, and goes by them by this schedule. */
+/* Whether the memory is compiled and linked for the plan's orders, and goes by them by this schedule: only steps show what isn't seen. */
 static bool has_orders(const tmwatch_plan *plan)
 {
-    if (plan->orders == TMWATCH_CXX)
-        return tmwatch_orders_new && (plan->schedule == TMWATCH_STEPS || plan->schedule == TMWATCH_ALL);
-    return plan->orders == TMWATCH_SEQUENTIAL || (plan->orders == TMWATCH_X86 && tmwatch_step_drain);
+    bool has_steps = plan->schedule == TMWATCH_STEPS || plan->schedule == TMWATCH_ALL;
+    return plan->orders == TMWATCH_SEQUENTIAL || (tmwatch_orders_new && has_steps && !tmwatch_step_unwrapped());
 }
 
-/* Whether a number of the plan is out of its range. */
 static bool is_out_of_range(const tmwatch_plan *plan)
 {
-    uint64_t most_attempts = plan->schedule == TMWATCH_PERMITS ? UINT64_MAX : MOST_ATTEMPTS / plan->threads;
+    uint64_t most = plan->schedule == TMWATCH_PERMITS ? UINT64_MAX : most_attempts(plan) / plan->threads;
     uint64_t most_round = plan->schedule == TMWATCH_STEPS ? UINT64_MAX : plan->schedule == TMWATCH_ALL ? STEPS_LEGS * LEG_ROUNDS : 0;
     for (unsigned i = 0; i < DRAWN; i++)
         if (*number_of(plan, drawn[i].to) < drawn[i].least || *number_of(plan, drawn[i].to) > drawn[i].most)
             return true;
-    return plan->schedule > TMWATCH_ALL || plan->attempts > most_attempts || plan->rounds == 0 || plan->round > most_round ||
-           (plan->event > 0 && plan->round == 0) || !has_orders(plan);
+    return plan->schedule > TMWATCH_ALL || plan->races > 1 || plan->attempts > most || plan->rounds == 0 || plan->round > most_round ||
+           (plan->crashes && plan->schedule == TMWATCH_PERMITS) || (plan->event > 0 && plan->round == 0) || !has_orders(plan);
 }
 
 /* Looks at what no watch looks at. */
@@ -72,7 +80,7 @@ static uint32_t check(const tmwatch_memory *memory, const tmwatch_plan *given)
     const tmwatch_plan plan = filled_plan(given, NULL);
     if (missing_function(memory))
         return TMWATCH_MISSING;
-    if (plan.threads < 1 || plan.threads > MOST_THREADS)
+    if (plan.crashes > 1 || plan.threads < 1 || plan.threads > MOST_THREADS - plan.crashes)
         return TMWATCH_BAD_SIZE;
     if (plan.registers < 1 || plan.registers > MOST_REGISTERS)
         return TMWATCH_BAD_REGISTERS;

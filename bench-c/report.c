@@ -2,28 +2,13 @@
 
 static void print_number(FILE *file, const char *before, const char *name, uint64_t number)
 {
-    fprintf(file, "%s\"%s\":%llu", before, name, (unsigned long long)number);
+    fprintf(file, "%s\"%s\":%" PRIu64, before, name, number);
 }
 
 static const char *const verdicts[] = {"opaque so far", "violated", "undecided", "malformed"};
 
-/* Whether the bench tells what came out. */
-static bool has_run(uint32_t status)
-{
-    return status == TMWATCH_DONE || status == TMWATCH_STUCK || status == TMWATCH_NO_PROGRESS;
-}
-
-static void print_report(FILE *file, const tmwatch_told *told)
-{
-    static const char *const whys[] = {"", ",\"why\":\"transactions\"", ",\"why\":\"states\""};
-    if (told->at > 0)
-        print_number(file, "{", "at", told->at);
-    print_number(file, told->at > 0 ? "," : "{", "events", told->events);
-    fprintf(file, ",\"verdict\":\"%s\"%s}\n", verdicts[told->verdict], whys[told->why]);
-}
-
-/* Of so many attempts, one commits at least where the memory makes progress. */
-enum { FEW_COMMITS = 20 };
+/* Of so many attempts, one commits at least where the memory makes progress. So many rescues make a run slow, though nothing is wrong. */
+enum { FEW_COMMITS = 20, MANY_RESCUES = 10 };
 
 /* Tells why a run can't show much, if nothing is wrong: in the line of the rounds by names, or by sentences. */
 static void tell_lacks(FILE *file, const tmwatch_benched *benched, bool by_names)
@@ -54,13 +39,20 @@ static void tell_lacks(FILE *file, const tmwatch_benched *benched, bool by_names
     fputs(by_names && !before[1] ? "]" : "", file);
 }
 
-/* Prints how the rounds went. */
 static void print_rounds(FILE *file, const tmwatch_benched *benched)
 {
-    print_number(file, "{", "foreign", benched->foreign);
+    static const char *const unseen[] = {"stores", "locks", "waits", "blocks"};
+    const char *before = ",\"unseen\":[";
+    if (benched->crashes > 0)
+        print_number(file, "{", "crashes", benched->crashes);
+    if (benched->delayed[0])
+        fprintf(file, "{\"delayed\":\"%s\"", benched->delayed);
+    print_number(file, benched->crashes > 0 || benched->delayed[0] ? "," : "{", "foreign", benched->foreign);
     if (benched->from > 0)
         print_number(file, ",", "from", benched->from);
     tell_lacks(file, benched, true);
+    if (benched->race[0])
+        fprintf(file, ",\"race\":\"%s\"", benched->race);
     if (benched->steps > 0)
         print_number(file, ",", "rescues", benched->rescues);
     print_number(file, ",", "rounds", benched->rounds);
@@ -68,16 +60,14 @@ static void print_rounds(FILE *file, const tmwatch_benched *benched)
         print_number(file, ",", "steps", benched->steps);
         print_number(file, ",", "switches", benched->switches);
     }
-    fputs("}\n", file);
-}
-
-static void print_counts(FILE *file, const tmwatch_counts *counts)
-{
-    const uint64_t numbers[] = {counts->aborted,     counts->committed,    counts->cuts,    counts->live,
-                                counts->overlapping, counts->transactions, counts->unasked, counts->widest};
-    static const char *const names[] = {"aborted", "committed", "cuts", "live", "overlapping", "transactions", "unasked", "widest"};
-    for (unsigned i = 0; i < sizeof names / sizeof names[0]; i++)
-        print_number(file, i == 0 ? "{" : ",", names[i], numbers[i]);
+    for (unsigned i = 0; i < sizeof unseen / sizeof unseen[0]; i++)
+        if (benched->unseen >> i & 1) {
+            fprintf(file, "%s\"%s\"", before, unseen[i]);
+            before = ",";
+        }
+    fputs(benched->unseen > 0 ? "]" : "", file);
+    if (benched->waits > 0)
+        print_number(file, ",", "waits", benched->waits);
     fputs("}\n", file);
 }
 
@@ -99,9 +89,20 @@ static void print_again(FILE *file, const tmwatch_benched *benched)
 /* Prints all lines, maybe without the words that make the run again. */
 static void print_lines(FILE *file, const tmwatch_benched *benched, bool has_words)
 {
-    print_report(file, &benched->told);
+    static const char *const whys[] = {"", ",\"why\":\"transactions\"", ",\"why\":\"states\"", ",\"why\":\"unseen\""};
+    static const char *const names[] = {"aborted", "committed", "cuts", "live", "overlapping", "transactions", "unasked", "widest"};
+    const tmwatch_told *told = &benched->told;
+    const tmwatch_counts *counts = &benched->counts;
+    const uint64_t numbers[] = {counts->aborted,     counts->committed,    counts->cuts,    counts->live,
+                                counts->overlapping, counts->transactions, counts->unasked, counts->widest};
+    if (told->at > 0)
+        print_number(file, "{", "at", told->at);
+    print_number(file, told->at > 0 ? "," : "{", "events", told->events);
+    fprintf(file, ",\"verdict\":\"%s\"%s}\n", verdicts[told->verdict], whys[told->why]);
     print_rounds(file, benched);
-    print_counts(file, &benched->counts);
+    for (unsigned i = 0; i < sizeof names / sizeof names[0]; i++)
+        print_number(file, i == 0 ? "{" : ",", names[i], numbers[i]);
+    fputs("}\n", file);
     if (has_words)
         print_again(file, benched);
 }
@@ -112,9 +113,10 @@ static void tell_again(const tmwatch_benched *benched)
     bool is_certain = are_certain(benched);
     fputs(is_certain ? "again: " : "by the same plan, but maybe not the same run: ", stderr);
     tmwatch_bench_words(stderr, &benched->again);
+    is_certain = is_certain && !asks_elsewhere;
     fputs(is_certain ? "; in gdb, `break tmwatch_break` stops before that round" : "", stderr);
     if (is_certain && benched->event > 0)
-        fprintf(stderr, ", with --event %llu before its wrong event", (unsigned long long)benched->event);
+        fprintf(stderr, ", with --event %" PRIu64 " before its wrong event", benched->event);
     fputc('\n', stderr);
     if (benched->again.schedule != TMWATCH_ALL || benched->leg.rounds == 0)
         return;
@@ -123,29 +125,36 @@ static void tell_again(const tmwatch_benched *benched)
     fputc('\n', stderr);
 }
 
-/* So many rescues make a run slow, though nothing is wrong. */
-enum { MANY_RESCUES = 10 };
-
-/* Warns of what the bench hasn't seen. */
-static void warn_of_unseen(const tmwatch_benched *benched, bool is_wrong)
+/* Tells what the orders have shown, and what the bench hasn't seen. */
+static void tell_orders_shown(const tmwatch_benched *benched, bool has_failed)
 {
-    if (benched->rescues >= (is_wrong ? 1 : MANY_RESCUES))
-        fprintf(stderr, "%llu rescues: the memory waits for what the bench doesn't see\n", (unsigned long long)benched->rescues);
-    if (benched->is_undelayed)
+    const char *unwrapped = benched->unseen & TMWATCH_UNSEEN_LOCKS ? tmwatch_step_unwrapped() : NULL;
+    if (benched->rescues >= (has_failed ? 1 : MANY_RESCUES))
+        fprintf(stderr, "%" PRIu64 " rescues: the memory waits for what the bench doesn't see%s\n", benched->rescues,
+                tmwatch_step_drain ? ", and after the first one of a leg no load was stale and no store delayed" : "");
+    if (unwrapped)
+        fprintf(stderr, "no leg has the orders of x86 or C++20: %s isn't wrapped (pkg-config --libs tmwatch_steps)\n", unwrapped);
+    if (benched->unseen & TMWATCH_UNSEEN_BLOCKS)
         fputs("stores to blocks weren't delayed: the program isn't linked with -Wl,--wrap=free\n", stderr);
+    if (benched->told.why == TMWATCH_UNSEEN)
+        fputs("violated, which may be false, since not all that orders threads is seen: try --orders sequential\n", stderr);
+    fputs(benched->shown, stderr);
+    if (benched->race[0])
+        fprintf(stderr, "a race, which C++20 leaves undefined: %s\n", benched->race);
+    if (benched->delayed[0])
+        fprintf(stderr, "C++20 allows a violation if a load is delayed past later stores: %s\n", benched->delayed);
 }
 
 void tmwatch_bench_print(FILE *file, const tmwatch_benched *benched)
 {
-    bool is_wrong = benched->told.verdict != TMWATCH_OPAQUE_SO_FAR;
-    print_lines(file, benched, is_wrong);
+    bool has_failed = is_wrong(&benched->again, benched);
+    print_lines(file, benched, has_failed);
     /* So that what is said of it comes after it. */
     fflush(file);
     tell_lacks(stderr, benched, false);
     if (benched->told.verdict == TMWATCH_VIOLATED && benched->counts.transactions == 1)
         fputs("the first reading is wrong: does the memory hold plan.start?\n", stderr);
-    if (is_wrong)
+    if (has_failed)
         tell_again(benched);
-    warn_of_unseen(benched, is_wrong);
-    fputs(benched->shown, stderr);
+    tell_orders_shown(benched, has_failed);
 }

@@ -1,18 +1,17 @@
 /* A leg: threads run by one plan, what they record is judged, and what came out is counted. */
 
-/* How many rounds were run, by steps up to a violation's; or transactions begun by each thread. The threads meet once more in rounds. */
-static uint64_t count_rounds(const struct bench *b, const tmwatch_told *told)
+/* How many rounds were run: by steps up to the one in which the violation was recorded, which has begun last or before. The threads meet once
+   more in rounds. */
+static uint64_t count_rounds(const struct bench *b, uint64_t at)
 {
-    uint64_t rounds = UINT64_MAX;
-    if (by_steps(b) && (told->at > 0 || b->session->is_stuck))
-        return told->at > 0 ? round_of(b, told->at) : b->round;
-    if (!by_permits(b))
-        return b->round > 0 ? b->round - 1 : 0;
-    for (unsigned i = 0; i < b->plan.threads; i++) {
-        uint64_t begun = b->parts[i].begun;
-        rounds = begun < rounds ? begun : rounds;
-    }
-    return rounds;
+    const struct steps *s = &b->steps;
+    uint64_t round = b->round;
+    if (by_steps(b) && at > 0)
+        for (round = s->begun; round > 0 && s->starts[round % STARTS] >= at; round--)
+            ;
+    else if (round > 0 && !(by_steps(b) && b->session->is_stuck))
+        round--;
+    return round;
 }
 
 /* Closes the watch, and tells what came out, or the first status that wasn't to be. Threads that are stuck may still record. */
@@ -24,23 +23,19 @@ static uint32_t close_watch(struct bench *b, tmwatch_benched *out)
     if (b->session->is_stuck)
         return status == TMWATCH_DONE ? tmwatch_report(&b->watch, &out->told) : status;
     if (status == TMWATCH_DONE)
-        status = tmwatch_close(&b->watch, b->recorders, b->plan.threads, &out->told);
-    for (unsigned i = 0; i < b->plan.threads; i++)
+        status = tmwatch_close(&b->watch, b->recorders, b->plan.threads + b->plan.crashes, &out->told);
+    for (unsigned i = 0; i < b->plan.threads + b->plan.crashes; i++)
         tmwatch_discard_recorder(&b->recorders[i]);
     tmwatch_discard(&b->watch);
     return status;
 }
 
-/* The C library's, in a program that wraps it. */
-extern int __real_pthread_mutex_lock(pthread_mutex_t *mutex) __attribute__((weak));
+enum { MOST_ACCESS = 10000 /* microseconds that an access takes at most which is under way */ };
 
-/* How long an access takes at most that is under way, in microseconds. */
-enum { MOST_ACCESS = 10000 };
-
-/* Tells what the orders of C++20 have shown: of the round that is violated or stuck, and of what they don't see. */
+/* Tells what the orders of C++20 have shown: of the round that is violated or stuck, what they don't see, and a race, if they see all. */
 static void tell_orders(struct bench *b, tmwatch_benched *out)
 {
-    FILE *file = fmemopen(out->shown, sizeof out->shown, "w");
+    FILE *file = fmemopen(out->shown, sizeof out->shown - 1, "w");
     bool is_wrong = out->told.verdict == TMWATCH_VIOLATED || b->session->is_stuck;
     if (!file)
         return;
@@ -49,24 +44,35 @@ static void tell_orders(struct bench *b, tmwatch_benched *out)
         nap(MOST_ACCESS);
     if (is_wrong)
         tmwatch_orders_tell(b->orders, file, b->steps.starts[out->rounds % STARTS], b->session->is_stuck ? UINT64_MAX : out->told.at);
-    tmwatch_orders_tell_unseen(b->orders, file, is_wrong);
-    if (is_wrong && !__real_pthread_mutex_lock)
-        fputs("what locks of pthread order, if the memory has any, is not seen: the program is linked without --wrap=.. (tmwatch_steps.pc)\n",
-              file);
+    out->unseen |= tmwatch_orders_tell_unseen(b->orders, file, is_wrong);
     fclose(file);
+    if (out->unseen == 0)
+        tmwatch_orders_tell_race(b->orders, out->race, sizeof out->race);
+}
+
+/* Whether what came out is wrong: another verdict, or a race, if the plan has that fail. */
+static bool is_wrong(const tmwatch_plan *plan, const tmwatch_benched *out)
+{
+    return out->told.verdict != TMWATCH_OPAQUE_SO_FAR || (plan->races > 0 && out->race[0]);
 }
 
 /* Runs a leg under a watch that is open, and closes it. */
 static uint32_t run_watched(struct bench *b, tmwatch_benched *out)
 {
-    run_parts(b);
+    run_parts(b, 0, (unsigned)b->plan.threads);
     judge(b);
+    if (b->restart && !b->session->is_stuck && b->fault == TMWATCH_DONE) {
+        run_parts(b, (unsigned)b->plan.threads, (unsigned)b->plan.threads + 1);
+        judge(b);
+    }
     uint32_t status = close_watch(b, out);
-    out->rounds = count_rounds(b, &out->told);
+    out->rounds = by_permits(b) ? UINT64_MAX : count_rounds(b, out->told.at);
     out->steps = b->steps.steps;
     out->switches = b->steps.switches;
     out->rescues = b->steps.rescues;
-    out->rejected = out->told.verdict == TMWATCH_OPAQUE_SO_FAR ? b->rejected : 0;
+    out->waits = b->steps.waits;
+    out->crashes = b->restart != NULL;
+    out->rejected = out->told.verdict == TMWATCH_OPAQUE_SO_FAR ? b->rejected.made : 0;
     out->event = by_steps(b) && out->told.at > 0 ? out->told.at - b->steps.starts[out->rounds % STARTS] : 0;
     b->session->has_steps = b->session->has_steps || b->steps.inner > 0;
     b->session->looked = b->looked;
@@ -74,13 +80,22 @@ static uint32_t run_watched(struct bench *b, tmwatch_benched *out)
         const tmwatch_attempt *a = &b->parts[i];
         /* What a thread that is stuck has counted and kept stands before this. */
         (void)a->keeps;
+        uint64_t begun = a->begun; /* (by permits: what each thread has) */
+        out->rounds = by_permits(b) && begun < out->rounds ? begun : out->rounds;
         out->stores += a->stores;
         out->foreign = a->foreign > out->foreign ? a->foreign : out->foreign;
-        out->is_undelayed = out->is_undelayed || a->how.is_undelayed;
+        out->unseen |= a->how.is_undelayed ? TMWATCH_UNSEEN_BLOCKS : 0;
         b->session->written[i] = a->written;
     }
+    out->unseen |= out->rescues > 0 ? TMWATCH_UNSEEN_WAITS : 0;
+    out->unseen |= tmwatch_step_drain && tmwatch_step_unwrapped() ? TMWATCH_UNSEEN_LOCKS : 0;
     if (b->orders)
         tell_orders(b, out);
+    /* What isn't seen may order what was taken to be stale or delayed. */
+    if (out->told.verdict == TMWATCH_VIOLATED && b->steps.ordered > 0 && out->unseen & ~(uint64_t)TMWATCH_UNSEEN_BLOCKS) {
+        out->told.verdict = TMWATCH_UNDECIDED;
+        out->told.why = TMWATCH_UNSEEN;
+    }
     if (status == TMWATCH_DONE && (b->session->is_stuck || out->rejected > 0))
         tell_lost(b);
     return status;
@@ -94,13 +109,16 @@ static uint32_t run_leg(struct bench *b, struct session *session, const tmwatch_
     b->memory = *session->memory;
     b->plan = *plan;
     b->looked = session->looked;
-    if (plan->orders == TMWATCH_CXX && by_steps(b) && !(b->orders = tmwatch_orders_new(plan->seed, &b->steps.recorded)))
+    set_steps(b);
+    if (!start_threads(b))
         return TMWATCH_MEMORY;
-    if (!start_threads(b) || !set_steps(b))
+    if (plan->orders == TMWATCH_CXX && by_steps(b) && !(b->orders = tmwatch_orders_new(plan->seed, &b->steps.recorded, b->delays)))
         return TMWATCH_MEMORY;
+    while (b->workers < MOST_THREADS && session->workers[b->workers])
+        b->workers++;
     tmwatch_settings settings = TMWATCH_SETTINGS(plan->registers);
     memcpy(settings.start, plan->start, sizeof settings.start);
-    uint32_t status = tmwatch_open(&b->watch, b->recorders, plan->threads, &settings);
+    uint32_t status = tmwatch_open(&b->watch, b->recorders, plan->threads + plan->crashes, &settings);
     if (status == TMWATCH_DONE)
         status = run_watched(b, out);
     if (b->orders && !b->session->is_stuck)

@@ -2,34 +2,12 @@
    alone. A round goes by walk, which hands over often, or by priorities, which starve a thread for long (Burckhardt, Kothari, Musuvathi
    and Nagarakatte, ASPLOS 2010). */
 
+/* In the first rounds of a leg no load is stale and no store delayed: they show whether all that threads wait for is seen. If a thread has
+   waited for something else, which may order threads, no later round has stale loads or delayed stores either. */
+enum { PROBED = 16 };
+
 /* After so many pauses without a call, a thread is held for one that waits; and what a round's length is taken for at first. */
 enum { MOST_SPIN = 128, FIRST_LENGTH = 64 };
-
-/* The C library's semaphores, also in a program that wraps them. */
-extern int __real_sem_wait(sem_t *semaphore) __attribute__((weak));
-extern int __real_sem_post(sem_t *semaphore) __attribute__((weak));
-
-static void await(sem_t *semaphore)
-{
-    while ((__real_sem_wait ? __real_sem_wait : sem_wait)(semaphore) != 0)
-        ;
-}
-
-static void post(sem_t *semaphore)
-{
-    (__real_sem_post ? __real_sem_post : sem_post)(semaphore);
-}
-
-static void lock_steps(struct steps *s)
-{
-    while (atomic_exchange_explicit(&s->is_locked, true, memory_order_acquire))
-        nap(1);
-}
-
-static void unlock_steps(struct steps *s)
-{
-    atomic_store_explicit(&s->is_locked, false, memory_order_release);
-}
 
 /* Any of these threads, of which there is one. The steps are locked. */
 static int any_of(struct steps *s, unsigned threads)
@@ -40,13 +18,12 @@ static int any_of(struct steps *s, unsigned threads)
 }
 
 /* Who of these threads runs next: by walk any, by priorities the highest; nobody if none is able to. One that waits is if no other is, since
-   a thread that isn't the bench's may have freed what it waits for. The steps are locked. */
+   a thread that isn't the bench's may have freed what it waits for, if there is any. The steps are locked. */
 static int choose(struct steps *s, unsigned threads)
 {
     unsigned able = s->ready & threads & ~s->stuck;
     int found = NOBODY;
-    if (able & ~s->waiting)
-        able &= ~s->waiting;
+    able &= able & ~s->waiting ? ~s->waiting : ~s->lost;
     if (able && s->odds > 0)
         return any_of(s, able);
     for (int i = 0; i < MOST_THREADS; i++)
@@ -69,7 +46,7 @@ static void let_go(struct steps *s, int next)
 {
     s->spin = 0;
     s->runner = next;
-    unlock_steps(s);
+    post(&s->free);
     if (next != NOBODY)
         post(&s->go[next]);
 }
@@ -78,38 +55,26 @@ static void let_go(struct steps *s, int next)
 static void lock_as_runner(tmwatch_attempt *a)
 {
     struct steps *s = &a->bench->steps;
-    lock_steps(s);
+    await(&s->free);
     while (s->runner != (int)a->thread && !a->bench->is_over) {
         s->stuck &= ~(1u << a->thread);
         if (s->runner == NOBODY)
             s->runner = (int)a->thread;
-        unlock_steps(s);
+        post(&s->free);
         wait_turn(a);
-        lock_steps(s);
+        await(&s->free);
     }
 }
 
-/* Hands over to another, and unlocks the steps: by walk to any, by priorities to the highest, which may be this thread still. */
-static void hand_over(tmwatch_attempt *a)
-{
-    struct steps *s = &a->bench->steps;
-    int next = choose(s, s->odds > 0 ? ~(1u << a->thread) : ~0u);
-    if (next == NOBODY || next == (int)a->thread) {
-        unlock_steps(s);
-        return;
-    }
-    s->switches++;
-    let_go(s, next);
-    wait_turn(a);
-}
-
-/* A step of this thread: in the memory with so many pauses, or beside a call with none. */
+/* A step of this thread: in the memory with so many pauses, or beside a call with none. It may hand over: by walk to any, by priorities to the
+   highest, which may be this thread still. */
 static void step(tmwatch_attempt *a, unsigned pauses)
 {
     struct steps *s = &a->bench->steps;
     if (a->looks)
         return;
     lock_as_runner(a);
+    s->asks = false;
     s->step++;
     s->spin = pauses > 0 ? s->spin + pauses : 0;
     if (pauses > 0)
@@ -122,10 +87,45 @@ static void step(tmwatch_attempt *a, unsigned pauses)
         s->spin = 0;
     }
     s->steps++;
-    if (hands_over)
-        hand_over(a);
-    else
-        unlock_steps(s);
+    int next = !hands_over ? NOBODY : choose(s, s->odds > 0 ? ~(1u << a->thread) : ~0u);
+    if (next == NOBODY || next == (int)a->thread) {
+        post(&s->free);
+        return;
+    }
+    s->switches++;
+    let_go(s, next);
+    wait_turn(a);
+}
+
+/* Whether this thread goes by steps beside others. */
+static bool is_beside_others(void)
+{
+    return this_thread && by_steps(this_thread->bench) && !this_thread->looks;
+}
+
+/* A memory of this process asks another one, which this one's debugger doesn't show. */
+static atomic_bool asks_elsewhere;
+
+bool tmwatch_asks(void)
+{
+    bool is_beside = is_beside_others();
+    if (this_thread)
+        this_thread->bench->has_asked = asks_elsewhere = true;
+    if (is_beside)
+        this_thread->bench->steps.asks = true;
+    return is_beside;
+}
+
+void tmwatch_waits(void)
+{
+    if (!is_beside_others())
+        return;
+    struct steps *s = &this_thread->bench->steps;
+    lock_as_runner(this_thread);
+    s->asks = false;
+    s->stuck |= 1u << this_thread->thread;
+    s->waits++;
+    let_go(s, choose(s, ~0u));
 }
 
 /* Draws at which steps of the round the runner gets the lowest priority. */
@@ -137,14 +137,13 @@ static void draw_changes(struct steps *s)
         s->change[i] = draw(&s->draws, length + length / 4 + 1);
 }
 
-/* Draws how the round goes. */
 static void draw_round(struct bench *b)
 {
     struct steps *s = &b->steps;
     uint64_t draws;
     s->is_mixed = draw_mix(b, &draws);
     s->ready = (1u << b->plan.threads) - 1;
-    s->waiting = s->stuck = 0;
+    s->waiting = s->stuck = s->lost = 0;
     s->step = s->spin = s->changes = 0;
     bool walks = draw(&s->draws, 2) == 0;
     s->odds = walks ? UINT64_C(2) << draw(&s->draws, 4) : 0;
@@ -174,22 +173,18 @@ static void turn_round(tmwatch_attempt *a)
     end_round(a, round);
     s->starts[b->round % STARTS] = s->recorded;
     s->begun = b->round;
+    bool is_ordered = b->plan.orders != TMWATCH_SEQUENTIAL && b->round > PROBED && s->rescues == 0;
+    s->ordered += is_ordered;
+    s->has_buffers = is_ordered && b->plan.orders == TMWATCH_X86;
     if (b->orders)
         tmwatch_orders_round(b->orders);
-    lock_steps(s);
+    if (b->orders && !is_ordered)
+        tmwatch_orders_still(b->orders);
+    await(&s->free);
     draw_round(b);
     let_go(s, choose(s, ~0u));
     for (unsigned i = 0; i < b->plan.threads && b->is_over; i++)
         post(&s->go[i]);
-}
-
-/* Stops a debugger before the event of the plan. The first look is of round 1. */
-static void break_at_event(const struct bench *b)
-{
-    const struct steps *s = &b->steps;
-    uint64_t round = s->begun > 0 ? s->begun : 1;
-    if (b->plan.event > 0 && round == b->plan.round && s->recorded + 1 - s->starts[s->begun % STARTS] == b->plan.event)
-        tmwatch_break();
 }
 
 /* Ends the thread's part of a round, and waits for its turn in the next one, if there is any. */
@@ -200,7 +195,7 @@ static bool meet_by_steps(tmwatch_attempt *a)
     lock_as_runner(a);
     s->ready &= ~(1u << a->thread);
     if (s->ready == 0) {
-        unlock_steps(s);
+        post(&s->free);
         turn_round(a);
     } else {
         s->switches++;
@@ -210,26 +205,15 @@ static bool meet_by_steps(tmwatch_attempt *a)
     return !b->is_over;
 }
 
-/* Thread 0 is the first to run, and alone. Returns false where the system refuses. */
-static bool set_steps(struct bench *b)
+/* Thread 0 is the first to run, and alone. */
+static void set_steps(struct bench *b)
 {
-    bool is_done = true;
     struct steps *s = &b->steps;
     s->draws = ~b->plan.seed * apart_values;
     s->ready = 1;
-    s->runner = 0;
     s->awake = NOBODY;
     s->length[0] = s->length[1] = 16 * FIRST_LENGTH;
+    sem_init(&s->free, 0, 1);
     for (unsigned i = 0; i < MOST_THREADS; i++)
-        is_done = sem_init(&s->go[i], 0, 0) == 0 && is_done;
-    return is_done;
-}
-
-/* In which round the event at this length was recorded. */
-static uint64_t round_of(const struct bench *b, uint64_t at)
-{
-    uint64_t round = b->round - 1;
-    while (round > 0 && b->steps.starts[round % STARTS] >= at)
-        round--;
-    return round;
+        sem_init(&s->go[i], 0, 0);
 }

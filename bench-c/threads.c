@@ -1,32 +1,30 @@
 /* The threads of a session, from their start to their end. In each leg the first ones have a part. */
 
-/* Whether the thread makes another share. */
-static bool has_more(tmwatch_attempt *a)
-{
-    if (by_steps(a->bench))
-        return meet_by_steps(a);
-    return by_permits(a->bench) ? go_on(a) : meet(a);
-}
-
 /* Makes the thread's part of a leg, once all threads of it have come. */
 static void make_part(tmwatch_attempt *a)
 {
     struct bench *b = a->bench;
+    bool (*const has_more)(tmwatch_attempt *) = by_steps(b) ? meet_by_steps : by_permits(b) ? go_on : meet;
     this_thread = a;
-    /* (the watchdog looks at these) */
-    b->steps.tid[a->thread] = (int)syscall(SYS_gettid);
-    if (pthread_getcpuclockid(pthread_self(), &b->steps.clock[a->thread]) != 0)
-        stop(b, TMWATCH_MEMORY);
+    b->steps.tid[a->thread] = (int)syscall(SYS_gettid); /* (the watchdog looks at this) */
     set_accesses(a);
     b->come++;
-    while (b->come < b->plan.threads)
+    while (b->come < b->running)
         sched_yield();
     /* (by steps, thread 0 begins the first round) */
-    bool waits = by_steps(b) && a->thread > 0;
+    bool waits = by_steps(b) && a->thread > 0 && !b->restart;
     if (waits)
         wait_turn(a);
-    for (bool goes_on = waits ? !b->is_over : has_more(a); goes_on; goes_on = has_more(a))
-        make_share(a);
+    /* (after its crash, the memory starts again, and then it is looked at) */
+    if (b->restart) {
+        b->restart(b->memory.memory);
+        b->refused = 0;
+        b->stops = false;
+        look(a);
+        b->stops = true;
+    } else
+        for (bool goes_on = waits ? !b->is_over : has_more(a); goes_on; goes_on = has_more(a))
+            make_share(a);
     this_thread = NULL;
     b->ended++;
 }
@@ -39,44 +37,38 @@ static void *work(void *argument)
     return NULL;
 }
 
-/* Starts a thread, with bytes of its own for the memory: two threads' bytes lie apart, so that neither slows the other. */
-static struct worker *start_thread(size_t tx_size)
-{
-    struct worker *it = calloc(1, sizeof *it + tx_size + APART);
-    if (it && sem_init(&it->goes, 0, 0) == 0) {
-        if (pthread_create(&it->thread, NULL, work, it) == 0)
-            return it;
-        sem_destroy(&it->goes);
-    }
-    free(it);
-    return NULL;
-}
-
-/* Starts what threads the leg lacks: whether it has all. */
+/* Starts what threads the leg lacks: whether it has all. Each has bytes of its own for the memory: two threads' bytes lie apart, so that
+   neither slows the other. */
 static bool start_threads(const struct bench *b)
 {
-    struct worker **workers = b->session->workers;
-    for (unsigned i = 0; i < b->plan.threads; i++)
-        if (!workers[i] && !(workers[i] = start_thread(b->memory.tx_size)))
+    for (unsigned i = 0; i < b->plan.threads + b->plan.crashes; i++) {
+        struct worker **it = &b->session->workers[i];
+        if (*it)
+            continue;
+        *it = calloc(1, sizeof **it + b->memory.tx_size + APART);
+        if (!*it)
             return false;
+        sem_init(&(*it)->goes, 0, 0);
+        if (pthread_create(&(*it)->thread, NULL, work, *it) != 0) {
+            free(*it);
+            *it = NULL;
+            return false;
+        }
+    }
     return true;
 }
 
-/* Has each thread of the leg make its part. */
-static void run_parts(struct bench *b)
+/* Has these threads of the leg make their part. */
+static void run_parts(struct bench *b, unsigned from, unsigned to)
 {
-    for (unsigned i = 0; i < b->plan.threads; i++) {
+    b->come = b->ended = 0;
+    b->running = to - from;
+    for (unsigned i = from; i < to; i++) {
         struct worker *it = b->session->workers[i];
-        tmwatch_attempt *a = &b->parts[i];
-        a->bench = b;
-        a->recorder = &b->recorders[i];
-        a->thread = i;
-        a->written = b->session->written[i];
-        a->tx = it->tx;
-        a->draws = b->plan.seed * MOST_THREADS + a->thread;
-        a->addends = ~a->draws;
-        a->pauses = a->draws ^ apart_rounds;
-        it->attempt = a;
+        uint64_t draws = b->plan.seed * MOST_THREADS + i;
+        it->attempt = &b->parts[i];
+        *it->attempt = (tmwatch_attempt){.bench = b, .recorder = &b->recorders[i], .thread = i, .tx = it->tx, .draws = draws, .addends = ~draws,
+                                         .pauses = draws ^ apart_rounds, .written = b->session->written[i]};
         post(&it->goes);
     }
 }
@@ -93,7 +85,6 @@ static void end_threads(const struct session *session, bool are_stuck)
         it->attempt = NULL;
         post(&it->goes);
         pthread_join(it->thread, NULL);
-        sem_destroy(&it->goes);
         free(it);
     }
 }

@@ -15,6 +15,7 @@
 #include "judge.c"
 #include "threads.c"
 #include "run_leg.c"
+#include "second_runs.c"
 #include "legs.c"
 #include "options.c"
 #include "report.c"

@@ -25,51 +25,34 @@ static void write_event(FILE *file, const struct kept *event)
     if (strchr("RWN", event->letter))
         fprintf(file, " %u", (unsigned)event->reg);
     if (strchr("VWN", event->letter))
-        fprintf(file, " %llu", (unsigned long long)event->value);
+        fprintf(file, " %" PRIu64, event->value);
     fputc('\n', file);
 }
 
-/* Writes the header of a trace that begins there: with what a look that ends there has read, or the run's start. */
+/* What register `reg` holds when a trace begins there: what a look that ends there has read, or the run's start. */
+static uint64_t start_of_trace(const struct bench *b, uint64_t from, uint64_t at, unsigned reg)
+{
+    return from == 0 || from == at ? b->plan.start[reg] : value_after(b, from, reg);
+}
+
 static void write_header(const struct bench *b, uint64_t from, uint64_t at)
 {
     fprintf(b->plan.trace, "opacity-trace 2 %u", (unsigned)b->plan.registers);
-    for (unsigned reg = 0; reg < b->plan.registers; reg++) {
-        uint64_t value = from == 0 || from == at ? b->plan.start[reg] : value_after(b, from, reg);
-        fprintf(b->plan.trace, " %llu", (unsigned long long)value);
-    }
+    for (unsigned reg = 0; reg < b->plan.registers; reg++)
+        fprintf(b->plan.trace, " %" PRIu64, start_of_trace(b, from, at, reg));
     fputc('\n', b->plan.trace);
 }
 
 /* Writes the trace: how many events precede it. Of a look that is rolled back again and again it has the first attempts. */
 static uint64_t write_trace(const struct bench *b, tmwatch_told told)
 {
-    bool is_wrong = told.verdict != TMWATCH_OPAQUE_SO_FAR || b->rejected > 0;
-    uint64_t at = told.at > 0 ? told.at : b->rejected > 0 ? b->rejected_at : told.events;
+    bool is_wrong = told.verdict != TMWATCH_OPAQUE_SO_FAR || b->rejected.made > 0;
+    uint64_t at = told.at > 0 ? told.at : b->rejected.made > 0 ? b->rejected_at : told.events;
     uint64_t from = first_of_trace(b, at, told.events, is_wrong);
     write_header(b, from, at);
     for (uint64_t place = from; place < at; place++)
         write_event(b->plan.trace, &b->kept[place % KEPT]);
     return from;
-}
-
-/* An address, and then where its program or library lies, as the linker numbers it, and the library's name. */
-struct found {
-    uintptr_t at;
-    const char *name;
-    bool is_found;
-};
-
-static int find_library(struct dl_phdr_info *library, size_t size, void *argument)
-{
-    struct found *found = argument;
-    (void)size;
-    for (unsigned i = 0; i < library->dlpi_phnum && !found->is_found; i++) {
-        uintptr_t from = library->dlpi_addr + library->dlpi_phdr[i].p_vaddr;
-        found->is_found = library->dlpi_phdr[i].p_type == PT_LOAD && found->at - from < library->dlpi_phdr[i].p_memsz;
-    }
-    if (found->is_found)
-        *found = (struct found){found->at - library->dlpi_addr, library->dlpi_name, true};
-    return found->is_found;
 }
 
 /* Lists the steps of a round, if all are kept: how many events of it precede each, the thread, and the address of the call. */
@@ -86,7 +69,6 @@ static void write_steps(const struct bench *b, FILE *file, uint64_t round)
         if (it->recorded < from || it->recorded >= end)
             continue;
         dl_iterate_phdr(find_library, &found);
-        fprintf(file, "%llu %u 0x%llx%s%s\n", (unsigned long long)(it->recorded - from), it->thread, (unsigned long long)found.at,
-                found.name[0] ? " " : "", found.name);
+        fprintf(file, "%" PRIu64 " %u 0x%" PRIxPTR "%s%s\n", it->recorded - from, it->thread, found.at, found.name[0] ? " " : "", found.name);
     }
 }

@@ -25,18 +25,15 @@ static bool is_blocked(struct bench *b, int runner, uint64_t steps)
     struct steps *s = &b->steps;
     struct watchdog *w = &b->watchdog;
     bool is_new = runner != w->runner || steps != w->steps;
-    w->runner = runner != NOBODY && s->awake == runner ? runner : NOBODY;
+    w->runner = runner != NOBODY && s->awake == runner && !s->asks ? runner : NOBODY;
     w->steps = steps;
-    if (w->runner == NOBODY)
+    clockid_t clock = CLOCK_MONOTONIC;
+    if (w->runner == NOBODY || pthread_getcpuclockid(b->session->workers[runner]->thread, &clock) != 0)
         return false;
-    if (is_new) {
-        w->sleeps = 0;
-        w->used = microseconds_of(s->clock[runner]);
-        return false;
-    }
-    w->sleeps = is_asleep(s->tid[runner]) ? w->sleeps + 1 : 0;
-    uint64_t part = s->rescues < FEW_RESCUES ? 1 : LATER_PART;
-    return w->sleeps >= MOST_SLEEPS / part || microseconds_of(s->clock[runner]) - w->used >= MOST_USED / part;
+    uint64_t used = microseconds_of(clock), part = s->rescues < FEW_RESCUES ? 1 : LATER_PART;
+    w->sleeps = !is_new && is_asleep(s->tid[runner]) ? w->sleeps + 1 : 0;
+    w->used = is_new ? used : w->used;
+    return w->sleeps >= MOST_SLEEPS / part || used - w->used >= MOST_USED / part;
 }
 
 /* Looks at the runner, and rescues the others from one that is blocked. */
@@ -50,12 +47,14 @@ static void watch_steps(struct bench *b, uint64_t now)
     b->watchdog.looked = now;
     if (!is_blocked(b, runner, steps))
         return;
-    lock_steps(s);
+    await(&s->free);
     int next = s->runner == runner && s->steps == steps && s->awake == runner ? choose(s, ~(1u << runner)) : NOBODY;
     if (next != NOBODY) {
         s->stuck |= 1u << runner;
         s->rescues++;
+        if (b->orders)
+            tmwatch_orders_still(b->orders);
         let_go(s, next);
     } else
-        unlock_steps(s);
+        post(&s->free);
 }

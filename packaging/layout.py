@@ -9,6 +9,7 @@ The folder gets:
     lib/libtmwatch.so.VERSION     the same as a shared library, which programs load as libtmwatch.so.0
     lib/libtmwatch.so.0           a link to it
     lib/libtmwatch.so             a link to that, for -ltmwatch; in this repository both are copies, since the kit's gate refuses links
+    bin/tmwatch-bench             the bench by lines
     lib/libtmwatch_bench.a        the bench for memories in C, which no proof covers
     lib/libtmwatch_steps.a        its steps for memories that are compiled with -fsanitize=thread
     lib/pkgconfig                 tmwatch.pc, tmwatch_bench.pc and tmwatch_steps.pc
@@ -28,33 +29,21 @@ TOP = os.path.dirname(os.path.dirname(os.path.realpath(__file__)))
 # What a program that is linked against the library loads. The number goes up when a program that was linked before no longer runs.
 SONAME = "libtmwatch.so.0"
 HEADERS = ("tmwatch.h", "tmwatch_bench.h", "tmwatch_bench.hpp", "tmwatch_permits.h")
-# What the linker wraps, so that the bench sees that a thread waits for a lock, a condition, a futex, or yields.
-WAITS = """
-pthread_mutex_lock pthread_mutex_trylock pthread_mutex_unlock pthread_spin_lock pthread_spin_trylock pthread_spin_unlock
-pthread_rwlock_rdlock pthread_rwlock_tryrdlock pthread_rwlock_wrlock pthread_rwlock_trywrlock pthread_rwlock_unlock
-pthread_cond_wait pthread_cond_timedwait pthread_cond_clockwait pthread_cond_signal pthread_cond_broadcast sem_wait sem_trywait sem_post sched_yield syscall
-_ZNSt18condition_variable4waitERSt11unique_lockISt5mutexE _ZNSt18condition_variable10notify_oneEv
-_ZNSt18condition_variable10notify_allEv
-"""
-# The same for blocks that are given back, also by C++'s operator delete. Their object is always linked.
-BLOCKS = """
-free realloc munmap _ZdlPv _ZdlPvm _ZdlPvSt11align_val_t _ZdlPvmSt11align_val_t _ZdaPv _ZdaPvm _ZdaPvSt11align_val_t
-_ZdaPvmSt11align_val_t
-"""
 
 
-def wrap(names):
-    """Returns the words for the linker that wrap these names."""
-    return ",".join(f"--wrap={name}" for name in names.split())
+def wrap(kind):
+    """Returns the words for the linker that wrap the names of this kind."""
+    with open(f"{TOP}/packaging/wrapped.txt", encoding="ascii") as it:
+        return ",".join(f"--wrap={name}" for line in it if line.startswith(f"{kind} ") for name in line.split()[1:])
 
 
 # What each package for pkg-config is, and what it needs of others.
 PACKAGES = {
     "tmwatch": ("A watch that judges whether a transactional memory is opaque", ""),
-    "tmwatch_bench": ("A bench that runs a transactional memory under such a watch", f" -pthread -Wl,{wrap(WAITS)}\nRequires: tmwatch"),
+    "tmwatch_bench": ("A bench that runs a transactional memory under such a watch", f" -pthread -Wl,{wrap('waits')}\nRequires: tmwatch"),
     "tmwatch_steps": (
         "Steps of that bench at each access of a memory",
-        f" -Wl,-u,tmwatch_step_sees_free,{wrap(BLOCKS)}\nRequires: tmwatch_bench",
+        f" -Wl,-u,tmwatch_step_sees_free,{wrap('blocks')}\nRequires: tmwatch_bench",
     ),
 }
 # What the archives of the bench are made from, in bench-c.
@@ -70,7 +59,7 @@ Name: {name}
 Description: {what}
 Version: {version}
 Cflags: -I${{includedir}}
-Libs: -L${{libdir}} -l{name}{needs}
+Libs: -L${{libdir}} -l{linked}{needs}
 """
 
 
@@ -80,10 +69,13 @@ def read_version():
         return re.search(r'"tmwatch ([0-9.]*), ', it.read())[1]
 
 
-def describe(name, prefix="${pcfiledir}/../..", libraries="lib"):
-    """Returns a package for pkg-config: by default one that finds its prefix from where it stands itself."""
+def describe(name, prefix=None, libraries="lib"):
+    """Returns a package for pkg-config: by default one that finds its prefix from where it stands itself, and links what is proved from
+    its archive, since the system's loader knows no shared library there."""
     what, needs = PACKAGES[name]
-    return PACKAGE.format(name=name, what=what, needs=needs, version=read_version(), prefix=prefix, libraries=libraries)
+    linked = f":lib{name}.a" if prefix is None and name == "tmwatch" else name
+    where = prefix or "${pcfiledir}/../.."
+    return PACKAGE.format(name=name, what=what, linked=linked, needs=needs, version=read_version(), prefix=where, libraries=libraries)
 
 
 def put(one, to):
@@ -117,6 +109,14 @@ def build_bench(room, call):
         call(["ar", "rcs", f"lib/{archive}", *(f"{os.path.basename(name)}.o" for name in files)], cwd=room)
 
 
+def build_lines(room, call):
+    """Compiles the bench by lines over the archives in the room."""
+    os.makedirs(f"{room}/bin")
+    sources = sorted(f"{TOP}/bench-lines/{name}" for name in os.listdir(f"{TOP}/bench-lines") if name.endswith(".c"))
+    cc = [os.environ.get("CC", "cc"), "-std=gnu11", "-O2", "-pthread", f"-I{TOP}/include", *sources]
+    call([*cc, "-s", "-o", "bin/tmwatch-bench", "lib/libtmwatch_bench.a", "lib/libtmwatch.a"], cwd=room)
+
+
 def lay_out(archive, to, call):
     """Puts the library of this archive, the bench, headers and packages into the folder. `call` runs a tool, by words and a folder."""
     with tempfile.TemporaryDirectory(prefix="tmwatch-layout-") as room:
@@ -124,12 +124,14 @@ def lay_out(archive, to, call):
         shutil.copyfile(archive, f"{room}/lib/libtmwatch.a")
         link_shared(room, call)
         build_bench(room, call)
+        build_lines(room, call)
         for name in PACKAGES:
             with open(f"{room}/lib/pkgconfig/{name}.pc", "w", encoding="utf-8") as it:
                 it.write(describe(name))
-        for at, _, files in os.walk(f"{room}/lib"):
-            for name in files:
-                put(f"{at}/{name}", f"{to}{at[len(room) :]}/{name}")
+        for folder in ("bin", "lib"):
+            for at, _, files in os.walk(f"{room}/{folder}"):
+                for name in files:
+                    put(f"{at}/{name}", f"{to}{at[len(room) :]}/{name}")
     for name in HEADERS:
         put(f"{TOP}/include/{name}", f"{to}/include/{name}")
 

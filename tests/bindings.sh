@@ -35,13 +35,19 @@ in_order() {
 }
 ends 'a sequence lock by the orders of C++20' 0 in_order --rounds 2000
 has_told 'a sequence lock by the orders of C++20: no rescue' '"rescues":0,"rounds":2000,'
+# (the copy is linked as another's program is, without the linker's words)
 cp -r "$top/bindings/rust" "$folder/rust"
 cd "$folder/rust"
+sed -i 's/println!("cargo:rustc-link-arg-{kind}={}", wraps(&folder));/let _ = (kind, wraps(\&folder));/' build.rs
+ends 'no words for the linker: planted' 1 cmp -s "$top/bindings/rust/build.rs" build.rs
 for change in 's/sequence.load(Acquire)/sequence.load(Relaxed)/' 's/^        fence(Acquire);//' 's/^        fence(Release);//' \
     's/snapshot + 2, Release/snapshot + 2, Relaxed/'; do
     sed "$change" "$top/bindings/rust/examples/sequence.rs" >examples/sequence.rs
     ends "$change: planted" 1 cmp -s "$top/bindings/rust/examples/sequence.rs" examples/sequence.rs
     ends "$change: found" 1 in_order
+    cp "$folder/output" "$folder/told"
+    ends "$change: no word on locks, since there is none" 1 grep -q 'wrapped\|unseen\|of pthread' "$folder/told"
+    cp "$folder/told" "$folder/output"
     if has addr2line 'lines of the source'; then
         has_told "$change: the lines" -E '^  stale load: thread [0-3] at sequence.rs:[0-9]+ .* does not see the store of thread [0-3] at sequence.rs:'
     fi

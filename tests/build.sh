@@ -41,7 +41,7 @@ none_left() {
 
 # Leaves what ./build leaves in the copy, of which it keeps the smallest crate, and runs the gate there. (The library is another one.)
 gate_passes() {
-    echo 'int tmwatch_nothing(void) { return 0; }' >"$folder/nothing.c"
+    sed -n 's/.*\b\(tmwatch_[a-z_]*\)(tmwatch[a-z_]* \*.*/int \1(void) { return 0; }/p' "$folder/copy/include/tmwatch.h" | sort -u >"$folder/nothing.c"
     "${CC:-cc}" -fPIC -c -o "$folder/nothing.o" "$folder/nothing.c"
     ar rcs "$folder/nothing.a" "$folder/nothing.o"
     "$folder/copy/packaging/layout.py" "$folder/nothing.a" "$folder/copy/built"
@@ -51,7 +51,7 @@ gate_passes() {
     echo 'tmw_streams: itoa arrayvec thiserror' >"$folder/copy/crates.txt"
     mkdir "$folder/copy/.git"
     (cd "$folder/copy" && rt ci)
-    echo 'int tmwatch_nothing(void); int main(void) { return tmwatch_nothing(); }' >"$folder/main.c"
+    echo 'int tmwatch_next(void); int main(void) { return tmwatch_next(); }' >"$folder/main.c"
     "${CC:-cc}" -o "$folder/main" "$folder/main.c" -L"$folder/copy/built/lib" -ltmwatch -Wl,-rpath,"$folder/copy/built/lib"
     "$folder/main"
 }

@@ -1,6 +1,6 @@
 #!/usr/bin/env bash
 # Compiles the programs of tests/c and examples/c over the library for C, without a warning, and runs them; then runs tests/c_steps.sh,
-# tests/orders.sh and tests/bindings.sh over the same library.
+# tests/c_waits.sh, tests/runs.sh, tests/orders.sh and tests/bindings.sh over the same library.
 #
 #   tests/c.sh
 #
@@ -96,6 +96,12 @@ for room in 112 16; do
         "$top/examples/recorders/little.c"
     ends "room for $room events" "$([ "$room" = 112 ] && echo 0 || echo 134)" "$folder/room" none right 99 1
 done
+# Each kind of event is written as it was recorded, and nothing once there is no room for one.
+ends 'a full recorder compiles' 0 "$cc" -std=gnu11 "${strict[@]}" -o "$folder/recorded" "$top/tests/c/recorded.c"
+"$folder/recorded" >"$folder/lines"
+ends 'a full recorder' 0 diff "$top/tests/c/recorded.lines" "$folder/lines"
+ends 'one event too many' 134 "$folder/recorded" more
+has_told 'one event too many: what is told' -x 'recorder: no room for the event'
 # The bench is compiled here, so that the flags reach it too.
 bench=(-DTMWATCH_PAUSES "$folder/lib/libtmwatch_bench.a" "${static[@]}" "$waits")
 
@@ -135,6 +141,7 @@ for compiler in gcc clang; do
     has $compiler "the bench by $compiler" || continue
     ends "the bench by $compiler, and no conversion that may change a value" 0 build_bench $compiler -std=c11 "${strict[@]}" -Wconversion
 done
+ends 'the bench compiles, and looks for undefined behaviour' 0 build_bench "$cc" -std=c11 "${strict[@]}" -fsanitize=undefined
 ends 'the bench compiles' 0 build_bench "$cc" -std=c11 "${strict[@]}"
 ends 'a replay compiles' 0 "$cc" -std=c11 "${strict[@]}" -o "$folder/bench_replay" "$top/tests/c/bench_replay.c" "${bench[@]}"
 program bench_plans "$top/tests/c/bench_plans.c" 0 '' "${bench[@]}"
@@ -218,15 +225,15 @@ wrong_bench() {
     cp -r "$top/bench-c" "$folder/bench-c"
     sed -i "$2" "$folder"/bench-c/*.c
     ends "a bench that $1 compiles" 0 "$cc" -std=c11 "${strict[@]}" -o "$folder/wrong" \
-        "$top/examples/c/norec.c" "$folder/bench-c/tmwatch_bench.c" "${static[@]}"
+        "$top/examples/c/norec.c" "$folder/bench-c/tmwatch_bench.c" "$folder/waits.o" "${static[@]}"
     ends "a bench that $1" "$3" until_met "${run[@]}" "$folder/wrong" --rounds "$rounds" --mixes 0 --schedule "${schedule:-rounds}"
 }
 
 wrong_bench 'records that a transaction has committed before it commits' \
     's/return m->commit(m->memory, a->tx);/return end_attempt(a, true), m->commit(m->memory, a->tx);/' 1
 # The library takes no answer to a call that is not recorded.
-wrong_bench 'records no call to commit' '/has_asked = a->calls/{n;s/note_call(a);/if (a->has_asked) note_call(a);/}' 4
-wrong_bench 'records no abort' "s/note_answer(a, has_committed ? 'C' : 'A', 0);/if (has_committed) note_answer(a, 'C', 0);/" 3
+wrong_bench 'records no call to commit' '/has_asked = a->now.calls/{n;s/note_call(a);/if (a->has_asked) note_call(a);/}' 4
+wrong_bench 'records no abort' 's/    record(a, &(tmwatch_call){has_committed ? .*/    if (has_committed)\n    &/' 3
 # Without its permits, threads that run freely are undecided. Nothing then keeps room for their events, so that the ring has cells for all.
 rounds=20 schedule=permits wrong_bench 'takes no permit and gives none' 's/tmwatch_permits_[a-z_]*(&[^;]*);/(void)0;/' 2
 for words in --rounds '--rounds x' '--rounds 0' '--mixes 101' '--schedule rounds --round 3' '--threads 9' '--registers 0' '--calls 17' \
@@ -257,13 +264,17 @@ ends 'output that can not be written' 4 sh -c '"$@" >/dev/full' sh "${run[@]}" "
 ends 'no pause compiles' 0 "$cc" -std=c11 "${strict[@]}" -c -o "$folder/plain.o" "$top/examples/c/norec.c"
 ends 'a pause is nothing unless it is under test' 1 grep -q tmwatch_pause "$folder/plain.o"
 
+# (a folder that isn't installed: its programs start as they are)
 if command -v pkg-config >/dev/null; then
     ends 'the package of the bench' 0 env PKG_CONFIG_PATH="$built/lib/pkgconfig" sh -c "$cc -std=c11 ${FLAGS:-} -o '$folder/package' \
-        '$top/examples/c/norec.c' \$(pkg-config --cflags --libs tmwatch_bench) -Wl,-rpath,'$(cd "$built/lib" && pwd)'"
+        '$top/examples/c/norec.c' \$(pkg-config --cflags --libs tmwatch_bench)"
     ends 'a memory by the package' 0 "${run[@]}" "$folder/package" --rounds 100
     ends 'the package' 0 env PKG_CONFIG_PATH="$built/lib/pkgconfig" sh -c "$cc -std=c11 ${FLAGS:-} -o '$folder/package' '$top/tests/c/misuse.c' \$(pkg-config --cflags --libs tmwatch)"
+    ends 'a program by the package' 0 "${run[@]}" "$folder/package"
 fi
 ends 'the bench by steps' 0 "$top/tests/c_steps.sh"
+ends 'what threads wait for' 0 "$top/tests/c_waits.sh"
+ends 'what the bench writes' 0 "$top/tests/runs.sh"
 ends 'the orders of C++20' 0 "$top/tests/orders.sh"
 ends 'the bindings' 0 "$top/tests/bindings.sh"
 end_rows

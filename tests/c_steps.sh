@@ -52,6 +52,13 @@ paused sequence tests/c/bench_sequence.c NONE
 paused jumping tests/c/bench_jumping.c NONE
 paused mutex tests/c/bench_stuck.c NONE "$waits"
 paused mutex_unseen tests/c/bench_stuck.c NONE
+paused outside tests/c/bench_outside.c NONE
+paused outside_UNASKED tests/c/bench_outside.c UNASKED
+paused outside_FAILS tests/c/bench_outside.c FAILS
+paused outside_READS tests/c/bench_outside.c READS
+paused outside_CRAWLS tests/c/bench_outside.c CRAWLS
+paused outside_CRASHES tests/c/bench_outside.c CRASHES
+paused outside_LOSES tests/c/bench_outside.c LOSES
 
 # The time that a run by default takes, which is all that it has. (Long pauses, which steps don't make, let each leg by permits end late.)
 timed_legs() {
@@ -75,6 +82,47 @@ for name in norec tl2 versions undo locks readers sequence jumping mutex; do
 done
 ends 'a mutex that the bench does not see' 0 "$folder/mutex_unseen" --schedule steps --rounds 20
 has_told 'a mutex that the bench does not see: rescues' '"rescues":[1-9]'
+
+# A memory that asks elsewhere, and says so.
+ends 'a lock elsewhere' 0 "$folder/outside" --schedule steps --rounds 500
+has_told 'a lock elsewhere: waits, and no rescue' '"rescues":0,.*"waits":[1-9]'
+ends 'a lock elsewhere, untold' 0 "$folder/outside_UNASKED" --schedule steps --rounds 20
+has_told 'a lock elsewhere, untold: rescues, and no wait' '"rescues":[1-9].*"switches":[0-9]*,"unseen":\["waits"\]}$'
+ends 'no lock elsewhere' 1 "$folder/outside_READS" --schedule steps
+has_told 'no lock elsewhere: certain' '"certain":true'
+ends 'no answer comes' 4 "$folder/outside_FAILS" --schedule steps --trace "$folder/failed" --junit "$folder/failed.xml"
+has_told 'no answer comes: why' -x 'the disk is gone'
+ends 'no answer comes: the fault' 0 grep -qx '{"fault":"program"}' "$folder/told"
+ends 'no answer comes: after a wait, nothing is certain' 0 grep -q '"certain":false' "$folder/told"
+ends 'no answer comes: its trace' 0 grep -q '^[0-3] R' "$folder/failed"
+ends 'no answer comes: JUnit' 0 grep -q '<error message="failed">' "$folder/failed.xml"
+
+# A memory that crashes: what has committed is there, or it isn't.
+for schedule in steps rounds all; do
+    ends "a memory that crashes, $schedule" 0 "$folder/outside_CRASHES" --crashes --schedule "$schedule" --rounds 1000
+    has_told "a memory that crashes, $schedule: how often" '"crashes":[1-9][0-9]'
+    ends "a memory that loses what has committed, $schedule" 1 "$folder/outside_LOSES" --crashes --schedule "$schedule" --trace "$folder/one"
+    has_told "a memory that loses what has committed, $schedule: at the first crash" '"crashes":1,'
+    ends "a memory that loses what has committed, $schedule: a fresh thread reads" 0 test "$(tail -n 1 "$folder/one" | cut -d' ' -f1,2)" = \
+        "$(awk 'NR > 1 && !seen[$1]++ { last = $1 } END { print last " V" }' "$folder/one")"
+done
+ends 'crashes and eight threads' 4 "$folder/outside_CRASHES" --crashes --threads 8
+ends 'crashes and permits' 4 "$folder/outside_CRASHES" --crashes --schedule permits
+
+# A leg by steps that takes long ends, and then one in rounds comes.
+ends 'slow rounds' 0 "$folder/outside_CRAWLS" --seconds 7 --legs
+has_told 'slow rounds: a leg by steps, and one in rounds' -Pz 'leg 1: --schedule steps.*\nleg 21: --schedule rounds'
+
+# After what is wrong the rounds go on.
+ends 'a run that goes on' 1 "$folder/norec_READS" --go-on --schedule steps --rounds 300
+has_told 'a run that goes on: all its rounds' '"at":[0-9]*,"events":[1-9][0-9]\{4\}'
+
+# Small values: fewer than 32 bits, and none is written twice.
+writes_small() {
+    "$folder/norec" --small --schedule steps --rounds 500 --trace "$1" >"$folder/printed"
+    awk '$2 == "W" && ($4 > 100000 || seen[$4]++) || $2 == "N" && $4 >= 65536 { exit 1 } $2 == "N" { adds++ } END { exit !adds || NR < 1000 }' "$1"
+}
+ends 'small values' 0 writes_small "$folder/one"
 
 # A violation is made again by the printed words, which end with its round.
 for name in norec_READS tl2_LOCKED versions_AGAIN; do
@@ -101,15 +149,16 @@ if [ ${#flags[@]} -eq 0 ] && has gdb 'a stop before the round'; then
 fi
 
 # Each of these ends with words that repeat it for certain, or says that they need not: by further words, its status, and whether they do.
+patience=()
 repeats() {
     local name=$1 status=$2 certain=$3 given
     read -r -a given <<<"$4"
-    ends "$name $4" "$status" "$folder/$name" "${given[@]}" --trace "$folder/one"
+    ends "$name $4" "$status" "$folder/$name" "${given[@]}" "${patience[@]}" --trace "$folder/one"
     cp "$folder/output" "$folder/told"
     ends "$name $4: certain" 0 grep -q '^{"again":".*","certain":'"$certain"'}$' "$folder/told"
     [ "$certain" = true ] || return 0
     read -r -a given < <(again "$folder/told") || true
-    ends "$name $4, again" "$status" "$folder/$name" "${given[@]}" --trace "$folder/two"
+    ends "$name $4, again" "$status" "$folder/$name" "${given[@]}" "${patience[@]}" --trace "$folder/two"
     ends "$name $4: the same trace" 0 cmp "$folder/one" "$folder/two"
 }
 sed 's/words\[8\];/words[8] = {0, 5};/' "$top/examples/c/norec.c" >"$folder/wrong_start.c"
@@ -217,6 +266,20 @@ for seed in 1 2 3; do
     ends "a starved thread, seed $seed" 1 "$folder/sequence_WRAP" --schedule steps --rounds 300 --seed $seed
 done
 
+# The threads of a run are the same in all legs.
+paused threads tests/c/bench_threads.c NONE
+ends 'the threads of six legs' 0 "$folder/threads" --rounds 6000
+has_told 'the threads of six legs: how many' '^[2-8] threads$'
+
+# What only more than four registers show is found by default too.
+paused stripes tests/c/bench_stripes.c NONE
+ends 'words that share four locks' 0 "$folder/stripes" --registers 8 --rounds 5000
+for fault in NEIGHBOUR EXTENSION; do
+    paused "stripes_$fault" tests/c/bench_stripes.c $fault
+    ends "words that share four locks, $fault" 1 "$folder/stripes_$fault" --seed 5 --rounds 20000
+    ends "words that share four locks, $fault, with four registers" 0 "$folder/stripes_$fault" --seed 5 --rounds 5000 --registers 4
+done
+
 # Which leg goes by which plan, drawn by another program.
 legs_drawn() {
     "$folder/$1" --legs --seed "$2" --rounds 42000 >"$folder/printed" 2>"$folder/legs"
@@ -308,6 +371,10 @@ ends 'eight permits' 0 "$folder/norec" --schedule permits --threads 8 --rounds 3
 has_told 'eight permits: eight attempts in a window' '"widest":8'
 
 # Memories without a pause: what they lack is found, and nothing else.
+plain_legs() {
+    "$folder/$1" --legs --plain --rounds 2500 >"$folder/printed" 2>"$folder/legs"
+    [ "$(grep -c ' --plain$' "$folder/legs")" -eq 3 ]
+}
 unset last
 compilers=(gcc clang)
 [ ${#flags[@]} -eq 0 ] || compilers=()
@@ -323,6 +390,7 @@ for compiler in "${compilers[@]}"; do
         [ "$name" != norec ] || path=examples/c/norec.c
         unpaused "plain_$name" $compiler "$path" NONE
         [ "$name" != norec ] || ends "the legs of norec by $compiler" 0 legs_drawn plain_norec 5 1 1
+        [ "$name" != norec ] || ends "the legs of norec by $compiler, by --plain" 0 plain_legs plain_norec
         ends "$name by $compiler, with buffers" 0 "$folder/plain_$name" --schedule steps --rounds 2000 --orders x86 --plain
         has_told "$name by $compiler, with buffers: rescues" '"rescues":0,'
         [ "$fault" != NONE ] || continue
@@ -340,17 +408,9 @@ for compiler in "${compilers[@]}"; do
         ends "a fence that is missing, by $compiler: the same trace" 0 cmp "$folder/one" "$folder/two"
     done
 done
-# A thread is seen to wait for each kind of lock and condition, and its delayed stores are out before the lock is given back. What it stores
-# to its own bytes, or to a block that is given back, is not overtaken.
+# What a thread stores to its own bytes, or to a block that is given back, is not overtaken.
 for compiler in "${compilers[@]}"; do
-    has $compiler "locks, by $compiler" || continue
-    for lock in MUTEX TRY SPIN SPIN_TRY READ_WRITE READ_WRITE_TRY CONDITION TIMED CLOCKED BROADCAST SEMAPHORE; do
-        unpaused "waits_$lock" $compiler tests/c/bench_waits.c NONE -DLOCK=$lock
-        for orders in x86 c++; do
-            ends "$lock by $compiler, $orders" 0 "$folder/waits_$lock" --schedule steps --rounds 1000 --orders $orders
-            has_told "$lock by $compiler, $orders: rescues" '"rescues":0,'
-        done
-    done
+    has $compiler "own bytes, by $compiler" || continue
     unpaused litmus $compiler tests/c/bench_litmus.c NONE
     ends "litmus tests by $compiler" 0 "$folder/litmus"
     for kind in TX LOCAL HEAP GROWN REGISTERED; do
@@ -414,6 +474,10 @@ for fault in SPIN MUTEX READ ADD; do
     done
 done
 repeats stuck_SPIN 4 true '--schedule steps --patience 1'
+paused stuck_BOTH tests/c/bench_stuck.c BOTH "$waits"
+for seed in 1 2 3; do
+    repeats stuck_BOTH 1 true "--schedule steps --adds 0 --seed $seed --patience 1"
+done
 repeats stuck_READ 4 true '--patience 1'
 repeats stuck_SPIN 4 false '--schedule rounds --patience 1'
 # A second of patience is a second, if the machine has time once in three runs.
@@ -427,8 +491,7 @@ is_patient() {
     return 1
 }
 ends 'a second of patience' 0 is_patient
-paused stuck_BOTH tests/c/bench_stuck.c BOTH
-ends 'a wrong memory that never returns' 1 "$folder/stuck_BOTH" --schedule rounds --patience 1 --adds 0
+ends 'a wrong memory that never returns' 1 "$folder/stuck_BOTH" --schedule rounds --patience 3 --adds 0
 has_told 'a wrong memory that never returns: where' '^thread 1: .* has not returned$'
 ends 'a wrong memory that never returns: the verdict' 0 grep -q '"verdict":"violated"' "$folder/told"
 # A memory that waits without a step, and a bench that doesn't see it.
@@ -477,17 +540,17 @@ ends 'two benches at once, and signals' 0 "$folder/apart"
 # isn't.
 lost() {
     local began=$EPOCHREALTIME status=0
-    "$folder/$1" --schedule "$2" --trace "$folder/one" || status=$?
+    "$folder/$1" --schedule "$2" "${patience[@]}" --trace "$folder/one" || status=$?
     since "$began" | awk '{ exit !($1 < 10) }' && return $status
 }
 # The rows of a program: by each schedule it loses progress, or runs so many rounds.
 loses_progress() {
-    local schedule
+    local schedule patience=(--patience 1)
     for schedule in rounds permits steps all; do
         ends "lost progress, $1, $schedule" 4 lost "$1" $schedule
         cp "$folder/output" "$folder/told"
         ends "lost progress, $1, $schedule: the fault" 0 grep -qx '{"fault":"stuck"}' "$folder/told"
-        ends "lost progress, $1, $schedule: why" 0 grep -q '^a transaction that ran alone was rolled back [0-9]* times: ' "$folder/told"
+        ends "lost progress, $1, $schedule: why" 0 grep -q '^a transaction of thread [0-7] that ran alone was rolled back [0-9]* times: ' "$folder/told"
         ends "lost progress, $1, $schedule: its trace" 0 sh -c 'test "$(grep -c "A$" "$1")" -ge 8' sh "$folder/one"
         ends "lost progress, $1, $schedule: its trace, judged" 0 sh -c '"$1" <"$2"' sh "$folder/replay" "$folder/one"
         ends "lost progress, $1, $schedule: what lacks" 0 grep -q '"lacks":\[.*"progress"' "$folder/one.run"
@@ -522,6 +585,14 @@ if has "$cxx" 'a class that loses progress'; then
         esac
     done
 fi
+ends 'lost progress, by the patience that is usual' 4 lost tl2_LEAK steps
+# One that commits nothing for some seconds has as long as patience lasts.
+paused leased tests/c/bench_spurious.c NONE -DPERCENT=0 -DLEASE=4
+for schedule in rounds permits steps; do
+    ends "a lease of four seconds, $schedule" 0 "$folder/leased" --schedule $schedule --rounds 200 --patience 60
+    has_told "a lease of four seconds, $schedule: all rounds" '"rounds":200[,}]'
+done
+ends 'a lease of four seconds, and a second of patience' 4 "$folder/leased" --schedule steps --rounds 200 --patience 1
 paused spurious_99 tests/c/bench_spurious.c NONE -DPERCENT=99
 ends 'nearly all are rolled back' 0 "$folder/spurious_99" --rounds 500
 has_told 'nearly all are rolled back: it is told' '"lacks":\[.*"progress"'

@@ -1,5 +1,6 @@
 #!/usr/bin/env bash
-# Runs memories by examples/ci/bench.sh, right and wrong ones, and programs that end otherwise; then a command of docs/CI.md for traces.
+# Runs memories by examples/ci/bench.sh, right and wrong ones, and programs that end in all other ways (ci.py); then a command of docs/CI.md
+# for traces.
 #
 #   tests/ci.sh
 #
@@ -19,12 +20,6 @@ cd "$folder"
 compile() {
     ends "norec, $1, compiles" 0 "$cc" -O2 -pthread -DTMWATCH_PAUSES "-DFAULT=$1" "-I$built/include" -o "norec-$1" \
         "$top/examples/c/norec.c" "$built/lib/libtmwatch_bench.a" "$built/lib/libtmwatch.a"
-}
-
-# Writes a program that prints this line and ends with this status: its name, the line and the status.
-write_program() {
-    printf '%s\n' '#!/bin/sh' "echo '$2'" 'echo "$@" >words' "exit $3" >"$1"
-    chmod +x "$1"
 }
 
 # Runs these programs as tests: the row's name, the exit status, and the lines of TAP that begin with ok or not.
@@ -65,23 +60,11 @@ printf '%s\n' '# what was found once' "./norec-READS $again" '' "./norec-NONE $a
 AGAIN=again tested 'what was found once' 1 "not ok 1 - ./norec-READS $again
 ok 2 - ./norec-NONE $again
 ok 3 - ./norec-NONE --seed 7 --seconds 1" ./norec-NONE
-write_program opaque '{"events":9,"verdict":"opaque so far"}' 0
-write_program little '{"events":9,"verdict":"opaque so far"} {"lacks":["overlap"]}' 0
-write_program stuck '{"fault":"stuck"}' 4
-write_program 'undecided' '{"at":1,"events":1,"verdict":"undecided","why":"states"}' 2
-write_program crashed '{"events":9,"verdict":"opaque so far"}' 139
-write_program quoted '{"fault":"stu&<ck"}' 4
-tested 'other ends' 2 'ok 1 - ./opaque --seed 7 --seconds 1
-not ok 2 - ./little --seed 7 --seconds 1
-not ok 3 - ./stuck --seed 7 --seconds 1
-not ok 4 - ./undecided --seed 7 --seconds 1
-not ok 5 - ./crashed --seed 7 --seconds 1
-not ok 6 - ./quoted --seed 7 --seconds 1
-not ok 7 - ./none --seed 7 --seconds 1' ./opaque ./little ./stuck ./undecided ./crashed ./quoted ./none
-unset SEED
-ends 'a run of today' 0 "$top/examples/ci/bench.sh" out ./opaque
-ends 'its seed is the day' 0 grep -Eq "^--seed ($(date -u +%Y%m%d)|$(date -u -d '1 minute ago' +%Y%m%d)) --seconds 1 " words
-ends 'no program' 4 "$top/examples/ci/bench.sh" out
+if has python3 'other ends'; then
+    mkdir ends && cd ends
+    ends 'other ends' 0 "$top/tests/ci.py" "$top/examples/ci/bench.sh"
+    cd "$folder"
+fi
 
 # As docs/CI.md judges a trace whose transactions have to overlap.
 shows() {

@@ -134,12 +134,16 @@ build_bench() {
     ar rcs "$folder/lib/libtmwatch_steps.a" "$folder"/steps/*.o
 }
 
+# The words by which the linker wraps the names of this kind.
+wrapping() {
+    sed -n "s/^$1 //p" "$top/packaging/wrapped.txt" | tr ' ' '\n' | sed 's/^/,--wrap=/' | tr -d '\n'
+}
+
 # Sets built, the folder with the library for C: BUILT, or one that is filled now and becomes BUILT for what the script calls. It also sets
 # waits and blocks, by which the linker shows the bench that a thread waits, and that a block is given back.
 use_library() {
     built=${BUILT:-$folder/built}
     [ -n "${BUILT:-}" ] || "$top/tmwatch-c" "$built"
     export BUILT=$built
-    waits=$(grep -o -- '-Wl,--wrap=pthread[^ ]*' "$built/lib/pkgconfig/tmwatch_bench.pc")
-    blocks=$(grep -o -- '-Wl,-u,[^ ]*' "$built/lib/pkgconfig/tmwatch_steps.pc")
+    waits=-Wl$(wrapping waits) blocks=-Wl,-u,tmwatch_step_sees_free$(wrapping blocks)
 }

@@ -1,5 +1,7 @@
 #!/usr/bin/env python3
-"""Compares verdicts on random histories, turned into traces by examples/import, with those of all orders and completions.
+"""Compares verdicts on random histories, turned into traces by examples/import, with those of all orders and completions. Keys and values
+are of either sign, and blanks, commas and further words stand as Jepsen may write them. Lines in which one word is spoiled are refused, or
+left out if they are none of a process.
 
     tests/import.py PROGRAM HISTORIES
 
@@ -19,17 +21,24 @@ sys.path.insert(0, os.path.join(os.path.dirname(os.path.dirname(os.path.realpath
 import jepsen  # noqa: E402
 from intervals import write_trace  # noqa: E402
 
-KEYS, MOST = [1, 2], 5
-FOREVER = 10**9
+MOST, FOREVER = 5, 10**9
+# Words of a line that say something else; and what may stand in place of a part of a line, whose words say then why the history is refused.
+OTHERS = [":old-value []", ":old-type :fail", ":old-process 99"]
+SPOILT = {
+    ":r": (":append", " is no transaction on read-write registers: "), "[[": ("[[[", " is no transaction on read-write registers: "),
+    "]]": ("]", " is no transaction on read-write registers: "), ":value": (":values", " is no transaction on read-write registers: "),
+    ":ok": (":invoke", " has an operation already"),
+}  # fmt: skip
 
 
 def random_history(rng):
     """Up to five transactions, whose reads find what some transaction has written or what was there first."""
-    values = {key: [None] for key in KEYS}
+    keys = rng.sample(range(-3, 12), 2)
+    values = {key: [None] for key in keys}
     times = rng.sample(range(4 * MOST), 2 * rng.randint(2, MOST))
     ts = []
     for fresh, (one, other) in enumerate(zip(times[::2], times[1::2]), 1):
-        calls = [[rng.choice("rw"), rng.choice(KEYS), 10 * fresh + place] for place in range(rng.randint(1, 3))]
+        calls = [[rng.choice("rw"), rng.choice(keys), rng.choice([1, -1]) * (10 * fresh + place)] for place in range(rng.randint(1, 3))]
         for kind, key, value in calls:
             if kind == "w":
                 values[key].append(value)
@@ -70,14 +79,38 @@ def is_strict(ts):
     return False
 
 
-def write_edn(ts):
+def write_edn(rng, ts):
     def words(t, knows):
         known = [(kind, key, value if knows or kind == "w" else None) for kind, key, value in t["calls"]]
-        return " ".join(f"[:{kind} {key} {'nil' if value is None else value}]" for kind, key, value in known)
+        return rng.choice([" ", ", ", "  "]).join(f"[:{kind} {key} {'nil' if value is None else value}]" for kind, key, value in known)
+
+    def line_of(time, kind, n):
+        parts = [f":type :{kind}", f":process {numbers[n]}", ":f :txn", f":value [{words(ts[n], kind == 'ok')}]", f":time {time}", *OTHERS]
+        rng.shuffle(parts)
+        return "{" + rng.choice([", ", " "]).join(parts) + "}"
 
     moments = [(t["begin"], "invoke", n) for n, t in enumerate(ts)] + [(t["end"], t["result"], n) for n, t in enumerate(ts)]
-    lines = [f"{{:type :{kind}, :process {n}, :f :txn, :value [{words(ts[n], kind == 'ok')}]}}" for _, kind, n in sorted(moments)]
+    numbers = rng.sample(range(30), len(ts))
+    lines = [line_of(*moment) for moment in sorted(moments)]
+    for other in "{:type :info, :process :nemesis, :f :start, :value nil}", "", "{:type :pass, :process 1, :value [[:x]]}":
+        lines.insert(rng.randrange(len(lines) + 1), other)
     return "\n".join(lines)
+
+
+def is_refused_when_spoilt(rng, text):
+    """Spoils one part of one line, if there is one, and returns whether the history is refused, by that line's number and the reason."""
+    lines = text.split("\n")
+    number, part = rng.randrange(len(lines)), rng.choice(sorted(SPOILT))
+    spoilt, why = SPOILT[part]
+    # (of what has not committed nobody reads what was read)
+    if part not in lines[number] or ":txn" not in lines[number] or not (":invoke" in lines[number] or ":ok" in lines[number]):
+        return True
+    lines[number] = lines[number].replace(part, spoilt, 1)
+    try:
+        jepsen.read_transactions(lines)
+    except SystemExit as it:
+        return str(it.code).startswith(f"line {number + 1}") and why in str(it.code)
+    return False
 
 
 def judge(program, ts):
@@ -94,7 +127,10 @@ def main(program, histories):
         ts = random_history(rng)
         wanted = "strict so far" if is_strict(ts) else "violated"
         violated += wanted == "violated"
-        text = write_edn(ts)
+        text = write_edn(rng, ts)
+        if not is_refused_when_spoilt(rng, text):
+            print(f"{text}\nis not refused, or for another reason")
+            return 1
         for converter, read in ("intervals.py", ts), ("jepsen.py", jepsen.read_transactions(text.split("\n"))):
             if (verdict := judge(program, read)) != wanted:
                 print(f"{text}\n{converter}: {verdict}, and by all orders {wanted}")

@@ -27,10 +27,10 @@ judged() {
     ends "$name, judged" 0 diff <(echo "$report") "$folder/report"
 }
 
-# Gives the history on standard input to a converter, which has to refuse it and to say so in these words.
+# Gives the history on standard input to a converter, with keys, which has to refuse it and to say so in these words.
 refused() {
     local name=$1 words=$2 converter=$3
-    ends "$name, refused" 1 "$top/examples/import/$converter"
+    ends "$name, refused" 1 "$top/examples/import/$converter" "${@:4}"
     has_told "$name: what is told" -F -- "$words"
 }
 
@@ -59,6 +59,12 @@ judged 'Jepsen, write skew, in a vector' "$(violated 12 12)" jepsen.py <<'END_OF
  {:type :invoke, :process 1, :f :txn, :value [[:r 2 nil], [:w 1 6]]}
  {:type :ok, :process 0, :f :txn, :value [[:r 1 nil] [:w 2 5]]}
  {:type :ok, :process 1, :f :txn, :value [[:r 2 nil], [:w 1 6]]}]
+END_OF_HISTORY
+judged 'Jepsen, write skew, of one key alone' "$(so_far 8)" jepsen.py 2 <<'END_OF_HISTORY'
+{:type :invoke, :process 0, :f :txn, :value [[:r 1 nil] [:w 2 5]]}
+{:type :invoke, :process 1, :f :txn, :value [[:r 2 nil], [:w 1 6]]}
+{:type :ok, :process 0, :f :txn, :value [[:r 1 nil] [:w 2 5]]}
+{:type :ok, :process 1, :f :txn, :value [[:r 2 nil], [:w 1 6]]}
 END_OF_HISTORY
 judged 'Jepsen, a failed write that was read' "$(violated 4 4)" jepsen.py <<'END_OF_HISTORY'
 {:type :invoke, :process 0, :f :txn, :value [[:w 7 1]]}
@@ -109,6 +115,16 @@ lost_update='{"begin": 1, "end": 4, "result": "ok", "calls": [["r", "x", null], 
 {"begin": 2, "end": 5, "result": "ok", "calls": [["r", "x", null], ["w", "x", 2], ["w", "y", 3]]}'
 judged 'intervals, a lost update' "$(violated 16 16)" intervals.py <<<"$lost_update"
 judged 'intervals, of one key alone' "$(so_far 8)" intervals.py y <<<"$lost_update"
+refused 'intervals, of no key that is there' '0 keys are named of those in the history: 1 to 8 can be judged' intervals.py z <<<"$lost_update"
+nine='{"begin": 1, "end": 2, "result": "ok", "calls": [["r", 9, null], ["w", 1, 1], ["w", 2, 1], ["w", 3, 1], ["w", 4, 1], ["w", 5, 1],
+    ["w", 6, 1], ["w", 7, 1], ["w", 8, 1]]}'
+refused 'intervals, of nine keys' '9 keys are named of those in the history: 1 to 8 can be judged' intervals.py 1 2 3 4 5 6 7 8 9 \
+    <<<"${nine//$'\n'/}"
+ends 'intervals, eight keys of nine' 0 convert "$top/examples/import/intervals.py" <<<"${nine//$'\n'/}"
+has_told 'intervals, eight keys of nine: it is told' -x '8 of 9 keys are judged'
+ends 'intervals, eight keys of nine: which' 0 diff <(sed 2,3d "$folder/trace") <(
+    echo 'opacity-trace 1 8' && for key in 1 2 3 4 5 6 7; do printf '0 W %d %d\n0 K\n' $key $key; done && printf '0 T\n0 C\n'
+)
 refused 'intervals, a value that is written twice' 'key x is written 1 twice' intervals.py <<'END_OF_HISTORY'
 {"begin": 1, "end": 2, "result": "ok", "calls": [["w", "x", 1]]}
 {"begin": 3, "end": 4, "result": "ok", "calls": [["w", "x", 1]]}

@@ -29,8 +29,9 @@ def schedule_of(leg, is_marked):
 def plan_of(draws, schedule, is_instrumented):
     """Returns the words of a leg that isn't the first."""
     seed, is_usual = draws.below(2**64 - 1), draws.below(2) == 0
-    more = 4 * draws.below(2)
-    numbers = [2 + draws.below(3 + more), 1 + draws.below(4), 1 + draws.below(5), 30 + 20 * draws.below(4), 20 * draws.below(2)]
+    threads = 2 + draws.below(3 + 4 * draws.below(2))
+    registers = 1 + draws.below(4 + 4 * draws.below(2))
+    numbers = [threads, registers, 1 + draws.below(5), 30 + 20 * draws.below(4), 20 * draws.below(2)]
     numbers += [52 if draws.below(4) == 0 else 12, (0, 10, 100, 1000)[draws.below(4)], 50, 10]
     orders, is_plain = draws.below(4), draws.below(8) == 0
     words = [f"--schedule {schedule} --rounds 1000 --seed {seed}"]

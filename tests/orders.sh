@@ -1,6 +1,7 @@
 #!/usr/bin/env bash
-# Runs the model of C++20's orders in the bench for memories in C by itself: litmus tests, random runs judged by axioms, all executions of
-# small programs, plain accesses; and mistakes planted into it, each of which these have to notice. Then memories by --orders c++.
+# Runs the model of C++20's orders in the bench for memories in C by itself: litmus tests, random runs judged by axioms, small programs that
+# have to come to all executions that C++20 allows and to no other, plain accesses; and mistakes planted into it, each of which these have to
+# notice. Then memories by --orders c++.
 #
 #   tests/orders.sh
 #
@@ -23,7 +24,7 @@ strict=("$cc" -std=c11 -Wall -Wextra -Wconversion -Werror -g -O2 -pthread "-I$to
 # The model's tests, over the model in this folder: where the programs go, and the words for the compiler.
 compile_model() {
     local test
-    for test in litmus random complete plain; do
+    for test in litmus random exact plain told delayed; do
         "${@:2}" -o "$1/$test" "$folder/tests/orders/$test.c" || return
     done
 }
@@ -32,19 +33,30 @@ cp -r "$top/tests/orders" "$top/tests/c" "$folder/tests"
 cp -r "$top/bench-c/instrumented" "$folder/bench-c"
 last=true
 ends 'the tests of the model compile' 0 compile_model "$folder/models" "${strict[@]}"
-ends 'litmus tests' 0 "$folder/models/litmus" 30000
+ends 'litmus tests' 0 "$folder/models/litmus"
 ends 'random runs' 0 "$folder/models/random" 50000
-ends 'all executions of small programs' 0 "$folder/models/complete" 60 20000
+ends 'all executions of small programs' 0 "$folder/models/exact" 2000
 ends 'plain accesses, and others that are not simulated' 0 "$folder/models/plain"
+ends 'delayed loads' 0 "$folder/models/delayed"
+noticing=(litmus plain 'exact 300' 'random 20000')
+if has addr2line 'what is told'; then
+    noticing=(told "${noticing[@]}")
+    ends 'what is told, whole' 0 "$folder/models/told"
+fi
+sed -i 's/MOST_SEQUENTIAL = [0-9]*/MOST_SEQUENTIAL = 2/' "$folder/bench-c/instrumented/orders/simulation.c"
+ends 'the tests of a model that tells few operations apart compile' 0 compile_model "$folder/models" "${strict[@]}"
+ends 'random runs, few operations told apart' 0 "$folder/models/random" 50000
+cp "$top/bench-c/instrumented/orders/simulation.c" "$folder/bench-c/instrumented/orders"
 unset last
 
-# Whether one of the model's tests fails, which stand in the order of their time.
+# Whether one of the model's tests fails.
 is_noticed() {
     local test words
-    for test in 'litmus 2000' plain 'random 50000' complete; do
+    for test in "${noticing[@]}"; do
         read -r -a words <<<"$test"
-        "$cc" -std=c11 -O0 -w "-I$top/include" -o "$folder/models/test" "$folder/tests/orders/${words[0]}.c"
-        timeout 60 "$folder/models/test" "${words[@]:1}" >"$folder/printed" 2>&1 || { echo "by ${words[0]}" && return; }
+        "$cc" -std=c11 -g -O1 -w "-I$top/include" -o "$folder/models/test" "$folder/tests/orders/${words[0]}.c"
+        # (one that doesn't end in time has noticed nothing)
+        timeout 60 "$folder/models/test" "${words[@]:1}" >"$folder/printed" 2>&1 || [ $? -eq 124 ] || { echo "by ${words[0]}" && return; }
     done
     return 1
 }
@@ -65,33 +77,66 @@ mistake 'a release of a read-modify-write acquires' clocks.c 's/return order != 
 mistake 'a release releases nothing' clocks.c 's/return order >= RELEASE/return order > RELEASE/'
 mistake 'an acq_rel releases nothing' clocks.c 's/return order >= RELEASE/return order == RELEASE || order == SEQUENTIAL/'
 mistake 'a relaxed store releases' clocks.c 's/return order >= RELEASE/return order != 2/'
-mistake 'an access does not know earlier fences' model.c '/^static unsigned floor_of/,/^}/s/join(&knows, &o->fences);//'
-mistake 'an access does not know earlier seq_cst ones' model.c 's/        knows.at\[SEQUENCE\] = o->sequence;//'
-mistake 'a load may be one store too old' model.c '/^static unsigned floor_of/,/^}/s/return i;/return i - 1;/'
-mistake 'a load knows a step too many' model.c 's/seen.at\[k\] <= knows.at\[k\]/seen.at[k] <= knows.at[k] + 1/'
+mistake 'what is known may be unknown' clocks.c 's/steps->at\[i\] - 1 < up_to/steps->at[i] < up_to/'
+mistake 'a step more is known' clocks.c 's/steps->at\[i\] - 1 < up_to->at\[i\];/steps->at[i] > 0 \&\& steps->at[i] - 1 <= up_to->at[i];/'
+mistake 'a load may be one store too old' sequence.c '/^static unsigned floor_of/,/^}/s/return i;/return i - (i > 0);/'
+mistake 'an access does not come after the fences that it knows' sequence.c '/^static unsigned floor_of/,/^}/s/add_past(o, &past, fences_of(o, view));//'
+mistake 'a seq_cst access does not come after those before it' sequence.c '/^static unsigned floor_of/,/^}/s/add_strong(o, &past, &view->knows);/(void)0;/'
+mistake 'an access after a fence does not know what that did' sequence.c 's/\[i\].seen, &past.known)/[i].seen, \&view->knows)/'
+mistake 'a store of a seq_cst access before it may be passed' sequence.c 's/ \&\& !is_within(&it->stores\[i\].ordered, &past.last)//'
+mistake 'what is acquired is all that strongly happens before' sequence.c 's/steps.at\[i\] -= steps.at\[i\] > 0;//'
+mistake 'a step less strongly happens before' sequence.c 's/steps.at\[i\] -= steps.at\[i\] > 0;/steps.at[i] -= steps.at[i] > 1 ? 2 : steps.at[i];/'
+mistake 'a past has no past' sequence.c '/^static void add_past/,/^}/s/join_past(to, &it->past);/to->last.at[i] = it->step;/'
+mistake 'a past does not know what its fences know' sequence.c '/^static void join_past/,/^}/s/join(&to->known, &of->known);//'
+mistake 'fences that are known are looked up once' sequence.c 's/view->looked_up.at\[i\] == view->knows.at\[i\]/view->looked_up.at[i] > 0/'
+mistake 'no fence before a relaxed access' sequence.c 's/return order == SEQUENTIAL || .*/return knows \&\& order == SEQUENTIAL;/'
+mistake 'no fence before another operation' sequence.c 's/is_fence ? step : fence/is_fence ? step : 0/'
+mistake 'an operation has not made its own past' sequence.c 's/    past->last.at\[thread\] = step;//'
+mistake 'an operation does not come before the next one to read' sequence.c 's/        join(&it->stores\[k\].before_reads, &o->made);//'
+mistake 'an operation does not come before the next one to store' sequence.c 's/        join(&it->stores\[k\].before_stores, &o->made);//'
+mistake 'a reader does not come before the next one to store' sequence.c 's/        join(&it->stores\[found\].before_stores, &o->made);/        (void)0;/'
+mistake 'a store comes before another that it follows' sequence.c '/^static void settle_access/,/^}/s/    if (!stores)/    if (true)/'
+mistake 'a store does not come after readers' sequence.c 's/stores ? &it->stores\[found\].before_stores : //'
+mistake 'a reader comes after other readers' sequence.c 's/stores ? &it->stores\[found\].before_stores : .*)/\&it->stores[found].before_stores)/'
+mistake 'an access does not come after what its store comes after' sequence.c 's/        add_past(o, &past, stores ? .*//'
+mistake 'an access does not come after what strongly happens before' sequence.c '/^static void settle_access/,/^}/s/add_strong(.*);//'
+mistake 'who reads an older store comes before nobody' sequence.c 's/        settle_newer(o, it, found, &past);//'
+mistake 'who reads an older store comes before one of each thread' sequence.c '/^static void settle_newer/,/^}/s/i--)/i = 0)/'
+mistake 'a seq_cst access comes after all that were made' sequence.c '/^static unsigned floor_of/,/^}/s/add_strong(.*);/memset(\&past.last, 1, sizeof past.last);/'
+mistake 'fences before who reads an older store come before nobody' sequence.c 's/        add_past(o, &past, &o->made);//'
+mistake 'what an older store comes before is not what has read newer ones' sequence.c 's/return true;/return false;/'
+mistake 'fences that know newer stores do not come after' sequence.c 's/ || is_within(&it->stores\[k\].seen, &past->known))/)/'
+mistake 'accesses of newer stores do not come after' sequence.c 's/is_within(&it->stores\[k\].ordered, &past->last) || //'
+mistake 'accesses of the same store come after' sequence.c '/^static bool is_newer_in/,/^}/s/found + 1/found/'
+mistake 'an access leaves no own operation' sequence.c 's/        o->made.at\[a->thread\] = .*//'
+mistake 'an access leaves no fences' sequence.c 's/o->made = \*fences_of(o, view);/(void)fences_of(o, view);/'
+mistake 'a fence does not come after what it knows' sequence.c 's/    add_past(o, &past, &before);//'
+mistake 'a fence knows of one store alone' sequence.c '/^static void settle_fence/,/^}/s/i < o->used/i < 1/'
+mistake 'later operations do not know what a fence knows' sequence.c 's/{{{0}}, o->views\[thread\].knows}/{{{0}}, {{0}}}/;s/seen, &past.known))$/seen, \&o->views[thread].knows))/'
+mistake 'a seq_cst access is not counted' model.c 's/it->ordered.at\[a->thread\] = step;/(void)step;/'
+mistake 'a store does not come before who reads it' model.c '/^static struct store \*add_store/,/^}/s/join(&before, &a->orders->made);//'
+mistake 'a store does not come after who has read the one before' model.c 's/stores\[at - 1\].before_stores/stores[at - 1].before_reads/'
+mistake 'a store may come before what its thread knows' model.c '/^bool tmwatch_orders_store/,/^}/s/draw_store(a, it, a->order/draw_store(a, it, RELAXED/'
+mistake 'a change may be of what its thread knows' model.c '/^bool tmwatch_orders_take/,/^}/s/draw_store(a, it, a->order/draw_store(a, it, RELAXED/'
+mistake 'a load may be of what its thread knows' model.c '/^uint64_t tmwatch_orders_load/,/^}/s/draw_store(a, it, a->order/draw_store(a, it, RELAXED/'
+mistake 'no load is stale' model.c 's/draw_below(&o->draws, ODDS) >= odds)/true)/'
+mistake 'a stale load is of the oldest store' model.c 's/lowest + draw_below(&o->draws, newest - lowest)/lowest/'
+mistake 'a swap that succeeds reads as one that fails' model.c '/^static unsigned draw_compared/,/^}/s/is_equal ? a->order : failed/failed/'
+mistake 'a swap that fails reads as one that succeeds' model.c '/^static unsigned draw_compared/,/^}/s/is_equal ? a->order : failed/a->order/'
+mistake 'a swap fails by no old value' model.c '/^static unsigned draw_compared/,/^}/s/o->stale/0/'
 mistake 'what is read is not seen' model.c '/^static uint64_t read_store/,/^}/s/see(a, store);//'
 mistake 'what is stored is not seen' model.c '/^static struct store \*add_store/,/^}/s/see(a, store);//'
-mistake 'a seq_cst access is not counted' model.c 's/it->seen.at\[SEQUENCE\] = o->sequence;/(void)0;/'
 mistake 'an acquire fence knows no loads' model.c 's/join(&view->loaded, &store->releases);//'
 mistake 'an acquire knows nothing' model.c 's/        join(&view->knows, &store->releases);/        (void)0;/'
-mistake 'no load is stale' model.c 's/if (lowest == newest ||/if (true ||/'
 mistake 'a store comes between a change and what it has read' model.c '/^static bool may_change/,/^}/s/return .*/return it \&\& found != ~0u;/'
 mistake 'a change does not go on with a release sequence' model.c 's/join(&store->releases, &released);//'
 mistake 'a change is not marked' model.c 's/store->is_change = true;//'
-mistake 'a change may be of any store' model.c '/tmwatch_orders_take/,/^}/s/floor_of(o, it, view, a->order)/0/'
 mistake 'a change is of the newest store alone' model.c 's/may_change(it, found) ? found : it->count - 1/it->count - 1/'
-mistake 'a store may come before any' model.c '/^bool tmwatch_orders_store/,/^}/s/floor_of(o, it, view, a->order)/0/'
 mistake 'no store is late' model.c '/^bool tmwatch_orders_store/,/^}/s/o->late/0/'
 mistake 'a swap that fails has the order of one that succeeds' model.c 's/to_fail.order = failed;/(void)0;/'
-mistake 'a swap that succeeds reads as one that fails' model.c \
-    's/is_equal ? found >= to_change \&\&/is_equal ? found >= to_fail \&\&/'
-mistake 'a swap fails by no old value' model.c '/^static unsigned draw_compared/,/^}/s/o->stale/0/'
 mistake 'a weak swap fails as a strong one' model.c 's/is_spurious = is_weak \&\&/is_spurious = false \&\&/'
 mistake 'a strong swap fails as a weak one' model.c 's/is_spurious = is_weak \&\&/is_spurious =/'
 mistake 'a fence does not acquire' model.c 's/join(&view->knows, &view->loaded);/(void)0;/'
-mistake 'a fence does not know earlier fences' model.c '/^void tmwatch_orders_fence/,/^}/s/join(&view->knows, &o->fences);//'
-mistake 'a fence is not counted' model.c 's/view->knows.at\[SEQUENCE\] = ++o->sequence;/++o->sequence;/'
-mistake 'later accesses do not know a fence' model.c 's/o->fences = view->knows;//'
 mistake 'a fence does not release' model.c 's/view->fenced = view->knows;/(void)0;/'
 mistake 'a relaxed store does not release what a fence did' model.c 's/? view->knows : view->fenced/? view->knows : (struct clock){{0}}/'
 mistake 'a relaxed store releases what came after the fence' model.c 's/? view->knows : view->fenced/? view->knows : view->knows/'
@@ -115,6 +160,65 @@ mistake 'a plain load races with an atomic one' races.c 's/(is_made || is_store(
 mistake 'a plain access races with no atomic one' races.c 's/it->at < end \&\&/it->at > end \&\&/'
 mistake 'a race across words is not seen' races.c 's/i < MOST_WORDS \&\&/i < 1 \&\&/'
 mistake 'what is freed races' races.c '/^static void forget_cells/,/^}/s/        if (it)/        if (false)/'
+mistake 'a thread may get stale values for ever' model.c 's/ || it->stale\[a->thread\] >= MOST_STALE//'
+mistake 'a large block that is given back is kept' model.c '/^static void forget_places/,/^}/s/o->places\[i\].bytes = 0;/(void)0;/'
+mistake 'a large block that is given back ends what lies beside' model.c '/^static void forget_places/,/^}/s/o->places\[i\].at < end \&\&/true \&\&/'
+mistake 'a store of several words ends the first history alone' model.c '/^static void forget_places/,/^}/s/word < end;/word == at;/'
+mistake 'a small block that is given back ends the next history too' model.c '/^static void forget_places/,/^}/s/word < end;/word <= end;/;s/drop_places(o, word, end - word/drop_places(o, word, WORD_BYTES/'
+mistake 'of a large block plain accesses are kept' races.c '/^static void forget_cells/,/^}/s/i < CELLS; i++/i < 1; i++/'
+mistake 'a swap that fails races with nothing' model.c '/^enum tmwatch_compared/,/^}/s/look_for_race(a, a->bytes, ATOMIC_LOAD);//'
+mistake 'an unlock releases what was known a step before' model.c '/^void tmwatch_orders_unlocks/,/^}/s/&next_step(o, thread)->knows/\&o->views[thread].knows/'
+mistake 'an end makes known what was known a step before' model.c '/^void tmwatch_orders_ends/,/^}/s/&next_step(o, thread)->knows/\&o->views[thread].knows/'
+mistake 'operations that are no longer told apart come before nothing' sequence.c 's/        join_past(&o->past, &all\[0\].past);//'
+mistake 'a history that has ended comes before nothing' sequence.c '/^static void end_history/,/^}/s/add_past(.*/(void)o;/'
+mistake 'an object that is no more comes before all that follow' simulation.c '/^static struct place \*drop_places/,/^}/s/        if (released)/        if (true)/'
+mistake 'a byte has the value of the next' simulation.c 's/__atomic_load_n((const volatile uint8_t \*)at/__atomic_load_n((const volatile uint8_t *)at + 1/'
+mistake 'each size is a history of the whole word' simulation.c 's/ || (it->bytes > 0 \&\& (it->at >= at + bytes || at >= it->at + it->bytes))//'
+mistake 'the first store that was met is named' findings.c 's/step > met->step)/met->step == 0)/'
+mistake 'a store that was met before is named' findings.c 's/met->step > next->seen.at\[next->thread\]/met->step > 0/'
+mistake 'what came after the violation is told' findings.c 's/it->event < from || it->event >= to/it->event < from/'
+mistake 'what came before the round is told' findings.c 's/it->event < from || it->event >= to/it->event >= to/'
+mistake 'what came after the violation is counted' findings.c 's/other->event < from || other->event >= to || /other->event < from || /'
+mistake 'the same is told again' findings.c 's/        if (found != i)/        if (false)/'
+mistake 'a store too few is missed' findings.c 's/(unsigned)it->newer - 1)/(unsigned)it->newer)/'
+mistake 'a late store is a stale load' findings.c 's/it->kind == STALE_LOAD ? "  stale/true ? "  stale/'
+mistake 'what is not simulated is told of a right run' findings.c 's/!is_wrong || o->unseen\[i\] == 0/o->unseen[i] == 0/'
+mistake 'the last race is told' races.c 's/if (!a->orders->has_race)$/if (true)/;s/ \&\& !a->orders->has_race; i++/; i++/'
+mistake 'an address is one call later' lines.c 's/(uintptr_t)address - 1/(uintptr_t)address/'
+mistake 'the line is the function' lines.c 's/folder ? folder + 1 : line, function/folder ? folder + 1 : line, line/'
+noticing=(delayed)
+mistake 'a load that acquires is delayed' delayed.c 's/ \&\& a->order == RELAXED//'
+mistake 'a seq_cst load is delayed' delayed.c 's/a->order == RELAXED/a->order != __ATOMIC_ACQUIRE/'
+mistake 'a load that no read answers is delayed' delayed.c 's/ \&\& load->answers//'
+mistake 'a load of the same value is delayed' delayed.c 's/ \&\& load->value != value//'
+mistake 'a load is delayed past no store' delayed.c 's/ \&\& o->met\[a->thread\]\[load->thread\].step > load->step//'
+mistake 'a load is delayed past a store before it' delayed.c 's/\.step > load->step/.step > 0/'
+mistake 'a load of another place is delayed' delayed.c 's/load->place != it->number || //'
+mistake 'a load is delayed past what knows it' delayed.c 's/load->is_closed = is_known(.*);/load->is_closed = false;/'
+mistake 'a load is delayed past a later one' delayed.c 's/if (load->place != it->number || load->is_closed)/if (load->place != it->number)/'
+mistake 'a load returns a seq_cst store' model.c 's/ \&\& a->order != SEQUENTIAL);/);/'
+mistake 'a load returns a late store' model.c 's/store == &it->stores\[it->count - 1\] \&\& //'
+mistake 'a load is delayed past an acquire fence' delayed.c 's/is_closed |= acquires(a->order) \&\&/is_closed |= a->order == SEQUENTIAL \&\&/'
+mistake 'a load is delayed past a seq_cst fence' delayed.c 's/is_closed |= acquires(a->order) \&\&/is_closed |= a->order != SEQUENTIAL \&\& acquires(a->order) \&\&/'
+mistake 'a load is not delayed past a release fence' delayed.c 's/is_closed |= acquires(a->order) \&\&/is_closed |=/'
+mistake 'a load is not delayed past a fence of another thread' delayed.c 's/acquires(a->order) \&\& is_known(.*)/acquires(a->order)/'
+mistake 'a fence closes what its thread knew before' model.c '/^void tmwatch_orders_fence/,/^}/{s/^    follow_fence(a);//;s/^    if (acquires(a->order))/    follow_fence(a);\n&/}'
+mistake 'a load is delayed past another attempt' model.c 's/    follow_fence(&(tmwatch_access).*//'
+mistake 'a load is not delayed past an attempt after its own' model.c '/^void tmwatch_orders_begins/,/^}/{/follow_fence/d;s/^}/    follow_fence(\&(tmwatch_access){.orders = o, .thread = thread, .order = __ATOMIC_ACQUIRE});\n}/}'
+mistake 'an answer is of any thread' delayed.c 's/o->loads\[i - 1\].thread != thread || //'
+mistake 'an answer is of the first load' delayed.c 's/unsigned i = o->loads_used;/unsigned i = o->loads_used > 0;/'
+mistake 'a second run differs by a value' delayed.c 's/(\*all ^ value)/(*all ^ 0)/'
+mistake 'a second run differs by a place' delayed.c 's/(uint64_t)place << 32 | //'
+mistake 'a second run differs by an order' delayed.c 's/(unsigned)a->order << 8 | //'
+mistake 'a second run differs by a thread' delayed.c 's/ << 8 | a->thread/ << 8/'
+mistake 'a second run differs by a fence' delayed.c 's/    follow(a, 0, 0);//'
+mistake 'a second run delays another load' delayed.c 's/ \&\& index == made->index//'
+mistake 'a second run delays a load of another round' delayed.c 's/o->round == made->round \&\& //'
+mistake 'a second run finds' delayed.c 's/if (to->made || /if (/'
+mistake 'the same lines are kept again and again' delayed.c 's/alike == MOST_ALIKE || //'
+mistake 'more is kept than there is room for' delayed.c 's/ || to->count == TMWATCH_MOST_DELAYS//'
+mistake 'all rounds are followed' model.c 's/if (o->round > FOLLOWED_ROUNDS)/if (false)/'
+mistake 'an object that is no more is the same place' simulation.c 's/it->number = ++o->histories/it->number = 1 + (uint32_t)(it - o->places)/'
 
 # Memories by --orders c++, over the bench of this folder. Each is compiled with marks: its program's name, its file, and further words.
 use_library
@@ -132,10 +236,37 @@ for name in tl2:5 norec:7 sequence:2 undo:2 versions:1 readers:3 two_phase:2 roo
     marked right "memories/$memory"
     ends "$memory" 0 "$folder/right" --schedule steps --orders c++ --rounds 1000
     has_told "$memory: rescues" '"rescues":0,'
+    ends "$memory: no delayed load" 1 grep delayed "$folder/told"
     marked wrong "memories/$memory" "-DWRONG=${name#*:}"
     ends "$memory, too weak" 1 "$folder/wrong" --schedule steps --orders c++
     ends "$memory, too weak, by sequential steps" 0 "$folder/wrong" --schedule steps --orders sequential --rounds 500
 done
+
+# Of a violation in a late round no more is told than that round has steps.
+tells_its_round() {
+    "$folder/wrong" --schedule steps --orders c++ --trace "$folder/one" >"$folder/printed" 2>"$folder/said" || [ $? -eq 1 ]
+    grep -q '"rounds":[1-9][0-9][0-9]' "$folder/printed"
+    awk -v steps="$(wc -l <"$folder/one.steps")" '/^  (stale load|late store): / { told++ }
+        match($0, /\(and [0-9]+ like this\)$/) { told += substr($0, RSTART + 5) } END { exit !(told > 0 && told <= steps) }' "$folder/said"
+}
+marked wrong memories/owners -DWRONG=5
+ends 'a late round: what is told of it' 0 tells_its_round
+
+# Default orders on the lock or the sequence order nothing that is relaxed: found by ten seeds of ten.
+ten_seeds() {
+    local seed status
+    for seed in {1..10}; do
+        status=0
+        "$folder/wrong" --schedule steps --orders c++ --rounds 20000 --seed "$seed" || status=$?
+        [ "$status" -eq 1 ] || return 2
+    done
+}
+for memory in sequence tl2 undo; do
+    marked wrong "memories/$memory" -DDEFAULTS
+    ends "$memory, default orders and relaxed data" 0 ten_seeds
+done
+marked right memories/sequence -DDEFAULTS -DLOADS
+ends 'sequence, default orders alone' 0 "$folder/right" --schedule steps --orders c++ --rounds 1000
 
 # The memories of this project.
 for path in examples/c/norec examples/c/sequence tests/c/bench_tl2 tests/c/bench_versions tests/c/bench_undo tests/c/bench_locks \
@@ -163,7 +294,7 @@ for processors in 0 "0-$(($(nproc) - 1))"; do
     ends "a weak order, again on $processors: the same trace" 0 cmp "$folder/one" "$folder/two"
 done
 line_of() {
-    grep -n -m 1 "$1" "$top/tests/orders/memories/sequence.c" | cut -d : -f 1
+    grep -n -m 1 "$1" "$top/tests/orders/memories/${2:-sequence}.c" | cut -d : -f 1
 }
 mkdir -p "$folder/none"
 if has addr2line 'lines of the source'; then
@@ -179,6 +310,37 @@ that thread stored later, at sequence.c:$(line_of 'it->written.reg., DATA_STORE'
 fi
 ends 'a weak order, without addr2line' 1 env "PATH=$folder/none" "$folder/wrong" "${words[@]}"
 has_told 'a weak order, without addr2line: the address' -E '^  stale load: thread [0-3] at 0x[0-9a-f]+ does not see the store of thread [0-3]'
+
+# A load that is delayed past later stores is a remark on an opaque run, with a trace that is violated: the memory, what it lacks, and the
+# lines and functions of the load and the store, of the load after that store, and of the store between.
+ends 'a replay compiles' 0 "${strict[@]}" -o "$folder/replay" "$top/tests/c/bench_replay.c" "${link[@]}"
+ends 'what is made of a delayed load compiles' 0 "${strict[@]}" -o "$folder/moved" "$top/tests/orders/moved.c" "${link[@]}"
+ends 'what is made of a delayed load' 0 "$folder/moved"
+place_of() {
+    echo "$memory\\.c:$(line_of "${1%@*}" "$memory") \\(${1#*@}\\)"
+}
+while read -r memory wrong load store met_load met_store; do
+    marked delayed "memories/$memory" "-DWRONG=$wrong"
+    ends "$memory $wrong" 0 "$folder/delayed" --schedule steps --orders c++ --rounds 1000 --trace "$folder/one"
+    has_told "$memory $wrong: a delayed load" -E '^C\+\+20 allows a violation if a load is delayed past later stores: thread'
+    if has addr2line 'lines of the source'; then
+        ends "$memory $wrong: its lines" 0 grep -qE "^\{\"delayed\":\"thread [0-3] loads at $(place_of "$load"), thread [0-3] stores at \
+$(place_of "$store"), though it has read, at $(place_of "$met_load"), what that thread stored later, at $(place_of "$met_store")\",\"foreign\":" \
+            "$folder/told"
+    fi
+    ends "$memory $wrong: its trace is violated" 1 "$folder/replay" <"$folder/one.delayed"
+done <<'END'
+readers 4 LOAD(words.reg..value@read STORE(words.reg..value,.value@write flags.i.,@has_readers LOWERED(it@commit
+readers 6 LOAD(words.reg..value@read STORE(words.reg..value,.value@write flags.i.,@has_readers LOWERED(it@commit
+hazards 3 LOAD(it->root->words.reg@read STORE(mine->spare@commit LOAD(threads.i..hazard@is_read NULL,.ORDER(3@cancel
+hazards 6 LOAD(it->root->words.reg@read STORE(mine->spare@commit LOAD(threads.i..hazard@is_read NULL,.ORDER(3@cancel
+sides 7 LOAD(words.it->side@read STORE(words.to@change LOAD(is_read.of@wait_for_readers false,.ORDER(7@cancel
+sides 8 LOAD(words.it->side@read STORE(words.to@change LOAD(is_read.of@wait_for_readers false,.ORDER(7@cancel
+END
+marked right memories/readers -DWRONG=6 -DDEPENDS
+ends 'a later store that depends on the load' 0 "$folder/right" --schedule steps --orders c++ --rounds 1000
+cp "$folder/output" "$folder/told"
+ends 'a later store that depends on the load: no delayed load' 1 grep delayed "$folder/told"
 
 # Plain data races where the lock that guards it is too weak; a right one does not.
 marked right memories/global -DLOCK=MCS -DPLAIN
@@ -211,15 +373,15 @@ has_told 'a lost hand-over: the order' -E '^  (stale load|late store): thread [0
 
 # What isn't marked is named, where it is met.
 marked unmarked unmarked -DKIND=STORES
-ends 'an unlock by inline assembly' 1 "$folder/unmarked" --schedule steps --orders c++
+ends 'an unlock by inline assembly' 2 "$folder/unmarked" --schedule steps --orders c++
 has_told 'an unlock by inline assembly: what is told' '^code that the compiler has not marked, or .* stores to what is loaded at .*may be false$'
 marked unmarked unmarked -DKIND=FUTEX
-ends 'a lock by inline assembly' 1 "$folder/unmarked" --schedule steps --orders c++
+ends 'a lock by inline assembly' 2 "$folder/unmarked" --schedule steps --orders c++
 has_told 'a lock by inline assembly: what is told' '^a lock or a wait of code that the compiler has not marked, in .*may be false$'
 link=("${link[@]:1}")
 marked unseen memories/global -DLOCK=MUTEX
-ends 'a mutex that is not wrapped' 1 "$folder/unseen" --schedule steps --orders c++
-has_told 'a mutex that is not wrapped: what is told' 'without --wrap='
+ends 'a mutex that is not wrapped' 4 "$folder/unseen" --schedule steps --orders c++
+has_told 'a mutex that is not wrapped: what is told' "^--orders: the program takes locks that the linker hasn't wrapped"
 
 # What orders transactions, and what shows locks, is needed: without it right memories come out violated.
 planted() {
@@ -243,6 +405,6 @@ link=("$waits" "$blocks" "$folder/lib/libtmwatch_steps.a" "$folder/lib/libtmwatc
 marked two two_benches
 ends 'two benches at once' 0 "$folder/two"
 ends 'orders by rounds' 4 "$folder/wrong" --schedule rounds --orders c++
-has_told 'orders by rounds: why' '^--orders c++: by steps alone$'
+has_told 'orders by rounds: why' '^--orders: by steps alone$'
 ends 'other orders' 4 "$folder/wrong" --orders arm
 end_rows

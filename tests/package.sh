@@ -41,7 +41,7 @@ tar --utc --full-time -tvzf "$folder/early/$name.tar.gz" >"$folder/listed"
 tells 'that time alone' '2001-09-09 01:46:40 root/root' 0 awk '!seen[$4 $5 $2]++ { print $4, $5, $2 }' "$folder/listed"
 ends 'a folder that was not built' 1 env BUILT="$folder/none" "$top/package" "$folder/none"
 ends 'no folder' 2 "$top/package"
-mkdir -p "$folder/other/bin" && cp -R "$built/lib" "$built/include" "$folder/other"
+mkdir -p "$folder/other/bin" && cp -R "$built/lib" "$built/include" "$folder/other" && cp "$built/bin/tmwatch-bench" "$folder/other/bin"
 printf '%s\n' '#!/bin/sh' 'echo tmwatch 0.0.9, by opacity' >"$folder/other/bin/tmwatch" && chmod +x "$folder/other/bin/tmwatch"
 ends 'a program of another version' 1 env BUILT="$folder/other" "$top/package" "$folder/none"
 has_told 'a program of another version: what is told' "is not of version $version: tmwatch 0.0.9, by opacity"
@@ -112,6 +112,13 @@ tells show '{"at":6,"events":6,"verdict":"violated"}
         6                    V 0    violated, by opacity' 1 "$installed" show <"$examples/stale_read.trace"
 tells 'judge, by tar' '{"at":4,"events":8,"verdict":"violated"}' 1 "$prefix/bin/tmwatch" judge <"$examples/dirty_read.trace"
 
+# The bench by lines.
+ends 'the bench by lines that was built' 0 cmp "$built/bin/tmwatch-bench" "$root/usr/bin/tmwatch-bench"
+if has python3 'the bench by lines'; then
+    ends 'the bench by lines' 0 "$root/usr/bin/tmwatch-bench" --one --schedule steps --rounds 50 -- python3 "$examples/python/memory.py"
+    ends 'the bench by lines, a wrong memory' 1 "$prefix/bin/tmwatch-bench" --one -- python3 "$examples/python/memory.py" reads
+fi
+
 # The library: its names and links, and programs in C that are linked against it.
 soname=$(readlink "$library/libtmwatch.so")
 tells 'the links' "$soname"$'\n'"libtmwatch.so.$version" 0 readlink "$library/libtmwatch.so" "$library/$soname"
@@ -148,21 +155,23 @@ if has pkg-config 'programs in C'; then
         read -r -a bench < <("$at" --libs tmwatch_bench)
         folder_of=$library
         [ "$at" = in_root ] || folder_of=$("$at" --variable=libdir tmwatch)
-        compile "an audited bank, $at, shared" audit.c 1 "${cflags[@]}" "${libs[@]}"
-        ends "an audited bank, $at, shared" 0 env LD_LIBRARY_PATH="$folder_of" "$folder/program" "$rounds"
-        ends "a broken audited bank, $at, shared" 1 env LD_LIBRARY_PATH="$folder_of" "$folder/program" "$rounds" broken
+        # (the system's loader knows no folder but its own: in a prefix pkg-config names the archive)
+        shared=$([ "$at" = in_root ] && echo 1 || echo 0)
+        compile "an audited bank, $at, by pkg-config" audit.c "$shared" "${cflags[@]}" "${libs[@]}"
+        ends "an audited bank, $at, by pkg-config" 0 env LD_LIBRARY_PATH="$folder_of" "$folder/program" "$rounds"
+        ends "a broken audited bank, $at, by pkg-config" 1 env LD_LIBRARY_PATH="$folder_of" "$folder/program" "$rounds" broken
         compile "an audited bank, $at, static" audit.c 0 "${cflags[@]}" "$folder_of/libtmwatch.a"
         ends "an audited bank, $at, static" 0 "$folder/program" "$rounds"
         ends "a broken audited bank, $at, static" 1 "$folder/program" "$rounds" broken
-        compile "a memory on the bench, $at, shared" norec.c 1 "${cflags[@]}" "${bench[@]}"
-        ends "a memory on the bench, $at, shared" 0 env LD_LIBRARY_PATH="$folder_of" "$folder/program" --rounds "$rounds"
+        compile "a memory on the bench, $at, by pkg-config" norec.c "$shared" "${cflags[@]}" "${bench[@]}"
+        ends "a memory on the bench, $at, by pkg-config" 0 env LD_LIBRARY_PATH="$folder_of" "$folder/program" --rounds "$rounds"
         compile "a memory on the bench, $at, static" norec.c 0 "${cflags[@]}" "$folder_of/libtmwatch_bench.a" "$folder_of/libtmwatch.a"
         ends "a memory on the bench, $at, static" 0 "$folder/program" --rounds "$rounds"
     done
 fi
 
 # The man pages: no warning, and the words of the program and the library.
-for page in man1/tmwatch.1 man3/libtmwatch.3; do
+for page in man1/tmwatch.1 man1/tmwatch-bench.1 man3/libtmwatch.3; do
     gunzip -c "$root/usr/share/man/$page.gz" >"$folder/${page#*/}"
     if has man "man -l ${page#*/}"; then
         tells "man -l ${page#*/} warns of nothing" '' 0 sh -c 'LC_ALL=C.UTF-8 man --warnings -E UTF-8 -l -Tutf8 -Z "$1" 2>&1 >/dev/null' \
@@ -207,6 +216,11 @@ while read -r path; do
     ends "$path is there" 0 test -e "$root$path"
 done < <(grep -ho '/usr/[A-Za-z0-9_./-]*' "$folder"/*tmwatch.[13] | sort -u)
 ends 'the exit status in tmwatch.1' 0 diff <(helped '' 'Exit status' | sed '/^[0-9] /!d') <(entries "$page" '.SH EXIT STATUS')
+
+# The options of the bench by lines: each with its text.
+"$root/usr/bin/tmwatch-bench" --help | sed -n 's/^  --/--/p' | tr -s ' ' >"$folder/benched"
+ends 'the options of tmwatch-bench.1' 0 diff "$folder/benched" <(entries "$folder/tmwatch-bench.1" '.SH OPTIONS' | sed 's/ ,/,/')
+ends 'some options of tmwatch-bench' 0 test "$(wc -l <"$folder/benched")" -ge 30
 
 page=$folder/libtmwatch.3
 # The prototypes of the page, which have to be those of the headers, and are all that the libraries have.
@@ -303,9 +317,31 @@ for shell in zsh fish; do
     fi
 done
 
+# The bench by lines: what each shell offers is what its help lists.
+benched() {
+    PATH="$root/usr/bin:$PATH" bash --norc -c '. "$0" && COMP_WORDS=("$@") && COMP_CWORD=$(($# - 1)) &&
+        _tmwatch_bench "$1" "${COMP_WORDS[COMP_CWORD]}" "${COMP_WORDS[COMP_CWORD - 1]}" && echo "${COMPREPLY[@]}"' \
+        "$root/usr/share/bash-completion/completions/tmwatch-bench" tmwatch-bench "$@" | in_line
+}
+listed=$(grep -oE -- '^--[a-z-]+|--version' "$folder/benched" | in_line)
+tells 'bash: options of tmwatch-bench' "$(in_line <<<"-- $listed")" 0 benched --
+tells 'bash: schedules' 'all permits rounds steps' 0 benched --schedule ''
+tells 'bash: a command for tmwatch-bench' '' 0 benched --setup ''
+tells 'bash: a program' '' 0 benched --one -- --
+if has zsh 'completion of tmwatch-bench by zsh'; then
+    by_zsh_benched() {
+        PATH="$root/usr/bin:$PATH" by_zsh tmwatch-bench --
+    }
+    tells 'zsh: options of tmwatch-bench' "$listed" 0 by_zsh_benched
+fi
+if has fish 'completion of tmwatch-bench by fish'; then
+    tells 'fish: options of tmwatch-bench' "$listed" 0 env "PATH=$root/usr/bin:$PATH" sh -c 'fish --no-config -c '\''source $argv[1]
+        complete -C "tmwatch-bench --"'\'' "$1" | cut -f1 | sort | xargs' sh "$root/usr/share/fish/vendor_completions.d/tmwatch-bench.fish"
+fi
+
 # What lintian finds, and what is left when the package goes.
 if has lintian lintian; then
-    ends lintian 0 env LC_ALL=C.UTF-8 lintian --fail-on warning "$folder"/once/*.deb
+    ends lintian 0 env LC_ALL=C.UTF-8 lintian --fail-on error,warning "$folder"/once/*.deb
     grep '^[A-Z]:' "$folder/output" || true
 fi
 if [ -e "$root/var" ]; then

@@ -6,8 +6,9 @@
 #
 # The constants of the program have to be the files of crates/tmw_show/page; `write` writes them anew from these. Then tests/page.py opens
 # the page of each trace in a headless Chromium, and compares what it draws with the trace. Without a browser that is skipped, and a line
-# says so. Each row that fails is printed. The last line is 'N passed, M failed'. The exit status is 1 if a row failed.
-# Environment: BROWSER (chromium).
+# says so. The part of a window of 490 events has to be seen whole, at 1280 pixels at once and at 400 after a click, light and dark.
+# Each row that fails is printed. The last line is 'N passed, M failed'. The exit status is 1 if a row failed.
+# Environment: BROWSER (chromium); PICTURES, a folder that gets the screenshots of that window.
 set -eu
 # shellcheck source=tests/common.sh
 . "$(dirname "${BASH_SOURCE[0]}")/common.sh"
@@ -46,11 +47,29 @@ printf '%s\n' 'opacity-trace 1 1' '1 R 0' '0 W 0 1' '0 C' >"$folder/commit.trace
     yes $'1 R 0\n1 V 0' | head -n 500
     printf '%s\n' '1 T' '1 C' '0 R 0' '0 V 9'
 } >"$folder/pending.trace"
+# A window of 490 events. Of a cycle of three transactions each call and each answer stands alone.
+{
+    echo 'opacity-trace 1 4'
+    for event in '0 R 0' '0 V 0' '1 R 1' '1 V 0' '2 R 2' '2 V 0' '0 W 1 1' '0 K' '1 W 2 1' '1 K' '2 W 0 1' '2 K' '0 T' '0 C' '1 T' '1 C'; do
+        yes $'3 R 3\n3 V 0' | head -n 28
+        echo "$event"
+    done
+    printf '%s\n' "$(yes $'4 R 3\n4 V 0' | head -n 24)" '2 T' '2 C'
+} >"$folder/wide.trace"
+pictures=${PICTURES:-$folder/pictures}
+mkdir -p "$pictures"
 traces=("$top"/examples/*.trace "$folder"/*.trace)
-python3 "$top/tests/page.py" "$program" "$browser" "${traces[@]}" "${traces[@]/%/ --criterion strict}" "${traces[@]/%/ --why}" \
-    "$top/examples/two_writers.trace --states 1" "$top/examples/left_open.trace --window 2" \
-    "$top/examples/ghc_stm.trace --why --from 1000000000000000" >"$folder/pages" || true
-sed '$d' "$folder/pages"
-read -r well _ badly _ <<<"$(tail -n 1 "$folder/pages")"
-passed=$((passed + well)) failed=$((failed + badly))
+
+# Adds what tests/page.py counts of these words to the rows.
+compare_pages() {
+    python3 "$top/tests/page.py" "$program" "$browser" "$@" >"$folder/pages" || true
+    sed '$d' "$folder/pages"
+    read -r well _ badly _ <<<"$(tail -n 1 "$folder/pages")"
+    passed=$((passed + well)) failed=$((failed + badly))
+}
+
+compare_pages "${traces[@]}" "${traces[@]/%/ --criterion strict}" "${traces[@]/%/ --why}" "${traces[@]/%/ --why #all}" \
+    "$top/examples/two_writers.trace --states 1" "$top/examples/left_open.trace --window 2" "$folder/wide.trace --why #30" \
+    "$top/examples/ghc_stm.trace --why --from 1000000000000000"
+compare_pages --sizes "$pictures" "$folder/wide.trace --why"
 end_rows

@@ -15,8 +15,8 @@ enum { BUFFERED = 8, SEQUENTIAL = __ATOMIC_SEQ_CST };
 
 /* What is stored and not out yet, and the store of its size. */
 struct stored {
-    void (*put)(void *to, uint64_t value);
-    void *to;
+    void (*put)(uintptr_t to, uint64_t value);
+    uintptr_t to;
     uint64_t value;
     unsigned bytes;
 };
@@ -73,82 +73,58 @@ static bool is_buffered(const volatile void *at, int order)
     return is_lasting(at);
 }
 
-static void store_later(struct stored it)
-{
-    if (buffered == BUFFERED)
-        drain_one();
-    buffer[buffered++] = it;
-}
-
 /* Whether the thread's newest store to these bytes is not out, and then its value. If another one overlaps them, all comes out. */
 static bool is_forwarded(const volatile void *at, unsigned bytes, uint64_t *value)
 {
     uintptr_t from = (uintptr_t)at;
-    for (unsigned i = buffered; i > 0; i--) {
-        const struct stored *it = &buffer[i - 1];
-        uintptr_t to = (uintptr_t)it->to;
-        if (to + it->bytes <= from || from + bytes <= to)
-            continue;
-        if (to == from && it->bytes == bytes) {
-            *value = it->value;
-            return true;
-        }
+    unsigned i = buffered;
+    while (i > 0 && (buffer[i - 1].to + buffer[i - 1].bytes <= from || from + bytes <= buffer[i - 1].to))
+        i--;
+    bool is_same = i > 0 && buffer[i - 1].to == from && buffer[i - 1].bytes == bytes;
+    if (is_same)
+        *value = buffer[i - 1].value;
+    else if (i > 0)
         tmwatch_step_drain();
-        return false;
-    }
-    return false;
+    return is_same;
 }
 
-/* Whether an access is simulated, which is made there in the program. */
-TMWATCH_PART bool is_simulated(tmwatch_access *to, const volatile void *at, unsigned bytes, int order)
+/* An access that is made there in the program: its orders are null if it isn't simulated. */
+TMWATCH_PART tmwatch_access access_to(const volatile void *at, unsigned bytes, int order)
 {
-    tmwatch_simulation *orders = tmwatch_step_orders();
-    if (orders)
-        *to = (tmwatch_access){orders, tmwatch_thread(), TMWATCH_CALLER, at, bytes, order};
-    return orders;
+    return (tmwatch_access){tmwatch_step_orders(), tmwatch_thread(), TMWATCH_CALLER, at, bytes, order};
 }
 
-/* Before a plain load of so many bytes. Where nothing shows when a block is given back, no race is looked for in it. */
-TMWATCH_PART void before_load(const void *at, size_t bytes, bool is_volatile)
+/* Before a plain access of so many bytes; what is stored isn't known. Where nothing shows when a block is given back, no race is looked for in
+   it. */
+TMWATCH_PART void before_plain(const void *at, size_t bytes, bool is_volatile, bool stores)
 {
     uint64_t value;
-    tmwatch_access access;
     const tmwatch_step_how *how = tmwatch_step_accesses();
-    if (!how || (!is_volatile && is_own(how, at)))
+    bool is_seen = how && (is_volatile || !is_own(how, at));
+    if (!how || (!is_seen && !stores))
         return;
-    if (is_volatile || how->has_plain)
+    if (is_seen && (is_volatile || how->has_plain))
         at_step();
-    if (is_simulated(&access, at, 0, 0) && is_lasting(at))
+    tmwatch_access access = access_to(at, 0, 0);
+    if (access.orders && stores)
+        tmwatch_orders_plain_store(&access, bytes, !is_seen || !is_lasting(at));
+    else if (access.orders && is_lasting(at))
         tmwatch_orders_plain_load(&access, bytes);
-    if (is_forwarded(at, (unsigned)bytes, &value))
+    if (is_seen && (stores || is_forwarded(at, (unsigned)bytes, &value)))
         tmwatch_step_drain();
 }
 
-/* Before a plain store, whose value isn't known. */
-TMWATCH_PART void before_store(const void *at, size_t bytes, bool is_volatile)
-{
-    tmwatch_access access;
-    const tmwatch_step_how *how = tmwatch_step_accesses();
-    bool is_stepped = how && (is_volatile || !is_own(how, at));
-    if (is_stepped && (is_volatile || how->has_plain))
-        at_step();
-    if (is_simulated(&access, at, 0, 0))
-        tmwatch_orders_plain_store(&access, bytes, !is_stepped || !is_lasting(at));
-    if (is_stepped)
-        tmwatch_step_drain();
-}
+void __tsan_init(void) {}
+void __tsan_func_entry(void *caller UNUSED) {}
+void __tsan_func_exit(void) {}
+void __tsan_vptr_update(void **at UNUSED, void *to UNUSED) {}
+void __tsan_vptr_read(void **at UNUSED) {}
+void __tsan_atomic_signal_fence(int order UNUSED) {}
 
-MARK(void, __tsan_init, void) {}
-MARK(void, __tsan_func_entry, void *caller UNUSED) {}
-MARK(void, __tsan_func_exit, void) {}
-MARK(void, __tsan_vptr_update, void **at UNUSED, void *to UNUSED) {}
-MARK(void, __tsan_vptr_read, void **at UNUSED) {}
-MARK(void, __tsan_atomic_signal_fence, int order UNUSED) {}
-
-#define PLAIN(infix, bytes, is_volatile)                                                               \
-    MARK(void, __tsan_##infix##read##bytes, const void *at) { before_load(at, bytes, is_volatile); }   \
-    MARK(void, __tsan_##infix##write##bytes, const void *at) { before_store(at, bytes, is_volatile); } \
-    MARK(void, __tsan_##infix##read_write##bytes, const void *at) { before_store(at, bytes, is_volatile); }
+#define PLAIN(infix, bytes, is_volatile)                                                              \
+    void __tsan_##infix##read##bytes(const void *at) { before_plain(at, bytes, is_volatile, false); } \
+    void __tsan_##infix##write##bytes(const void *at) { before_plain(at, bytes, is_volatile, true); } \
+    void __tsan_##infix##read_write##bytes(const void *at) { before_plain(at, bytes, is_volatile, true); }
 #define PLAINS(bytes)               \
     PLAIN(, bytes, false)           \
     PLAIN(unaligned_, bytes, false) \
@@ -159,101 +135,95 @@ PLAINS(2)
 PLAINS(4)
 PLAINS(8)
 PLAINS(16)
-MARK(void, __tsan_read_range, const void *at, unsigned long bytes) { before_load(at, bytes, false); }
-MARK(void, __tsan_write_range, const void *at, unsigned long bytes) { before_store(at, bytes, false); }
+void __tsan_read_range(const void *at, unsigned long bytes) { before_plain(at, bytes, false, false); }
+void __tsan_write_range(const void *at, unsigned long bytes) { before_plain(at, bytes, false, true); }
 
-#define COPY(name)                                                        \
-    MARK(void *, __tsan_##name, void *to, const void *from, size_t bytes) \
-    {                                                                     \
-        before_load(from, bytes, false);                                  \
-        before_store(to, bytes, false);                                   \
-        return name(to, from, bytes);                                     \
+#define COPY(name)                                                \
+    void *__tsan_##name(void *to, const void *from, size_t bytes) \
+    {                                                             \
+        before_plain(from, bytes, false, false);                  \
+        before_plain(to, bytes, false, true);                     \
+        return name(to, from, bytes);                             \
     }
 COPY(memcpy)
 COPY(memmove)
 
-MARK(void *, __tsan_memset, void *to, int byte, size_t bytes)
+void *__tsan_memset(void *to, int byte, size_t bytes)
 {
-    before_store(to, bytes, false);
+    before_plain(to, bytes, false, true);
     return memset(to, byte, bytes);
 }
 
-/* A step, and all that was stored comes out: before a read-modify-write. */
-TMWATCH_PART void at_change(void)
-{
-    at_step();
-    tmwatch_step_drain();
-}
-
-/* What isn't simulated is sequentially consistent. What is, and changes an older store than the newest, leaves memory alone. */
-#define CHANGE(bits, type, name, op)                                                   \
-    MARK(type, __tsan_atomic##bits##_##name, volatile type *at, type value, int order) \
-    {                                                                                  \
-        tmwatch_access access;                                                         \
-        uint64_t held;                                                                 \
-        volatile type older, *to = at;                                                 \
-        at_change();                                                                   \
-        bool has_orders = is_simulated(&access, at, sizeof(type), order);              \
-        if (has_orders && !tmwatch_orders_take(&access, &held)) {                      \
-            older = (type)held;                                                        \
-            to = &older;                                                               \
-        }                                                                              \
-        type read = op(to, value, SEQUENTIAL);                                         \
-        if (has_orders)                                                                \
-            tmwatch_orders_change(&access, *to);                                       \
-        return read;                                                                   \
+/* What isn't simulated is sequentially consistent. What is, and changes an older store than the newest, leaves memory alone. All that was
+   stored comes out before. */
+#define CHANGE(bits, type, name, op)                                            \
+    type __tsan_atomic##bits##_##name(volatile type *at, type value, int order) \
+    {                                                                           \
+        uint64_t held;                                                          \
+        volatile type older, *to = at;                                          \
+        at_step();                                                              \
+        tmwatch_step_drain();                                                   \
+        tmwatch_access access = access_to(at, sizeof(type), order);             \
+        if (access.orders && !tmwatch_orders_take(&access, &held)) {            \
+            older = (type)held;                                                 \
+            to = &older;                                                        \
+        }                                                                       \
+        type read = op(to, value, SEQUENTIAL);                                  \
+        if (access.orders)                                                      \
+            tmwatch_orders_change(&access, *to);                                \
+        return read;                                                            \
     }
-#define COMPARES(bits, type)                                                                                                \
-    TMWATCH_PART bool compare_##bits(volatile type *at, type *held, type value, int order, int failed, bool is_weak)        \
-    {                                                                                                                       \
-        tmwatch_access access;                                                                                              \
-        uint64_t loaded = *held;                                                                                            \
-        enum tmwatch_compared how = TMWATCH_TAKES_NEWEST;                                                                   \
-        at_change();                                                                                                        \
-        bool has_orders = is_simulated(&access, at, sizeof(type), order);                                                   \
-        if (has_orders)                                                                                                     \
-            how = tmwatch_orders_compare(&access, &loaded, failed, is_weak);                                                \
-        bool is_done = how != TMWATCH_FAILS;                                                                                \
-        if (how == TMWATCH_TAKES_NEWEST)                                                                                    \
-            is_done = __atomic_compare_exchange_n(at, held, value, 0, SEQUENTIAL, SEQUENTIAL);                              \
-        else                                                                                                                \
-            *held = (type)loaded;                                                                                           \
-        if (has_orders && is_done)                                                                                          \
-            tmwatch_orders_change(&access, value);                                                                          \
-        return is_done;                                                                                                     \
-    }                                                                                                                       \
-    MARK(type, __tsan_atomic##bits##_compare_exchange_val, volatile type *at, type held, type value, int order, int failed) \
-    {                                                                                                                       \
-        compare_##bits(at, &held, value, order, failed, false);                                                             \
-        return held;                                                                                                        \
+#define COMPARES(bits, type)                                                                                                          \
+    TMWATCH_PART bool compare_##bits(volatile type *at, type *held, type value, int order, int failed, bool is_weak)                  \
+    {                                                                                                                                 \
+        uint64_t loaded = *held;                                                                                                      \
+        at_step();                                                                                                                    \
+        tmwatch_step_drain();                                                                                                         \
+        tmwatch_access access = access_to(at, sizeof(type), order);                                                                   \
+        enum tmwatch_compared how = access.orders ? tmwatch_orders_compare(&access, &loaded, failed, is_weak) : TMWATCH_TAKES_NEWEST; \
+        bool is_done = how != TMWATCH_FAILS;                                                                                          \
+        if (how == TMWATCH_TAKES_NEWEST)                                                                                              \
+            is_done = __atomic_compare_exchange_n(at, held, value, 0, SEQUENTIAL, SEQUENTIAL);                                        \
+        else                                                                                                                          \
+            *held = (type)loaded;                                                                                                     \
+        if (access.orders && is_done)                                                                                                 \
+            tmwatch_orders_change(&access, value);                                                                                    \
+        return is_done;                                                                                                               \
+    }                                                                                                                                 \
+    type __tsan_atomic##bits##_compare_exchange_val(volatile type *at, type held, type value, int order, int failed)                  \
+    {                                                                                                                                 \
+        compare_##bits(at, &held, value, order, failed, false);                                                                       \
+        return held;                                                                                                                  \
     }
-#define COMPARE(bits, type, name, is_weak)                                                                                     \
-    MARK(int, __tsan_atomic##bits##_compare_exchange_##name, volatile type *at, type *held, type value, int order, int failed) \
-    {                                                                                                                          \
-        return compare_##bits(at, held, value, order, failed, is_weak);                                                        \
+#define COMPARE(bits, type, name, is_weak)                                                                              \
+    int __tsan_atomic##bits##_compare_exchange_##name(volatile type *at, type *held, type value, int order, int failed) \
+    {                                                                                                                   \
+        return compare_##bits(at, held, value, order, failed, is_weak);                                                 \
     }
 #define ATOMICS(bits, type)                                                                            \
-    static void put_##bits(void *to, uint64_t value)                                                   \
+    static void put_##bits(uintptr_t to, uint64_t value)                                               \
     {                                                                                                  \
         __atomic_store_n((type *)to, (type)value, SEQUENTIAL);                                         \
     }                                                                                                  \
-    MARK(type, __tsan_atomic##bits##_load, const volatile type *at, int order)                         \
+    type __tsan_atomic##bits##_load(const volatile type *at, int order)                                \
     {                                                                                                  \
         uint64_t value;                                                                                \
-        tmwatch_access access;                                                                         \
         at_step();                                                                                     \
-        if (is_simulated(&access, at, sizeof(type), order))                                            \
+        tmwatch_access access = access_to(at, sizeof(type), order);                                    \
+        if (access.orders)                                                                             \
             return (type)tmwatch_orders_load(&access);                                                 \
         return is_forwarded(at, sizeof(type), &value) ? (type)value : __atomic_load_n(at, SEQUENTIAL); \
     }                                                                                                  \
-    MARK(void, __tsan_atomic##bits##_store, volatile type *at, type value, int order)                  \
+    void __tsan_atomic##bits##_store(volatile type *at, type value, int order)                         \
     {                                                                                                  \
-        tmwatch_access access;                                                                         \
         at_step();                                                                                     \
-        if (is_simulated(&access, at, sizeof(type), order) && !tmwatch_orders_store(&access, value))   \
+        tmwatch_access access = access_to(at, sizeof(type), order);                                    \
+        if (access.orders && !tmwatch_orders_store(&access, value))                                    \
             return;                                                                                    \
         if (is_buffered(at, order)) {                                                                  \
-            store_later((struct stored){put_##bits, (void *)(uintptr_t)at, value, sizeof(type)});      \
+            if (buffered == BUFFERED)                                                                  \
+                drain_one();                                                                           \
+            buffer[buffered++] = (struct stored){put_##bits, (uintptr_t)at, value, sizeof(type)};      \
             return;                                                                                    \
         }                                                                                              \
         tmwatch_step_drain();                                                                          \
@@ -275,11 +245,11 @@ ATOMICS(32, uint32_t)
 ATOMICS(64, uint64_t)
 
 /* All comes out at a sequentially consistent fence, and at no weaker one. */
-MARK(void, __tsan_atomic_thread_fence, int order)
+void __tsan_atomic_thread_fence(int order)
 {
-    tmwatch_access access;
     at_step();
-    if (is_simulated(&access, NULL, 0, order))
+    tmwatch_access access = access_to(NULL, 0, order);
+    if (access.orders)
         tmwatch_orders_fence(&access);
     if (order == SEQUENTIAL)
         tmwatch_step_drain();

@@ -3,7 +3,7 @@
 
 #ifdef __x86_64__
 __extension__ typedef unsigned __int128 wide;
-#define WIDE(type, name, ...) MARK(__attribute__((target("cx16"))) type, __tsan_atomic128_##name, __VA_ARGS__)
+#define WIDE(type, name, ...) __attribute__((target("cx16"))) type __tsan_atomic128_##name(__VA_ARGS__)
 
 TMWATCH_PART void at_wide(const volatile wide *at)
 {

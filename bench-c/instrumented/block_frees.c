@@ -26,8 +26,7 @@ static size_t size_of(void *block, void (*delete)(void *))
 
 #define GIVES(type, returns, name, given, size_given, ...) \
     __attribute__((weak)) type __real_##name(__VA_ARGS__); \
-    __attribute__((weak)) type __wrap_##name(__VA_ARGS__); \
-    type __wrap_##name(__VA_ARGS__)                        \
+    __attribute__((weak)) type __wrap_##name(__VA_ARGS__)  \
     {                                                      \
         tmwatch_step_gives_back(block, size_given);        \
         returns __real_##name given;                       \

@@ -6,12 +6,13 @@
    happen before. A release puts the thread's clock into the store, and an acquire joins that to the reader's.
 
    Modification order is the order in which stores are made, but that a store may be put before others which its thread doesn't know, as two
-   processors' stores to two places may come out in different orders. Sequential consistency has the order in which its operations are made.
-   A load returns nothing that is stored later. So each run here is one that C++20 allows, and not each of those comes. */
+   processors' stores to two places may come out in different orders. The order of sequentially consistent operations isn't chosen: nothing
+   is read or stored by which none would be left. A load returns nothing that is stored later (but for orders/delayed.c). So each run here is
+   one that C++20 allows, and all of those come but such. */
 #define _GNU_SOURCE
+#include "found.h"
 #include "orders.h"
 #include <fcntl.h>
-#include <link.h>
 #include <spawn.h>
 #include <stdlib.h>
 #include <string.h>
@@ -22,4 +23,6 @@
 #include "orders/lines.c"
 #include "orders/findings.c"
 #include "orders/races.c"
+#include "orders/sequence.c"
+#include "orders/delayed.c"
 #include "orders/model.c"

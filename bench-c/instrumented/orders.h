@@ -23,6 +23,24 @@ typedef struct tmwatch_access {
 /* What a compare-and-swap does: it fails; or it succeeds, and stores after the newest store or after an older one. */
 enum tmwatch_compared { TMWATCH_FAILS, TMWATCH_TAKES_OLDER, TMWATCH_TAKES_NEWEST };
 
+/* A load that may be delayed past later stores of its thread, and return what another thread stores: where both are, and which of those was
+   read where. In a second run this load of this round returns this value; and a hash says whether all accesses up to the store are the same. */
+typedef struct tmwatch_delay {
+    const void *load, *store, *met_stored, *met_loaded;
+    unsigned loader, storer;
+    uint32_t round, index;
+    uint64_t before, value, accesses; /* before: what it returns in the first run */
+} tmwatch_delay;
+
+/* What a first run has found; or which one a second run makes, and how many events then precede the load's answer, and the store; or 0. */
+enum { TMWATCH_MOST_DELAYS = 32 };
+typedef struct tmwatch_delays {
+    unsigned count;
+    tmwatch_delay found[TMWATCH_MOST_DELAYS];
+    const tmwatch_delay *made;
+    uint64_t answered, stored;
+} tmwatch_delays;
+
 /* A load, as drawn: what it returns. */
 uint64_t tmwatch_orders_load(const tmwatch_access *access);
 
@@ -50,15 +68,19 @@ void tmwatch_orders_wide(const tmwatch_access *access);
 /* For the bench and waits.c, which may be linked without it. A memory for a bench that draws from this seed, and whose record has *recorded
    events; or null. */
 #define WEAK __attribute__((weak))
-WEAK tmwatch_simulation *tmwatch_orders_new(uint64_t seed, const atomic_uint_least64_t *recorded);
+WEAK tmwatch_simulation *tmwatch_orders_new(uint64_t seed, const atomic_uint_least64_t *recorded, tmwatch_delays *delays);
 WEAK void tmwatch_orders_discard(tmwatch_simulation *orders);
 
-/* Between two rounds: all threads know all. */
+/* Between two rounds: all threads know all. And in this round no load is to be stale, and no store late. */
 WEAK void tmwatch_orders_round(tmwatch_simulation *orders);
+WEAK void tmwatch_orders_still(tmwatch_simulation *orders);
 
 /* An attempt's first call has been recorded, or its end: what has ended before it began happens before it. */
 WEAK void tmwatch_orders_begins(tmwatch_simulation *orders, unsigned thread);
 WEAK void tmwatch_orders_ends(tmwatch_simulation *orders, unsigned thread);
+
+/* A read is about to be answered by this value. */
+WEAK void tmwatch_orders_answers(tmwatch_simulation *orders, unsigned thread, uint64_t value);
 
 /* A lock has been taken, or is about to be given back: a shared one orders nothing among those that share it. */
 WEAK void tmwatch_orders_locked(tmwatch_simulation *orders, unsigned thread, const volatile void *lock, bool is_shared);
@@ -73,7 +95,11 @@ WEAK void tmwatch_orders_futex(tmwatch_simulation *orders, const volatile void *
 /* Tells where in the program loads did not return the newest value, from this length of the record to that, and what they missed. */
 WEAK void tmwatch_orders_tell(const tmwatch_simulation *orders, FILE *file, uint64_t from, uint64_t to);
 
-/* Tells the first race of plain accesses; and, of a run that is wrong, what was met that isn't simulated. */
-WEAK void tmwatch_orders_tell_unseen(const tmwatch_simulation *orders, FILE *file, bool is_wrong);
+/* Tells the first race of plain accesses, if there is one, or a delayed load, in so many bytes without a quote; and, of a run that is wrong,
+   what was met that isn't simulated, which bits of tmwatch_unseen say too. */
+WEAK void tmwatch_orders_tell_race(const tmwatch_simulation *orders, char *text, size_t size);
+WEAK void tmwatch_orders_tell_delay(const tmwatch_delay *delay, char *text, size_t size);
+WEAK uint64_t tmwatch_orders_tell_unseen(const tmwatch_simulation *orders, FILE *file, bool is_wrong);
+
 #undef WEAK
 #endif

@@ -7,7 +7,6 @@
 /* How a thread's accesses are made. */
 typedef struct tmwatch_step_how {
     bool has_buffers, has_plain; /* stores are buffered; plain accesses are steps too */
-    tmwatch_simulation *orders;  /* by the orders of C++20: the memory that is simulated; or null */
     bool is_undelayed;           /* a store wasn't buffered, since nothing says when its block is given back */
     uint64_t draws;
     uintptr_t own[2], own_end[2]; /* the thread's stack, and its transaction's bytes */
@@ -20,10 +19,6 @@ void tmwatch_step_at(const void *caller, unsigned pauses);
 /* For a function that is a part of what it is called in. */
 #define TMWATCH_PART static inline __attribute__((always_inline))
 
-/* A function that the compiler calls: its type, its name and its parameters, declared, and then to be defined. */
-#define MARK(type, name, ...) \
-    type name(__VA_ARGS__);   \
-    type name(__VA_ARGS__)
 #define UNUSED __attribute__((unused))
 
 /* This thread's, or null if it isn't one of a bench. */
@@ -44,8 +39,12 @@ enum tmwatch_step_waited { TMWATCH_STEP_ALONE, TMWATCH_STEP_OTHERS, TMWATCH_STEP
 /* The memory that is simulated, if such a thread's is; or null. */
 tmwatch_simulation *tmwatch_step_orders(void);
 
-/* Lets others run until this lock or condition, which one of them has to free, is free. */
-enum tmwatch_step_waited tmwatch_step_wait(const void *lock);
+/* Lets others run until this lock or condition, which one of them has to free, is free. Who waits for a signal goes on without one only if
+   another thread may send it that isn't one of the bench. */
+enum tmwatch_step_waited tmwatch_step_wait(const void *lock, bool is_for_signal);
+
+/* A function of locks that the program calls, if the linker wraps none, so that what they order isn't seen; or null. */
+const char *tmwatch_step_unwrapped(void);
 
 /* Those that wait for this lock or condition are able to run; or one of them is, as drawn. */
 void tmwatch_step_free(const void *lock, bool is_for_one);

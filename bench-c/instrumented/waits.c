@@ -1,22 +1,28 @@
-/* By steps, what a thread waits for: a lock that another holds, a condition, a yield, and a futex, as of the locks of Rust. Without these,
-   only the watchdog sees that it waits. A program calls them in place of the C library's if it is linked with -Wl,--wrap= and the name.
-   Each of them is a step, and what the thread has stored is out before it. By the orders of C++20 a lock acquires what it released. */
+/* By steps, what a thread waits for: a lock that another holds, a condition, what another makes once, a barrier, a time, a yield, and a
+   futex, as of the locks of Rust. Without these, only the watchdog sees that it waits. A program calls them in place of the C library's if
+   it is linked with -Wl,--wrap= and the names of packaging/wrapped.txt. Each of them is a step, and what the thread has stored is out before
+   it. By the orders of C++20 a lock acquires what it released. */
 #define _GNU_SOURCE
 #include "step.h"
 #include <errno.h>
+#include <fnmatch.h>
+#include <link.h>
 #include <linux/futex.h>
 #include <pthread.h>
 #include <sched.h>
 #include <semaphore.h>
+#include <string.h>
 #include <sys/syscall.h>
+#include <threads.h>
+#include <time.h>
+#include <unistd.h>
 
-/* How many pauses a yield counts as. */
-enum { YIELD_PAUSES = 16 };
+/* How many pauses a yield counts as; and a sleep, after which another thread always goes on. */
+enum { YIELD_PAUSES = 16, SLEEP_PAUSES = 256 };
 
 /* A function that the linker wraps. The C library's is null in a program that is linked without the name. */
 #define WRAPPED(type, name, ...)                           \
     __attribute__((weak)) type __real_##name(__VA_ARGS__); \
-    type __wrap_##name(__VA_ARGS__);                       \
     type __wrap_##name(__VA_ARGS__)
 
 /* Before each call: whether the thread goes by steps. */
@@ -30,10 +36,10 @@ TMWATCH_PART bool is_stepped(void)
     return is_run;
 }
 
-/* The status of a lock that was tried: a semaphore says it by errno. */
-static int of_try(int status)
+/* Whether another holds what was tried, by the status of pthread or C11; a semaphore says it by errno. */
+static bool is_held(int status)
 {
-    return status == -1 && errno == EAGAIN ? EBUSY : status;
+    return status == EBUSY || status == thrd_busy || (status == -1 && errno == EAGAIN);
 }
 
 /* A lock was tried or taken, by this status. */
@@ -53,24 +59,41 @@ void tmwatch_lock_returning(const volatile void *lock)
         tmwatch_orders_unlocks(orders, tmwatch_thread(), lock);
 }
 
-/* A lock or a semaphore is tried, taken, or given back: those that wait for it are able to run then. */
-#define TRY(name, lock_type, is_shared)                          \
-    WRAPPED(int, name, lock_type *lock)                          \
-    {                                                            \
-        is_stepped();                                            \
-        return has_locked(__real_##name(lock), lock, is_shared); \
+/* A function that does this by steps, and else what the C library does. */
+#define STEPPED(type, returns, name, given, by_steps, ...) \
+    WRAPPED(type, name, __VA_ARGS__)                       \
+    {                                                      \
+        if (is_stepped())                                  \
+            returns by_steps;                              \
+        else                                               \
+            returns __real_##name given;                   \
     }
-#define LOCK(name, try_name, lock_type, is_shared)                                                     \
-    WRAPPED(int, name, lock_type *lock)                                                                \
-    {                                                                                                  \
-        int status;                                                                                    \
-        if (!is_stepped())                                                                             \
-            return __real_##name(lock);                                                                \
-        while ((status = of_try((__real_##try_name ? __real_##try_name : try_name)(lock))) == EBUSY && \
-               tmwatch_step_wait((const void *)lock))                                                  \
-            ;                                                                                          \
-        return has_locked(status == EBUSY ? __real_##name(lock) : status, lock, is_shared);            \
-    }
+/* A lock or a semaphore is tried, or taken. By steps a thread tries until it is free, or no other thread is able to run: a time is over then,
+   with the status that says so, and without one that is left to the C library. */
+#define LOCK(name, try_name, lock_type, is_shared)                                         \
+    WRAPPED(int, try_name, lock_type *lock)                                                \
+    {                                                                                      \
+        is_stepped();                                                                      \
+        return has_locked(__real_##try_name(lock), lock, is_shared);                       \
+    }                                                                                      \
+    __attribute__((weak)) int __real_##name(lock_type *lock);                              \
+    static int name##_by_steps(lock_type *lock, int over)                                  \
+    {                                                                                      \
+        int status;                                                                        \
+        bool is_alone = false;                                                             \
+        while (is_held(status = __real_##try_name(lock)) && !is_alone)                     \
+            is_alone = tmwatch_step_wait((const void *)lock, false) == TMWATCH_STEP_ALONE; \
+        if (is_held(status))                                                               \
+            status = over ? (errno = ETIMEDOUT, over) : __real_##name(lock);               \
+        return has_locked(status, lock, is_shared);                                        \
+    }                                                                                      \
+    STEPPED(int, return, name, (lock), name##_by_steps(lock, 0), lock_type *lock)
+#define UNTIL const struct timespec *until
+#define TIMED(name, lock_name, lock_type, over) \
+    STEPPED(int, return, name, (lock, until), lock_name##_by_steps(lock, over), lock_type *lock, UNTIL)
+#define CLOCKED(name, lock_name, lock_type, over) \
+    STEPPED(int, return, name, (lock, clock, until), lock_name##_by_steps(lock, over), lock_type *lock, clockid_t clock, UNTIL)
+/* It is given back: those that wait for it are able to run then. */
 #define UNLOCK(name, lock_type)                           \
     WRAPPED(int, name, lock_type *lock)                   \
     {                                                     \
@@ -83,20 +106,23 @@ void tmwatch_lock_returning(const volatile void *lock)
         }                                                 \
         return status;                                    \
     }
-TRY(pthread_mutex_trylock, pthread_mutex_t, false)
-LOCK(pthread_mutex_lock, pthread_mutex_trylock, pthread_mutex_t, false)
+/* A lock that is tried, taken, or taken within a time by one of two clocks, by functions of such names. */
+#define LOCKS(prefix, how, lock_type, is_shared, over)            \
+    LOCK(prefix##_##how, prefix##_try##how, lock_type, is_shared) \
+    TIMED(prefix##_timed##how, prefix##_##how, lock_type, over)   \
+    CLOCKED(prefix##_clock##how, prefix##_##how, lock_type, over)
+LOCKS(pthread_mutex, lock, pthread_mutex_t, false, ETIMEDOUT)
 UNLOCK(pthread_mutex_unlock, pthread_mutex_t)
-TRY(pthread_spin_trylock, pthread_spinlock_t, false)
 LOCK(pthread_spin_lock, pthread_spin_trylock, pthread_spinlock_t, false)
 UNLOCK(pthread_spin_unlock, pthread_spinlock_t)
-TRY(pthread_rwlock_tryrdlock, pthread_rwlock_t, true)
-TRY(pthread_rwlock_trywrlock, pthread_rwlock_t, false)
-LOCK(pthread_rwlock_rdlock, pthread_rwlock_tryrdlock, pthread_rwlock_t, true)
-LOCK(pthread_rwlock_wrlock, pthread_rwlock_trywrlock, pthread_rwlock_t, false)
+LOCKS(pthread_rwlock, rdlock, pthread_rwlock_t, true, ETIMEDOUT)
+LOCKS(pthread_rwlock, wrlock, pthread_rwlock_t, false, ETIMEDOUT)
 UNLOCK(pthread_rwlock_unlock, pthread_rwlock_t)
-TRY(sem_trywait, sem_t, false)
-LOCK(sem_wait, sem_trywait, sem_t, false)
+LOCKS(sem, wait, sem_t, false, -1)
 UNLOCK(sem_post, sem_t)
+LOCK(mtx_lock, mtx_trylock, mtx_t, false)
+TIMED(mtx_timedlock, mtx_lock, mtx_t, thrd_timedout)
+UNLOCK(mtx_unlock, mtx_t)
 
 /* The same for a lock of another language. It was tried: whether the thread goes by steps. Others run until it may be free: whether to try
    again. It was taken; it was given back. */
@@ -107,7 +133,7 @@ bool tmwatch_lock_tried(void)
 
 bool tmwatch_lock_awaited(const void *lock)
 {
-    return tmwatch_step_wait(lock) != TMWATCH_STEP_ALONE;
+    return tmwatch_step_wait(lock, false) != TMWATCH_STEP_ALONE;
 }
 
 void tmwatch_lock_taken(const void *lock)
@@ -123,64 +149,157 @@ void tmwatch_lock_returned(const void *lock)
     tmwatch_pause();
 }
 
-/* Waits for a condition: whether it was signalled. Nobody else runs between the unlocking and the wait. */
-static bool is_signalled(pthread_cond_t *condition, pthread_mutex_t *mutex)
-{
-    tmwatch_lock_returning(mutex);
-    __real_pthread_mutex_unlock(mutex);
-    tmwatch_step_free(mutex, false);
-    bool is_freed = tmwatch_step_wait(condition) == TMWATCH_STEP_FREED;
-    __wrap_pthread_mutex_lock(mutex);
-    return is_freed;
-}
-
-/* A wait returns after a signal, or where no other thread is able to run; one with a time is then over. */
-#define WAIT(name, unsignalled, given, ...)                      \
-    WRAPPED(int, name, __VA_ARGS__)                              \
-    {                                                            \
-        if (!is_stepped())                                       \
-            return __real_##name given;                          \
-        return is_signalled(condition, mutex) ? 0 : unsignalled; \
+/* Waits for a condition, maybe within a time, and then with the status that says that it is over. Nobody else runs between the unlocking and
+   the wait, which returns after a signal, or where nobody is left to send one but a thread that isn't the bench's. */
+#define AWAITED(name, mutex_type, lock, unlock)                                            \
+    static int name(const void *condition, mutex_type *mutex, int over)                    \
+    {                                                                                      \
+        tmwatch_lock_returning(mutex);                                                     \
+        __real_##unlock(mutex);                                                            \
+        tmwatch_step_free(mutex, false);                                                   \
+        bool is_signalled = tmwatch_step_wait(condition, over == 0) == TMWATCH_STEP_FREED; \
+        __wrap_##lock(mutex);                                                              \
+        return is_signalled ? 0 : over;                                                    \
     }
-WAIT(pthread_cond_wait, 0, (condition, mutex), pthread_cond_t *condition, pthread_mutex_t *mutex)
-WAIT(pthread_cond_timedwait, ETIMEDOUT, (condition, mutex, until), pthread_cond_t *condition, pthread_mutex_t *mutex,
-     const struct timespec *until)
-WAIT(pthread_cond_clockwait, ETIMEDOUT, (condition, mutex, clock, until), pthread_cond_t *condition, pthread_mutex_t *mutex,
-     clockid_t clock, const struct timespec *until)
-
+AWAITED(await_signal, pthread_mutex_t, pthread_mutex_lock, pthread_mutex_unlock)
+AWAITED(await_signal_c11, mtx_t, mtx_lock, mtx_unlock)
+#define WAITER pthread_cond_t *condition, pthread_mutex_t *mutex
+#define WAITER_C11 cnd_t *restrict condition, mtx_t *restrict mutex
+STEPPED(int, return, pthread_cond_wait, (condition, mutex), await_signal(condition, mutex, 0), WAITER)
+STEPPED(int, return, pthread_cond_timedwait, (condition, mutex, until), await_signal(condition, mutex, ETIMEDOUT), WAITER, UNTIL)
+STEPPED(int, return, pthread_cond_clockwait, (condition, mutex, clock, until), await_signal(condition, mutex, ETIMEDOUT), WAITER,
+        clockid_t clock, UNTIL)
+STEPPED(int, return, cnd_wait, (condition, mutex), await_signal_c11(condition, mutex, 0), WAITER_C11)
+STEPPED(int, return, cnd_timedwait, (condition, mutex, until), await_signal_c11(condition, mutex, thrd_timedout), WAITER_C11, UNTIL)
 /* The condition variables of libstdc++, in its shared library: each begins with one of C's, and a lock with a pointer to its mutex. */
-WRAPPED(void, _ZNSt18condition_variable4waitERSt11unique_lockISt5mutexE, pthread_cond_t *condition, pthread_mutex_t **lock)
-{
-    if (is_stepped())
-        is_signalled(condition, *lock);
-    else
-        __real__ZNSt18condition_variable4waitERSt11unique_lockISt5mutexE(condition, lock);
-}
+STEPPED(void, , _ZNSt18condition_variable4waitERSt11unique_lockISt5mutexE, (condition, lock), await_signal(condition, *lock, 0),
+        pthread_cond_t *condition, pthread_mutex_t **lock)
 
 /* A signal to one that waits, or to all. Those that wait unseen get it too. */
-#define SIGNAL(type, returns, name, is_to_one)       \
-    WRAPPED(type, name, pthread_cond_t *condition)   \
-    {                                                \
-        if (is_stepped())                            \
-            tmwatch_step_free(condition, is_to_one); \
-        returns __real_##name(condition);            \
+#define SIGNAL(type, returns, name, condition_type, is_to_one) \
+    WRAPPED(type, name, condition_type *condition)             \
+    {                                                          \
+        if (is_stepped())                                      \
+            tmwatch_step_free(condition, is_to_one);           \
+        returns __real_##name(condition);                      \
     }
-SIGNAL(int, return, pthread_cond_signal, true)
-SIGNAL(int, return, pthread_cond_broadcast, false)
-SIGNAL(void, , _ZNSt18condition_variable10notify_oneEv, true)
-SIGNAL(void, , _ZNSt18condition_variable10notify_allEv, false)
+SIGNAL(int, return, pthread_cond_signal, pthread_cond_t, true)
+SIGNAL(int, return, pthread_cond_broadcast, pthread_cond_t, false)
+SIGNAL(int, return, cnd_signal, cnd_t, true)
+SIGNAL(int, return, cnd_broadcast, cnd_t, false)
+SIGNAL(void, , _ZNSt18condition_variable10notify_oneEv, pthread_cond_t, true)
+SIGNAL(void, , _ZNSt18condition_variable10notify_allEv, pthread_cond_t, false)
 
-WRAPPED(int, sched_yield, void)
+/* What is being made once: others wait meanwhile, and acquire what was made. One thread runs at a time, so that nothing guards the table. What
+   finds no room there shares the last place, and may be waited for unseen. */
+enum { MOST_MADE = 16 };
+static const void *made_now[MOST_MADE + 1];
+
+static const void **find_made(const void *it)
 {
-    if (!tmwatch_step_is_run())
-        return __real_sched_yield();
-    tmwatch_step_at(TMWATCH_CALLER, YIELD_PAUSES);
-    return 0;
+    unsigned i = 0;
+    while (i < MOST_MADE && made_now[i] != it)
+        i++;
+    return &made_now[i];
 }
+
+static void begin_making(const void *it)
+{
+    while (*find_made(it) == it && tmwatch_step_wait(it, false))
+        ;
+    *find_made(NULL) = it;
+}
+
+/* It is made: by this thread, or before. */
+static void end_making(const void *it, bool is_own)
+{
+    *find_made(it) = NULL;
+    has_locked(0, it, !is_own);
+    if (is_own)
+        tmwatch_lock_returning(it);
+    tmwatch_step_free(it, false);
+}
+
+/* The routine, and whether it has run. */
+static _Thread_local void (*routine)(void);
+static _Thread_local bool has_run;
+static void run_routine(void)
+{
+    routine();
+    has_run = true;
+}
+#define ONCE(type, name, control_type, result)                     \
+    WRAPPED(type, name, control_type *control, void (*make)(void)) \
+    {                                                              \
+        bool is_run = is_stepped();                                \
+        if (is_run)                                                \
+            begin_making(control);                                 \
+        routine = make;                                            \
+        has_run = false;                                           \
+        __real_##name(control, run_routine);                       \
+        if (is_run)                                                \
+            end_making(control, has_run);                          \
+        return result;                                             \
+    }
+ONCE(int, pthread_once, pthread_once_t, 0)
+ONCE(void, call_once, once_flag, )
+
+/* A static variable of C++. Its guard's first byte is loaded by marked code, and stored by the library unmarked. */
+extern void __tsan_atomic8_store(volatile uint8_t *at, uint8_t value, int order) __attribute__((weak));
+WRAPPED(int, __cxa_guard_acquire, uint64_t *guard)
+{
+    if (!is_stepped())
+        return __real___cxa_guard_acquire(guard);
+    begin_making(guard);
+    int is_own = __real___cxa_guard_acquire(guard);
+    if (!is_own)
+        end_making(guard, false);
+    return is_own;
+}
+#define GUARD(name, is_made)                                                      \
+    WRAPPED(void, name, uint64_t *guard)                                          \
+    {                                                                             \
+        bool is_run = is_stepped();                                               \
+        if (is_run && is_made && __tsan_atomic8_store)                            \
+            __tsan_atomic8_store((volatile uint8_t *)guard, 1, __ATOMIC_RELEASE); \
+        __real_##name(guard);                                                     \
+        if (is_run)                                                               \
+            end_making(guard, true);                                              \
+    }
+GUARD(__cxa_guard_release, true)
+GUARD(__cxa_guard_abort, false)
+
+/* A barrier orders all that meet there. The C library waits: among those that are to come there is a thread of the memory's own, since else
+   no transaction would end that runs alone. */
+WRAPPED(int, pthread_barrier_wait, pthread_barrier_t *barrier)
+{
+    is_stepped();
+    tmwatch_lock_returning(barrier);
+    int status = __real_pthread_barrier_wait(barrier);
+    has_locked(0, barrier, false);
+    return status;
+}
+
+/* A yield, or a sleep, which takes no time by steps. */
+#define YIELD(type, returns, name, pauses, result, given, ...) \
+    WRAPPED(type, name, __VA_ARGS__)                           \
+    {                                                          \
+        if (!tmwatch_step_is_run())                            \
+            returns __real_##name given;                       \
+        else                                                   \
+            tmwatch_step_at(TMWATCH_CALLER, pauses);           \
+        returns result;                                        \
+    }
+YIELD(int, return, sched_yield, YIELD_PAUSES, 0, (), void)
+YIELD(void, , thrd_yield, YIELD_PAUSES, , (), void)
+YIELD(int, return, nanosleep, SLEEP_PAUSES, 0, (time, left), const struct timespec *time, struct timespec *left)
+YIELD(int, return, clock_nanosleep, SLEEP_PAUSES, 0, (clock, flags, time, left), clockid_t clock, int flags, const struct timespec *time,
+      struct timespec *left)
+YIELD(int, return, usleep, SLEEP_PAUSES, 0, (microseconds), useconds_t microseconds)
+YIELD(int, return, thrd_sleep, SLEEP_PAUSES, 0, (time, left), const struct timespec *time, struct timespec *left)
 
 /* A wait for a futex returns at once, as it always may, after a yield. Each other call is made. This takes six words, as the C library. */
 __attribute__((weak)) long __real_syscall(long number, ...);
-long __wrap_syscall(long number, long first, long what, long third, long fourth, long fifth, long sixth);
 long __wrap_syscall(long number, long first, long what, long third, long fourth, long fifth, long sixth)
 {
     long command = what & FUTEX_CMD_MASK;
@@ -193,4 +312,24 @@ long __wrap_syscall(long number, long first, long what, long third, long fourth,
         return __real_syscall(number, first, what, third, fourth, fifth, sixth);
     tmwatch_step_at(TMWATCH_CALLER, YIELD_PAUSES);
     return 0;
+}
+
+/* The dynamic symbols of the program, or of the library that has the bench in it. */
+extern ElfW(Dyn) _DYNAMIC[] __attribute__((weak));
+
+const char *tmwatch_step_unwrapped(void)
+{
+    static const char locks[] = "@(pthread_@(mutex_|spin_|rwlock_|cond_|once|barrier_)|mtx_|cnd_|call_once|sem_t|__cxa_guard_)*";
+    const void *at[DT_NUM] = {NULL};
+    for (const ElfW(Dyn) *it = _DYNAMIC; it && it->d_tag != DT_NULL; it++)
+        at[it->d_tag == DT_GNU_HASH ? DT_HASH : it->d_tag < DT_NUM ? it->d_tag : DT_NULL] = (const void *)it->d_un.d_ptr;
+    const ElfW(Sym) *symbols = at[DT_SYMTAB];
+    const uint32_t *hash = at[DT_HASH];
+    /* (those that are looked for elsewhere come before the first of the hash; this file's own are weak) */
+    for (uint32_t i = 1; symbols && hash && !__real_pthread_mutex_lock && i < hash[1]; i++) {
+        const char *name = (const char *)at[DT_STRTAB] + symbols[i].st_name;
+        if (symbols[i].st_info >> 4 == STB_GLOBAL && symbols[i].st_shndx == SHN_UNDEF && fnmatch(locks, name, FNM_EXTMATCH) == 0)
+            return name;
+    }
+    return NULL;
 }

@@ -32,6 +32,12 @@ fn has_archives(folder: &Path) -> bool {
     libraries().iter().all(|name| folder.join(format!("lib{name}.a")).is_file())
 }
 
+/// The word by which the linker wraps what a thread waits for, as the package for pkg-config has it.
+fn wraps(folder: &Path) -> String {
+    let package = std::fs::read_to_string(folder.join("pkgconfig/tmwatch_bench.pc")).unwrap_or_default();
+    package.split_whitespace().find(|word| word.starts_with("-Wl,--wrap=")).unwrap_or("-Wl,--wrap=syscall").into()
+}
+
 fn main() {
     println!("cargo:rerun-if-env-changed=TMWATCH_LIB");
     println!("cargo:rerun-if-env-changed=PKG_CONFIG_PATH");
@@ -45,7 +51,7 @@ fn main() {
     }
     // So that the bench sees by steps that a thread waits for a lock of the standard library, in what is built here.
     for kind in ["tests", "examples"] {
-        println!("cargo:rustc-link-arg-{kind}=-Wl,--wrap=syscall,--wrap=sched_yield,--wrap=pthread_mutex_lock,--wrap=pthread_mutex_unlock");
+        println!("cargo:rustc-link-arg-{kind}={}", wraps(&folder));
     }
     println!("cargo:rustc-env=TMWATCH_INCLUDE={}", folder.join("../include").display());
 }

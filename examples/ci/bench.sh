@@ -31,6 +31,7 @@ done
 # What is wrong with a run, by its exit status and what the bench printed; nothing if the test passes.
 failure_of() {
     case $1:$(<"$out/$2.json") in
+    [01]:*'"opaque so far"'*'"race"'*) echo 'a race on plain data: see race' ;;
     0:*'"lacks"'*) echo 'nothing is wrong, but the run shows little: see lacks' ;;
     0:*'"opaque so far"'*) ;;
     1:*'"violated"'*) echo violated ;;

@@ -1,12 +1,12 @@
 #!/usr/bin/env python3
-"""Records a little transactional memory in Python: reads that are validated by value, and writes that are kept until the commit.
+"""A little transactional memory in Python: reads that are validated by value, and writes that are kept until the commit.
 
-    python3 examples/python/memory.py | ./tmwatch judge --criterion both
-    python3 examples/python/memory.py --without reads | ./tmwatch judge --criterion both
+    tmwatch-bench --one -- python3 memory.py
+    tmwatch-bench --one -- python3 memory.py reads     without the validation of reads, or of commits (commit)
 """
-import threading
+import sys, threading
 
-from tmwatch_recorder import Refused, Store, main, new_parser
+from tmwatch_store import Refused, Store, serve_all
 
 
 class Transaction(Store):
@@ -44,12 +44,5 @@ class Transaction(Store):
         pass
 
 
-def make_stores(options):
-    values, lock = [0] * options.registers, threading.Lock()
-    return [Transaction(values, lock, options.without) for _ in range(options.threads)]
-
-
-parser = new_parser("Records transactions of a memory in Python, and writes their trace.")
-parser.add_argument("--without", choices=["nothing", "reads", "commit"], default="nothing",
-                    help="part of the memory to leave out: the validation of reads, or that of commits")
-main(make_stores, parser=parser)
+shared = [0] * 8, threading.Lock(), sys.argv[1] if len(sys.argv) > 1 else "nothing"
+serve_all([Transaction(*shared) for _ in range(8)])

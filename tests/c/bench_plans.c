@@ -231,6 +231,11 @@ static void run_idle(void)
     plan.attempts = 10;
     out = run(&it, plan);
     CHECK(out.told.events == 0 && out.rounds == 300);
+    tmwatch_plan legs = one_thread();
+    legs.schedule = TMWATCH_ALL;
+    legs.rounds = 1100;
+    out = run(&it, legs);
+    CHECK(out.told.events == 0 && out.rounds == 1100);
     it.run = begin_all;
     calls = 0;
     CHECK(run_in_vain(&it, one_thread()) == calls);
@@ -359,9 +364,11 @@ static const tmwatch_benched results[] = {
     {.told = {12, 7, TMWATCH_VIOLATED, 0}, .rounds = 3, .steps = 20, .again = TMWATCH_PLAN, .is_certain = true, .event = 5,
      .leg = {.schedule = TMWATCH_STEPS, .seed = 8, .rounds = 3, .threads = 2, .registers = 3, .calls = 1, .plain = 1}},
     {.told = {12, 7, TMWATCH_VIOLATED, 0}, .again = {.schedule = TMWATCH_PERMITS, .start = {0, 7}, .seconds = 4}, .is_certain = true},
-    {.told = {12, 0, TMWATCH_OPAQUE_SO_FAR, 0}, .counts = {97, 2, 3, 4, 5, 99, 97, 8, 0}, .stores = 1, .steps = 9, .rescues = 9},
+    {.told = {12, 0, TMWATCH_OPAQUE_SO_FAR, 0}, .counts = {98, 1, 3, 4, 5, 99, 98, 8, 0}, .stores = 1, .steps = 9, .rescues = 9},
     {.told = {12, 0, TMWATCH_OPAQUE_SO_FAR, 0}, .counts = {97, 5, 3, 4, 5, 102, 97, 8, 0}, .stores = 1, .steps = 9, .rescues = 10,
-     .is_undelayed = true},
+     .unseen = TMWATCH_UNSEEN_WAITS | TMWATCH_UNSEEN_BLOCKS},
+    {.told = {12, 11, TMWATCH_UNDECIDED, TMWATCH_UNSEEN}, .steps = 9, .rescues = 1, .waits = 3, .crashes = 2, .again = TMWATCH_PLAN,
+     .unseen = TMWATCH_UNSEEN_STORES | TMWATCH_UNSEEN_WAITS, .race = "thread 1 loads plainly at here, thread 0 stores plainly"},
     {.told = {12, 0, TMWATCH_OPAQUE_SO_FAR, 0}, .counts = {1, 2, 3, 4, 5, 6, 7, 8, 0}, .stores = 1, .rejected = 3},
 };
 

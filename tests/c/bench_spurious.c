@@ -1,10 +1,12 @@
 /*
 A right memory of one lock on the bench, whose transactions are rolled back by chance, as those of processors are: of 100 commits so many as
--DPERCENT= says (50). By -DEACH= of 100 reads and writes too. It writes in place.
+-DPERCENT= says (50). By -DEACH= of 100 reads and writes too. It writes in place. By -DLEASE= no transaction commits for so many seconds
+after the hundredth that asks to.
 */
 #include "tmwatch_bench.h"
 #include <stdatomic.h>
 #include <string.h>
+#include <time.h>
 
 #ifndef PERCENT
 #define PERCENT 50
@@ -12,8 +14,11 @@ A right memory of one lock on the bench, whose transactions are rolled back by c
 #ifndef EACH
 #define EACH 0
 #endif
+#ifndef LEASE
+#define LEASE 0
+#endif
 
-enum { REGISTERS = 8 };
+enum { REGISTERS = 8, LEASED = 100 };
 
 struct tx {
     uint64_t before[REGISTERS], draws;
@@ -67,10 +72,22 @@ static bool write(void *memory, void *tx, unsigned reg, uint64_t value)
     return undo_if(is_drawn(tx, EACH), tx);
 }
 
+/* Whether the lease lasts. The lock is held. */
+static bool is_leased(void)
+{
+    static unsigned asked;
+    static struct timespec end;
+    struct timespec now;
+    clock_gettime(CLOCK_MONOTONIC, &now);
+    if (++asked == LEASED)
+        end = (struct timespec){now.tv_sec + LEASE, now.tv_nsec};
+    return now.tv_sec < end.tv_sec || (now.tv_sec == end.tv_sec && now.tv_nsec < end.tv_nsec);
+}
+
 static bool commit(void *memory, void *tx)
 {
     (void)memory;
-    if (!undo_if(is_drawn(tx, PERCENT), tx))
+    if (!undo_if(is_drawn(tx, PERCENT) || (LEASE > 0 && is_leased()), tx))
         return false;
     is_locked = false;
     return true;

@@ -86,11 +86,18 @@ static bool lies(void)
     return is_due;
 }
 
+/* Milliseconds. */
+static uint64_t now(void)
+{
+    struct timespec time;
+    clock_gettime(CLOCK_MONOTONIC, &time);
+    return (uint64_t)time.tv_sec * 1000 + (uint64_t)time.tv_nsec / 1000000;
+}
+
 static bool read_value(void *memory, void *tx, unsigned reg, uint64_t *value)
 {
-    struct timespec time = {0, 300000000};
     (void)memory, (void)tx;
-    while (fault == SLOW && nanosleep(&time, &time) != 0)
+    for (uint64_t began = now(); fault == SLOW && now() - began < 300;)
         ;
     while (fault == READ && reg == 2 && tmwatch_thread() == 1 && begun[1] > 20)
         TMWATCH_PAUSE();

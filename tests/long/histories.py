@@ -9,6 +9,7 @@ from types import SimpleNamespace
 
 TOP = 2**64
 MOST = 5  # transactions of a history
+FAR = [0, 1, 10**9, 2**63, TOP - 2, TOP - 1]  # values near the ends
 
 # An event: its number in the history, its thread, and the letter and the numbers of its kind.
 Event = namedtuple("Event", "number thread kind")
@@ -46,6 +47,28 @@ def calls(events):
         for place, call in enumerate(events)
         if call.kind[0] in "RWNTX"
     ]
+
+
+def left_by(call):
+    """The register and the value that a call leaves there. A write may leave its value even if no K answers it."""
+    done = operation(call)
+    return call[0].kind[1:] if call[0].kind[0] == "W" else done and (done[0], done[2])
+
+
+def last_left(t, register):
+    """What the transaction leaves in the register, or None."""
+    return next((left for other, _, left in reversed(t.operations) if other == register and left is not None), None)
+
+
+def first_unlike(t, register):
+    """What the transaction had to find in the register by its own calls, and what it was answered instead, the first time; or None."""
+    known = None
+    for other, found, left in t.operations:
+        if other == register:
+            if None not in (known, found) and known != found:
+                return known, found
+            known = found if left is None else left
+    return None
 
 
 @lru_cache(maxsize=64)
@@ -95,7 +118,8 @@ class Memory:
     """A memory of snapshots that makes mistakes, at rates of its own: in reads, and in what a commit checks."""
 
     def __init__(self, rng, state):
-        self.rng, self.state, self.running, self.values = rng, list(state), {}, range(rng.choice([3, 9, 9]))
+        self.rng, self.state, self.running = rng, list(state), {}
+        self.values = rng.choice([range(3), range(9), range(9), FAR])
         self.wrong, self.unchecked, self.refused = rng.choice([0, 0.5, 1, 1]), rng.choice([0, 1, 1]), rng.choice([0, 0, 0.1])
 
     def commit(self, own):
@@ -137,11 +161,27 @@ class Memory:
         return ("K",) if letter == "W" else ("V", found)
 
 
-def random_history(rng, most=MOST, steps=60):
-    """A start state and events, of at most so many transactions. They begin in bursts, in slow and fast threads. Some stay commit-pending."""
+def several_states(rng, start):
+    """Events of blind writes at the same time, register by register, and one of the states to which they may lead: up to 64."""
+    events, state, left = [], list(start), 64
+    for register in range(len(start)):
+        values = [rng.randrange(9) for _ in range(rng.randint(1, min(4, left)))]
+        left //= len(values)
+        state[register] = rng.choice(values)
+        writers = list(enumerate(values))
+        for kinds in ([("W", register, value) for value in values], [("K",)] * 4, [("T",)] * 4, [("C",)] * 4):
+            events += [Event(len(events) + 1 + place, thread, kinds[thread]) for place, (thread, _) in enumerate(writers)]
+    return events, state
+
+
+def random_history(rng, most=MOST, steps=60, from_several=0):
+    """A start state and events, of at most so many transactions. They begin in bursts, in slow and fast threads. Some stay commit-pending.
+
+    As often as `from_several` says, blind writes come before them, so that they begin from several states."""
     start = [rng.randrange(3) for _ in range(rng.choice([1, 2, 2, 3]))]
     pace = [rng.choice([1, 6]) for _ in range(rng.choice([2, 3, 3, 4]))]
-    memory, events, begun, burst = Memory(rng, start), [], 0, 0
+    events, state = several_states(rng, start) if rng.random() < from_several else ([], start)
+    memory, begun, burst = Memory(rng, state), 0, 0
     for _ in range(rng.randint(20, steps)):
         running = memory.running
         burst = burst if running else min(rng.randint(1, 4), most - begun)

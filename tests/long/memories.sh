@@ -124,6 +124,8 @@ rows() {
     [[ "$2 $1" =~ $only ]] || return 0
     for schedule in $schedules; do
         kind=$2
+        # (only steps have orders)
+        [[ " ${*:3} " != *' --orders '* || $schedule =~ ^(steps|all)$ ]] || continue
         [ "$schedule" = all ] || [ "$kind" != broken ] || kind=told
         run_seeds "$1" $kind "$schedule" "${@:3}"
     done
@@ -149,6 +151,9 @@ done
 for fault in NONE EARLY; do
     in_c locks_$fault tests/c/bench_locks.c $fault
 done
+for fault in NONE NEIGHBOUR EXTENSION; do
+    in_c stripes_$fault tests/c/bench_stripes.c $fault
+done
 for fault in NONE WRAP; do
     in_c sequence_$fault tests/c/bench_sequence.c $fault
 done
@@ -167,6 +172,7 @@ rows 'versions' right bench versions_NONE
 rows 'undo log' right bench undo_NONE
 rows 'a lock for each register' right bench locks_NONE
 rows 'snapshots that are extended' right bench tiny_NONE
+rows 'four stripes' right bench stripes_NONE --registers 8
 rows 'a lock, half of commits rolled back' right bench spurious
 for lock in MUTEX SPIN READ_WRITE CONDITION; do
     rows "one lock, $lock, delayed stores" right bench waits_$lock --orders x86
@@ -220,6 +226,8 @@ rows 'undo log, unlocks before it undoes' broken bench undo_UNLOCK
 rows 'undo log, an abort keeps the version' broken bench undo_VERSION
 rows 'undo log, clock by load and store' broken bench undo_CLOCK
 rows 'a lock given back early' broken bench locks_EARLY
+rows 'four stripes, a neighbour is not undone' broken bench stripes_NEIGHBOUR
+rows 'four stripes, an extension is missed' broken bench stripes_EXTENSION
 rows 'one sequence, wraps after 4 commits' broken bench sequence_WRAP
 rows 'visible readers, no fence' broken bench readers_FENCE --orders x86
 rows 'TL2, a lock that is left held' lost bench tl2_LEAK

@@ -43,7 +43,7 @@ mistake() {
     sed -i "$2" "$folder"/bench-c/*.c
     "${CC:-cc}" -std=c11 "${flags[@]}" -c -o "$folder/bench.o" "$folder/bench-c/tmwatch_bench.c"
     for memory in lock norec versions; do
-        "${CXX:-c++}" -pthread -o "$folder/$memory" "$folder/$memory.o" "$folder/bench.o" "$built/lib/libtmwatch.a"
+        "${CXX:-c++}" -pthread -o "$folder/$memory" "$folder/$memory.o" "$folder/bench.o" "$built"/lib/libtmwatch{_bench,}.a
         run_seeds "$1" "$memory"
         ! shows || is_shown=yes
         [ "$opaque" -eq "$seeds" ] || is_hidden=no
@@ -56,7 +56,7 @@ printf '%-36s %-9s %6s %8s %9s %9s %7s\n' mistake memory opaque violated undecid
 mistake 'none' ''
 mistake 'C is recorded before the commit' \
     's/return m->commit(m->memory, a->tx);/return end_attempt(a, true), pause_sometimes(a, 0), m->commit(m->memory, a->tx);/'
-mistake 'T is left out' '/has_asked = a->calls/{n;s/note_call(a);/if (a->has_asked) note_call(a);/}'
+mistake 'T is left out' '/has_asked = a->now.calls/{n;s/note_call(a);/if (a->has_asked) note_call(a);/}'
 mistake 'no barrier' 's/b->round == round; turns++/turns == 0; turns++/'
 mistake 'begins before the first call' \
     's/if (!tmwatch_begins(a))$/if (!m->begin(m->memory, a->tx) || (pause_sometimes(a, 0), !tmwatch_begins(a)))/

@@ -13,7 +13,8 @@ import sys
 from collections import Counter
 from itertools import permutations
 
-from histories import calls, ends, has_order, operation, random_history, trace_of, transactions, words
+from histories import calls, ends, first_unlike, has_order, last_left, left_by, operation, random_history, trace_of, transactions, words
+from sentences import NOBODY, read_reason
 
 VERDICTS = {"opacity": ("opaque so far", "violated, by opacity"), "strict": ("strict so far", "violated, by strict serializability")}
 BROKEN = {
@@ -23,26 +24,9 @@ BROKEN = {
 }
 
 
-def left_by(call):
-    """The register and the value that a call leaves there. A write may leave its value even if no K answers it."""
-    done = operation(call)
-    return call[0].kind[1:] if call[0].kind[0] == "W" else done and (done[0], done[2])
-
-
-def last_left(t, register):
-    """What the transaction leaves in the register, or None."""
-    return next((left for other, _, left in reversed(t.operations) if other == register and left is not None), None)
-
-
-def first_unlike(t, register):
-    """What the transaction had to find in the register by its own calls, and what it was answered instead, the first time; or None."""
-    known = None
-    for other, found, left in t.operations:
-        if other == register:
-            if None not in (known, found) and known != found:
-                return known, found
-            known = found if left is None else left
-    return None
+def first_needed(t, register):
+    """What the transaction's first operation on the register was answered, or None."""
+    return next((found for other, found, _ in t.operations if other == register), None)
 
 
 def is_part(part, window, broken=None):
@@ -51,7 +35,8 @@ def is_part(part, window, broken=None):
     left = {own[u.events[0]]: u for u in transactions(part)}
     if window[-1] not in kept or any(own[u.events[-1]] is not t or u.status != t.status for t, u in left.items()):
         return False
-    agree = [of(u, register) in (None, of(t, register)) for t, u in left.items() for register in range(8) for of in (last_left, first_unlike)]
+    told = (first_needed, last_left, first_unlike)
+    agree = [of(u, register) in (None, of(t, register)) for t, u in left.items() for register in range(8) for of in told]
     if not all(agree):
         return False
     read = {(register, found) for u in left.values() for register, found, _ in u.operations if found is not None}
@@ -89,43 +74,25 @@ def has_read(t, register, value):
     return any((other, found) == (register, value) for other, found, _ in t.operations)
 
 
-def is_true(sentence, names, states, window):
-    """Whether what is said of these transactions is so of the window. A sentence of no known form is false."""
-    name, number = "(T\\d+)", "(\\d+)"
-
-    def told(form):
-        found = re.fullmatch(form.replace("A", name).replace("V", number), sentence)
-        return found and [names[word] if word in names else int(word) for word in found.groups()]
-
-    if said := told("A ended before A began: A before A"):
-        return said[0].precedes(said[1]) and said[2:] == said[:2]
-    if said := told("A read V from register V, which A left there: A before A"):
-        reader, value, register, writer, *order = said
-        may_commit = writer.status in ("committed", "pending")
-        return has_read(reader, register, value) and may_commit and last_left(writer, register) == value and order == [writer, reader]
-    if said := told("A read V from register V, where A left V: A before A"):
-        reader, value, register, rival, left, *order = said
-        return has_read(reader, register, value) and last_left(rival, register) == left != value and order == [reader, rival]
-    if said := told("A left V in register V, where A read V: A before A"):
-        rival, left, register, reader, value, before, writer = said
-        others = last_left(rival, register) == left != value and last_left(writer, register) == value
-        return has_read(reader, register, value) and others and before is rival
-    if said := told("A read V from register V, which neither the start nor another commit left"):
-        reader, value, register = said
-        others = [t for t in transactions(window) if t is not reader and t.status in ("committed", "pending")]
-        left = [*[state[register] for state in states], *[last_left(t, register) for t in others]]
-        return has_read(reader, register, value) and value not in left
-    if said := told("A read V from register V, where its own earlier calls make it V"):
-        reader, value, register, expected = said
-        return (expected, value) == first_unlike(reader, register)
-    return bool(told("A would come before itself"))
+def is_true(said, names, states, window):
+    """Whether what the sentence says of these transactions is so of the window, by its events."""
+    if said.ended and not names[said.ended[0]].precedes(names[said.ended[1]]):
+        return False
+    if said.read and not has_read(names[said.read[0]], *said.read[1:]):
+        return False
+    if said.left and last_left(names[said.left[0]], said.left[1]) != said.left[2]:
+        return False
+    if said.source == NOBODY:
+        others = [t for t in transactions(window) if t is not names[said.read[0]] and t.status in ("committed", "pending")]
+        own = [state for number, state in enumerate(states, 1) if said.states is None or number in said.states]
+        left = [*[state[said.read[1]] for state in own], *[last_left(t, said.read[1]) for t in others]]
+        return said.read[2] not in left
+    return not said.unlike or said.unlike[2:] == first_unlike(names[said.unlike[0]], said.unlike[1])
 
 
 def origin_of(end, names, window):
-    """What has to be told before this last sentence of where the value comes from that it says was read, or None."""
-    found = re.fullmatch(r"(T\d+) read (\d+) from register (\d+), w.*?(?: make it (\d+))?", end)
-    if not found:
-        return None
+    """What has to be told before this last sentence of where the value comes from that it says was read."""
+    found = re.fullmatch(r"(T\d+) read (\d+) from register (\d+).*?(?: make it (\d+))?", end)
     reader, value, register, expected = names[found[1]], int(found[2]), int(found[3]), found[4] and int(found[4])
     number = {event: n for n, t in enumerate(transactions(window), 1) for event in t.events}
     read, known, reading = None, None, None
@@ -207,10 +174,12 @@ def compare(program, criterion, start, events):
     assert is_part(part, window), "no part"
     assert not has_order(criterion, states, part), "the part has an order"
     names = named(part, window)
-    origin = origin_of(why[-1], names, window) if why else None
-    assert origin in (None, *why[-2:-1]), f"not told: {origin}"
-    for sentence in why[:-2] + [it for it in why[-2:] if it != origin]:
-        assert is_true(sentence, names, states, window), f"false of the window: {sentence}"
+    sentences = read_reason(why)
+    origins = [origin_of(it.text, names, window) if it.source == NOBODY or it.unlike else None for it in sentences]
+    told = [it.text if it.put or it.unput else None for it in sentences]
+    assert [None, *told] == [*origins, None], f"origins not told: {origins}"
+    for sentence in sentences:
+        assert is_true(sentence, names, states, window), f"false of the window: {sentence.text}"
     traces = [trace_of(state, part) for state in states]
     assert written("show", "--why", "--trace", trace=trace_of(start, events)) == "".join(traces), "other traces"
     for judged in [json.loads(written("judge", trace=trace)) for trace in traces]:

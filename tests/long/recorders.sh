@@ -19,10 +19,6 @@ source=$top/examples/recorders
 compile=("${CC:-gcc}" -std=gnu11 -O2 -Wall -Wextra -pthread)
 "${compile[@]}" -o "$folder/little" "$source/little.c"
 "${compile[@]}" -DWAIT_EVERY=100 -o "$folder/seldom" "$source/little.c"
-"${compile[@]}" -o "$folder/locks" "$source/locks.c"
-"${compile[@]}" -DEARLY_RELEASE=true -o "$folder/early" "$source/locks.c"
-"${compile[@]}" -DPAUSES=true -o "$folder/versions" "$source/versions.c"
-"${compile[@]}" -DPAUSES=true -DONE_LOOK=true -o "$folder/one_look" "$source/versions.c"
 "${compile[@]}" -o "$folder/cost" "$top/measure/recorder_cost.c"
 "${RUSTC:-rustc}" --edition 2021 -O -o "$folder/little_rs" "$source/little.rs"
 "${RUSTC:-rustc}" --edition 2021 -O -o "$folder/cost_rs" "$top/measure/recorder_cost.rs"
@@ -39,10 +35,6 @@ record 'C, correct' opaque opaque "$folder/little" none right
 record 'C, no validation of reads' violated opaque "$folder/little" reads right
 record 'C, no validation at commit' violated violated "$folder/little" commit right
 record 'C, writes in place' violated violated "$folder/little" place right
-record 'C, locks' opaque opaque "$folder/locks"
-record 'C, locks given back early' violated violated "$folder/early"
-record 'C, versions' opaque opaque "$folder/versions"
-record 'C, versions, one look' violated opaque "$folder/one_look"
 record 'Rust, correct' opaque opaque "$folder/little_rs" none
 record 'Rust, no validation of reads' violated opaque "$folder/little_rs" reads
 record 'Rust, no validation at commit' violated violated "$folder/little_rs" commit

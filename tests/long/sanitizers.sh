@@ -1,5 +1,6 @@
 #!/usr/bin/env bash
-# Runs tests/c.sh under AddressSanitizer with UndefinedBehaviorSanitizer, under ThreadSanitizer, and under valgrind.
+# Runs tests/c.sh and tests/lines.sh under AddressSanitizer with UndefinedBehaviorSanitizer and under ThreadSanitizer, and tests/c.sh under
+# valgrind.
 #
 #   tests/long/sanitizers.sh
 #
@@ -20,6 +21,7 @@ for flags in '-fsanitize=address,undefined -fno-sanitize-recover=all' -fsanitize
     echo "== $flags"
     if compiles "$flags"; then
         FLAGS=$flags "$top/tests/c.sh" || status=1
+        FLAGS=$flags KILLS=6 "$top/tests/lines.sh" || status=1
     else
         echo 'skipped: the compiler has it not, or its programs do not run here'
     fi

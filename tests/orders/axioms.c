@@ -219,3 +219,13 @@ static const char *broken_axiom(const struct execution *x)
         return "sequential consistency";
     return is_irreflexive(&made) ? NULL : "a value from a store that is made later";
 }
+
+static void print_execution(const struct execution *x)
+{
+    static const char *const names[] = {"", "R", "W", "RMW", "", "", "F", "begins", "ends", "lock", "share", "unlock"};
+    for (unsigned i = 0; i < x->count; i++) {
+        const struct event *it = &x->events[i];
+        printf("%2u thread %u %s word %u order %d from %u place %u\n", i + 1, it->thread, names[it->kind], it->word, it->order, it->from,
+               it->place);
+    }
+}

@@ -1,13 +1,13 @@
 /*
 Litmus tests of bench-c/instrumented/orders.c alone, by their usual names (Alglave, Maranget and Tautschnig, TOPLAS 2014; Batty, Owens,
-Sarkar, Sewell and Weber, POPL 2011). Each program is run many times, one operation of a drawn thread at a time: what C++20 forbids never
-comes out, and what it allows does.
+Sarkar, Sewell and Weber, POPL 2011). Each program is run in all ways, one operation of a thread at a time: what C++20 forbids never comes
+out, and what it allows does.
 
-    litmus [RUNS]
+    litmus
 
 A line for each test: whether it is right, how often its outcome came, and its name. The exit status is 1 if one is wrong.
 */
-#include "program.c"
+#include "choices.c"
 
 enum { MOST_THREADS = 4, MOST_OPERATIONS = 8, RESULTS = 4, ANY = -1 };
 enum { RLX = RELAXED, ACQ = ACQUIRE, REL = RELEASE, AR = BOTH, SC = SEQUENTIAL };
@@ -104,6 +104,20 @@ static const struct litmus all[] = {
     {"R release", ALLOWED, {0, ANY, ANY, ANY, ANY, 2, ANY}, {{W(X, 1, REL), W(Y, 1, REL)}, {W(Y, 2, REL), R(X, ACQ, 0)}}},
     {"R fences", FORBIDDEN, {0, ANY, ANY, ANY, ANY, 2, ANY}, {{W(X, 1, RLX), F(SC), W(Y, 1, RLX)}, {W(Y, 2, RLX), F(SC), R(X, RLX, 0)}}},
     {"R seq_cst", FORBIDDEN, {0, ANY, ANY, ANY, ANY, 2, ANY}, {{W(X, 1, SC), W(Y, 1, SC)}, {W(Y, 2, SC), R(X, SC, 0)}}},
+    {"Z6.U", ALLOWED, READS(1, 3, 0, ANY), {{W(X, 1, SC), W(Y, 1, REL)}, {A(Y, 1, SC, 0), R(Y, RLX, 1)}, {W(Y, 3, SC), R(X, SC, 2)}}},
+    {"MP seq_cst, then relaxed", ALLOWED, READS(1, 0, ANY, ANY), {{W(X, 1, SC), W(Y, 1, RLX)}, {R(Y, RLX, 0), R(X, SC, 1)}}},
+    {"MP seq_cst, then relaxed, to seq_cst", ALLOWED, READS(1, 0, ANY, ANY), {{W(X, 1, SC), W(Y, 1, RLX)}, {R(Y, SC, 0), R(X, SC, 1)}}},
+    {"MP seq_cst, then release", FORBIDDEN, READS(1, 0, ANY, ANY), {{W(X, 1, SC), W(Y, 1, REL)}, {R(Y, ACQ, 0), R(X, SC, 1)}}},
+    {"S seq_cst, then relaxed", ALLOWED, {1, ANY, ANY, ANY, 2, ANY, ANY}, {{W(X, 2, SC), W(Y, 1, RLX)}, {R(Y, RLX, 0), W(X, 1, SC)}}},
+    {"RWC seq_cst, by an acquire", ALLOWED, READS(1, 0, 0, ANY), {{W(X, 1, SC)}, {R(X, ACQ, 0), R(Y, SC, 1)}, {W(Y, 1, SC), R(X, SC, 2)}}},
+    {"RWC seq_cst, by the first of two operations", FORBIDDEN, READS(0, 1, 0, ANY),
+     {{W(Y, 1, SC), R(X, SC, 0)}, {W(X, 1, SC), W(Z, 1, REL), R(X, SC, 3)}, {R(Z, ACQ, 1), R(Y, SC, 2)}}},
+    {"MP seq_cst by two readers of one store", ALLOWED, {1, 1, 0, ANY, ANY, ANY, 2},
+     {{W(X, 1, RLX)}, {W(Y, 1, SC), R(X, SC, 0), S(Z, 0, 1, RLX, 3)}, {S(Z, 1, 2, RLX, 3), R(X, SC, 1), R(Y, SC, 2)}}},
+    {"MP seq_cst by two readers of an older store", ALLOWED, {1, 1, 0, ANY, ANY, ANY, 4},
+     {{W(X, 1, SC), W(X, 2, RLX), S(Z, 0, 1, RLX, 3)},
+      {S(Z, 1, 2, RLX, 3), W(Y, 1, SC), R(X, SC, 0), S(Z, 2, 3, RLX, 3)},
+      {S(Z, 3, 4, RLX, 3), R(X, SC, 1), R(Y, SC, 2)}}},
     {"LB, which is left out", FORBIDDEN, READS(1, 1, ANY, ANY), {{R(X, RLX, 0), W(Y, 1, RLX)}, {R(Y, RLX, 1), W(X, 1, RLX)}}},
     {"LB acquire, release", FORBIDDEN, READS(1, 1, ANY, ANY), {{R(X, ACQ, 0), W(Y, 1, REL)}, {R(Y, ACQ, 1), W(X, 1, REL)}}},
     {"adds are whole", FORBIDDEN, READS(0, 0, ANY, ANY), {{A(X, 1, RLX, 0)}, {A(X, 1, RLX, 1)}}},
@@ -132,28 +146,23 @@ static const struct litmus all[] = {
 
 static uint64_t results[RESULTS];
 
-/* Which thread makes its next operation: any of those that have one; MOST_THREADS if none has. */
-static unsigned draw_thread(tmwatch_simulation *orders, const struct litmus *it, const unsigned next[MOST_THREADS])
+/* Chooses which thread makes its next operation: any of those that have one; MOST_THREADS if none has. */
+static unsigned choose_thread(const struct litmus *it, const unsigned next[MOST_THREADS])
 {
-    uint32_t able = 0;
+    unsigned able[MOST_THREADS], count = 0;
     for (unsigned i = 0; i < MOST_THREADS; i++)
-        able += it->threads[i][next[i]].kind != END;
-    if (able == 0)
-        return MOST_THREADS;
-    uint32_t skipped = draw_below(&orders->draws, able);
-    unsigned thread = 0;
-    while (it->threads[thread][next[thread]].kind == END || skipped-- > 0)
-        thread++;
-    return thread;
+        if (it->threads[i][next[i]].kind != END)
+            able[count++] = i;
+    return count > 0 ? able[choose(count)] : MOST_THREADS;
 }
 
 /* Runs it once: whether the outcome has come. */
 static bool run(const struct litmus *it, tmwatch_simulation *orders)
 {
     unsigned next[MOST_THREADS] = {0}, thread;
-    begin_run(orders);
+    begin_choices(orders);
     memset(results, 0, sizeof results);
-    while ((thread = draw_thread(orders, it, next)) < MOST_THREADS) {
+    while ((thread = choose_thread(it, next)) < MOST_THREADS) {
         const struct operation *operation = &it->threads[thread][next[thread]++];
         uint64_t read = 0;
         make(orders, thread, operation, &read);
@@ -168,18 +177,19 @@ static bool run(const struct litmus *it, tmwatch_simulation *orders)
     return true;
 }
 
-int main(int count, char **given)
+int main(void)
 {
-    unsigned long runs = count > 1 ? strtoul(given[1], NULL, 10) : 20000;
-    tmwatch_simulation *orders = tmwatch_orders_new(1, &recorded);
+    tmwatch_simulation *orders = tmwatch_orders_new(1, &recorded, NULL);
     unsigned wrong = 0;
     for (unsigned i = 0; i < sizeof all / sizeof all[0]; i++) {
-        unsigned long came = 0;
-        for (unsigned long k = 0; k < runs; k++)
+        unsigned long came = 0, runs = 0;
+        do {
             came += run(&all[i], orders);
+            runs++;
+        } while (has_next());
         bool is_right = all[i].is_allowed == (came > 0);
         wrong += !is_right;
-        printf("%-6s %-9s %8lu of %lu  %s\n", is_right ? "right" : "WRONG", all[i].is_allowed ? "allowed" : "forbidden", came, runs,
+        printf("%-6s %-9s %8lu of %-8lu  %s\n", is_right ? "right" : "WRONG", all[i].is_allowed ? "allowed" : "forbidden", came, runs,
                all[i].name);
     }
     printf("%zu litmus tests, %u wrong\n", sizeof all / sizeof all[0], wrong);

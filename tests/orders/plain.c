@@ -73,6 +73,38 @@ static void check_races(void)
     CHECK(orders->has_race);
 }
 
+/* What is stored plainly just before a lock is given back, a transaction ends, an untracked access or a fence is known after. */
+static void check_handed(void)
+{
+    static const enum kind handed[][2] = {{UNLOCK, LOCK}, {UNLOCK, SHARE}, {ENDS, BEGINS}};
+    for (unsigned i = 0; i < sizeof handed / sizeof handed[0]; i++) {
+        begin();
+        stores(0, bytes, 8);
+        makes(0, handed[i][0], X, 0, 0);
+        makes(1, handed[i][1], X, 0, 0);
+        loads(1, bytes, 8);
+        CHECK(!orders->has_race);
+        stores(1, bytes, 8);
+        makes(2, handed[i][1], X, 0, 0);
+        loads(2, bytes, 8);
+        CHECK(orders->has_race);
+    }
+    begin();
+    tmwatch_access wide = {orders, 0, words, words, 16, RELAXED};
+    stores(0, bytes, 8);
+    tmwatch_orders_wide(&wide);
+    wide.thread = 1;
+    tmwatch_orders_wide(&wide);
+    loads(1, bytes, 8);
+    CHECK(!orders->has_race);
+    begin();
+    stores(0, bytes, 8);
+    makes(0, FENCE, X, 0, RELEASE);
+    hand_over(RELAXED, ACQUIRE);
+    loads(1, bytes, 8);
+    CHECK(!orders->has_race);
+}
+
 static void check_ordered(void)
 {
     static const struct {
@@ -91,6 +123,7 @@ static void check_ordered(void)
     stores(0, bytes, 8);
     loads(1, bytes, 8);
     CHECK(orders->has_race);
+    check_handed();
     begin();
     stores(0, bytes, 8);
     tmwatch_orders_forget(orders, bytes, sizeof bytes);
@@ -114,6 +147,20 @@ static void check_atomic(void)
     begin();
     stores(0, (const void *)(uintptr_t)&words[Y], 8);
     makes(1, READ, Y, 0, SEQUENTIAL);
+    CHECK(orders->has_race && orders->race.kind == ATOMIC_LOAD && orders->race.other_kind == PLAIN_STORE);
+    begin();
+    loads(0, (const void *)(uintptr_t)&words[Y], 8);
+    makes(1, SWAP, Y, 1, SEQUENTIAL); /* (succeeds) */
+    CHECK(orders->has_race && orders->race.kind == ATOMIC_STORE && orders->race.other_kind == PLAIN_LOAD);
+    begin();
+    words[Y] = 7;
+    loads(0, (const void *)(uintptr_t)&words[Y], 8);
+    makes(1, SWAP, Y, 1, SEQUENTIAL); /* (fails) */
+    CHECK(!orders->has_race);
+    begin();
+    words[Y] = 7;
+    stores(0, (const void *)(uintptr_t)&words[Y], 8);
+    makes(1, SWAP, Y, 1, SEQUENTIAL);
     CHECK(orders->has_race && orders->race.kind == ATOMIC_LOAD && orders->race.other_kind == PLAIN_STORE);
     begin();
     makes(1, READ, Y, 0, RELAXED);
@@ -149,6 +196,121 @@ static void check_unmarked(void)
         words[X] = 0;
         CHECK(makes(1, READ, X, 0, RELAXED) == 0 && orders->unseen[UNMARKED_STORE] == 0);
     }
+}
+
+/* A thread that loads again and again gets the newest value in the end. */
+static void check_stale_end(void)
+{
+    for (unsigned i = 0; i < 1000; i++) {
+        begin();
+        makes(0, WRITE, X, 1, RELAXED);
+        unsigned stale = 0;
+        while (stale <= MOST_STALE && makes(1, READ, X, 0, RELAXED) == 0)
+            stale++;
+        CHECK(stale <= MOST_STALE);
+    }
+}
+
+enum { AROUND = 2, MOST_BYTES = (FEW_WORDS + MOST_WORDS) * WORD_BYTES };
+static uint64_t block[AROUND + MOST_BYTES / WORD_BYTES];
+
+/* Whether a word of the block has a history. */
+static bool has_history(size_t word)
+{
+    return look_up(orders, (uintptr_t)&block[word], WORD_BYTES);
+}
+
+/* Of bytes that are given back, or stored by code that isn't marked, histories and plain accesses end, and of none beside. */
+static void check_blocks(void)
+{
+    static const size_t sizes[] = {1, 2, 3, FEW_WORDS, FEW_WORDS + 1, MOST_WORDS, MOST_WORDS + 1, MOST_BYTES / WORD_BYTES};
+    for (unsigned i = 0; i < 2 * sizeof sizes / sizeof sizes[0]; i++) {
+        size_t size = sizes[i / 2];
+        begin();
+        for (size_t k = 0; k < size + AROUND; k++) {
+            tmwatch_access it = {orders, 0, block, &block[k], WORD_BYTES, RELAXED};
+            tmwatch_orders_load(&it);
+            stores(0, &block[k], i % 2 == 0 ? WORD_BYTES : 0);
+            tmwatch_orders_load(&it);
+        }
+        if (i % 2 == 0)
+            tmwatch_orders_forget(orders, block + 1, size * WORD_BYTES);
+        else
+            stores(0, block + 1, size * WORD_BYTES);
+        CHECK(has_history(0) && has_history(size + 1));
+        for (size_t k = 1; k <= size; k++)
+            CHECK(!has_history(k));
+        if (i % 2 == 1)
+            continue;
+        for (size_t k = 1; k <= size; k++)
+            loads(1, &block[k], WORD_BYTES);
+        CHECK(!orders->has_race);
+        loads(1, &block[i % 4 == 0 ? 0 : size + 1], WORD_BYTES);
+        CHECK(orders->has_race);
+    }
+}
+
+/* Each byte of a word has its own history, and each size its own value. */
+static void check_bytes(void)
+{
+    begin();
+    words[X] = 0x8877665544332211;
+    tmwatch_access one = {orders, 0, words, (const volatile uint8_t *)words + 1, 1, RELAXED};
+    tmwatch_access two = {orders, 0, words, (const volatile uint8_t *)words + 2, 2, RELAXED};
+    tmwatch_access four = {orders, 0, words, (const volatile uint8_t *)words + 4, 4, RELAXED};
+    CHECK(tmwatch_orders_load(&one) == 0x22 && tmwatch_orders_load(&two) == 0x4433 && tmwatch_orders_load(&four) == 0x88776655);
+    CHECK(look_up(orders, (uintptr_t)one.at, 1) && look_up(orders, (uintptr_t)two.at, 2) && look_up(orders, (uintptr_t)four.at, 4));
+    makes(1, READ, X, 0, RELAXED);
+    CHECK(!look_up(orders, (uintptr_t)one.at, 1) && !look_up(orders, (uintptr_t)two.at, 2) && !look_up(orders, (uintptr_t)four.at, 4));
+}
+
+/* Makes sequentially consistent operations that the thread's next ones follow, until those before them are no longer told apart. */
+static void pass_by(unsigned thread)
+{
+    for (unsigned i = 0; i < MOST_SEQUENTIAL; i++)
+        makes(thread, READ, X, 0, SEQUENTIAL);
+}
+
+/* Sequentially consistent operations that are no longer told apart, or whose history has ended, come before those that follow. */
+static void check_past(void)
+{
+    for (unsigned i = 0; i < 1000; i++) {
+        begin();
+        makes(2, WRITE, Y, 1, SEQUENTIAL);
+        while (makes(0, READ, Y, 0, SEQUENTIAL) == 0)
+            ;
+        makes(0, WRITE, Z, 1, SEQUENTIAL);
+        pass_by(0);
+        makes(1, WRITE, Z, 2, SEQUENTIAL);
+        CHECK(words[Z] == 1 || makes(1, READ, Y, 0, SEQUENTIAL) == 1);
+        begin();
+        makes(0, WRITE, Y, 1, SEQUENTIAL);
+        makes(0, WRITE, X, 1, SEQUENTIAL);
+        tmwatch_access half = {orders, 2, words, words, 4, RELAXED};
+        tmwatch_orders_load(&half);
+        makes(1, WRITE, X, 2, SEQUENTIAL);
+        CHECK(makes(1, READ, Y, 0, SEQUENTIAL) == 1);
+        begin();
+        makes(0, WRITE, Y, 1, SEQUENTIAL);
+        makes(0, WRITE, X, 1, SEQUENTIAL);
+        words[X] = 7;
+        makes(1, WRITE, X, 2, SEQUENTIAL);
+        CHECK(makes(1, READ, Y, 0, SEQUENTIAL) == 1);
+    }
+}
+
+/* Those of an object that is no more come before nothing. */
+static void check_no_past(void)
+{
+    unsigned stale = 0;
+    for (unsigned i = 0; i < 1000; i++) {
+        begin();
+        makes(0, WRITE, X, 1, SEQUENTIAL);
+        makes(0, WRITE, Z, 1, SEQUENTIAL);
+        tmwatch_orders_forget(orders, &words[Z], sizeof words[Z]);
+        stale += makes(1, READ, X, 0, SEQUENTIAL) == 0;
+    }
+    CHECK(stale > 0);
 }
 
 /* Accesses of other sizes of the same bytes see what memory holds. */
@@ -238,11 +400,16 @@ static void check_locks(void)
 
 int main(void)
 {
-    orders = tmwatch_orders_new(5, &recorded);
+    orders = tmwatch_orders_new(5, &recorded, NULL);
     check_races();
     check_ordered();
     check_atomic();
     check_unmarked();
+    check_stale_end();
+    check_blocks();
+    check_bytes();
+    check_past();
+    check_no_past();
     check_sizes();
     check_halves();
     check_full();

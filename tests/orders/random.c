@@ -101,21 +101,10 @@ static bool take_orders(const tmwatch_simulation *orders, struct execution *x)
     return true;
 }
 
-static void print_run(unsigned long run, const struct execution *x, const char *wrong)
-{
-    static const char *const names[] = {"", "R", "W", "RMW", "", "", "F", "begins", "ends", "lock", "share", "unlock"};
-    printf("run %lu breaks an axiom: %s\n", run, wrong);
-    for (unsigned i = 0; i < x->count; i++) {
-        const struct event *it = &x->events[i];
-        printf("%2u thread %u %s word %u order %d from %u place %u\n", i + 1, it->thread, names[it->kind], it->word, it->order, it->from,
-               it->place);
-    }
-}
-
 int main(int count, char **given)
 {
     unsigned long runs = count > 1 ? strtoul(given[1], NULL, 10) : 100000;
-    tmwatch_simulation *orders = tmwatch_orders_new(count > 2 ? strtoul(given[2], NULL, 10) : 7, &recorded);
+    tmwatch_simulation *orders = tmwatch_orders_new(count > 2 ? strtoul(given[2], NULL, 10) : 7, &recorded, NULL);
     struct seen seen = {0, 0, 0, 0, 0};
     for (unsigned long k = 0; k < runs; k++) {
         struct execution x = {0, {{0}}};
@@ -126,7 +115,8 @@ int main(int count, char **given)
             make_next(orders, &x, draw_below(&orders->draws, threads), &seen);
         const char *wrong = take_orders(orders, &x) ? broken_axiom(&x) : NULL;
         if (wrong) {
-            print_run(k, &x, wrong);
+            printf("run %lu breaks an axiom: %s\n", k, wrong);
+            print_execution(&x);
             return 1;
         }
     }

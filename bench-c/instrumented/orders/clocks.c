@@ -1,22 +1,32 @@
 /* Clocks: what a thread knows of all others, and what is drawn. */
 
-enum { THREADS = 8, SEQUENCE = THREADS, CLOCKS };
+enum { THREADS = 8 };
 enum { RELAXED = __ATOMIC_RELAXED, RELEASE = __ATOMIC_RELEASE, SEQUENTIAL = __ATOMIC_SEQ_CST };
 
-/* How many steps of each thread are known, and how many sequentially consistent operations. */
+/* A step of each thread, the first of which is 1; or 0. */
 struct clock {
-    uint32_t at[CLOCKS];
+    uint32_t at[THREADS];
 };
 
-/* What a thread knows; what an acquire fence adds to that; and what a relaxed store releases, since a release fence. */
+/* Up to which steps a thread knows all; what an acquire fence adds to that; and what a relaxed store releases, since a release fence. And of
+   each thread the last sequentially consistent fence that it knows, as looked up when it knew so much. */
 struct view {
-    struct clock knows, loaded, fenced;
+    struct clock knows, loaded, fenced, fences, looked_up;
 };
 
 static void join(struct clock *to, const struct clock *of)
 {
-    for (unsigned i = 0; i < CLOCKS; i++)
+    for (unsigned i = 0; i < THREADS; i++)
         to->at[i] = to->at[i] > of->at[i] ? to->at[i] : of->at[i];
+}
+
+/* Whether one of these steps is among those up to the others. */
+static bool is_within(const struct clock *steps, const struct clock *up_to)
+{
+    unsigned found = 0;
+    for (unsigned i = 0; i < THREADS; i++)
+        found |= steps->at[i] - 1 < up_to->at[i]; /* (0 - 1 is more than any) */
+    return found;
 }
 
 /* Consume is acquire. */
@@ -30,6 +40,7 @@ static bool releases(int order)
     return order >= RELEASE;
 }
 
+#ifndef draw_below /* or a test makes each choice */
 /* A number below `below` (Steele, Lea and Flood, OOPSLA 2014). */
 static uint32_t draw_below(uint64_t *draws, uint32_t below)
 {
@@ -38,3 +49,4 @@ static uint32_t draw_below(uint64_t *draws, uint32_t below)
     word = (word ^ word >> 27) * 0x94D049BB133111EB;
     return (uint32_t)((word >> 32) * below >> 32);
 }
+#endif

@@ -40,6 +40,16 @@ static uint64_t count_same(const tmwatch_simulation *o, const struct deviation *
     return count;
 }
 
+/* Tells what was read of a thread before, between these texts. */
+static void tell_met(const struct met *it, FILE *file, const char *before, const char *after)
+{
+    fprintf(file, "%sthough it has read, at ", before);
+    print_place(file, it->loaded);
+    fputs(", what that thread stored later, at ", file);
+    print_place(file, it->stored);
+    fputs(after, file);
+}
+
 /* Tells one, and how many others are like it. */
 static void tell_deviation(const struct deviation *it, uint64_t count, FILE *file)
 {
@@ -51,13 +61,8 @@ static void tell_deviation(const struct deviation *it, uint64_t count, FILE *fil
     if (it->newer > 1)
         fprintf(file, ", nor %u after it", (unsigned)it->newer - 1);
     fprintf(file, count > 1 ? " (and %llu like this)\n" : "\n", (unsigned long long)count - 1);
-    if (!it->met.stored)
-        return;
-    fputs("    though it has read, at ", file);
-    print_place(file, it->met.loaded);
-    fputs(", what that thread stored later, at ", file);
-    print_place(file, it->met.stored);
-    fputc('\n', file);
+    if (it->met.stored)
+        tell_met(&it->met, file, "    ", "\n");
 }
 
 void tmwatch_orders_tell(const tmwatch_simulation *o, FILE *file, uint64_t from, uint64_t to)
@@ -78,31 +83,51 @@ void tmwatch_orders_tell(const tmwatch_simulation *o, FILE *file, uint64_t from,
         fputs("which loads were stale is told if the words above are run again\n", file);
 }
 
-static const char *name_of(enum access_kind kind)
+/* Tells of two accesses, and what the second's thread has read of the first's: in so many bytes without a quote. */
+static void tell_two(const struct race *it, const struct met *met, char *text, size_t size)
 {
     static const char *const names[] = {"loads plainly", "stores plainly", "loads", "stores"};
-    return names[kind];
+    FILE *file = fmemopen(text, size - 1, "w");
+    if (!file)
+        return;
+    fprintf(file, "thread %u %s at ", it->thread, names[it->kind]);
+    print_place(file, it->caller);
+    fprintf(file, ", thread %u %s", it->other, names[it->other_kind]);
+    if (it->other_caller) {
+        fputs(" at ", file);
+        print_place(file, it->other_caller);
+    }
+    if (met)
+        tell_met(met, file, ", ", "");
+    fclose(file);
+    while ((text = strpbrk(text, "\"\\")))
+        *text = '\'';
 }
 
-void tmwatch_orders_tell_unseen(const tmwatch_simulation *o, FILE *file, bool is_wrong)
+void tmwatch_orders_tell_race(const tmwatch_simulation *o, char *text, size_t size)
+{
+    if (o->has_race)
+        tell_two(&o->race, NULL, text, size);
+}
+
+void tmwatch_orders_tell_delay(const tmwatch_delay *it, char *text, size_t size)
+{
+    const struct race two = {it->loader, it->storer, ATOMIC_LOAD, ATOMIC_STORE, it->load, it->store};
+    tell_two(&two, &(struct met){0, it->met_stored, it->met_loaded}, text, size);
+}
+
+uint64_t tmwatch_orders_tell_unseen(const tmwatch_simulation *o, FILE *file, bool is_wrong)
 {
     static const char *const unseen[] = {"code that the compiler has not marked, or a thread of the memory's own, stores to what is loaded at ",
                                          "a lock or a wait of code that the compiler has not marked, in "};
-    if (o->has_race) {
-        fprintf(file, "a race, which C++20 leaves undefined: thread %u %s at ", o->race.thread, name_of(o->race.kind));
-        print_place(file, o->race.caller);
-        fprintf(file, ", thread %u %s", o->race.other, name_of(o->race.other_kind));
-        if (o->race.other_caller) {
-            fputs(" at ", file);
-            print_place(file, o->race.other_caller);
-        }
-        fputc('\n', file);
-    }
-    for (unsigned i = 0; i < UNSEEN_KINDS && is_wrong; i++) {
-        if (o->unseen[i] == 0)
+    uint64_t kinds = 0;
+    for (unsigned i = 0; i < UNSEEN_KINDS; i++) {
+        kinds |= (uint64_t)(o->unseen[i] > 0) << i;
+        if (!is_wrong || o->unseen[i] == 0)
             continue;
         fputs(unseen[i], file);
         print_place(file, o->unseen_caller[i]);
         fputs(": what that orders is not seen, so a violation may be false\n", file);
     }
+    return kinds;
 }

@@ -2,41 +2,20 @@
 
 enum { MOST_LINE = 512 };
 
-/* Where an address lies: the file that was loaded there, and the place within that, of the call before it. */
-struct loaded {
-    uintptr_t address, place;
-    char file[MOST_LINE];
-};
-
-/* Whether this is the file in which the address lies; a callback of dl_iterate_phdr. The program itself has no name there. */
-static int is_loaded(struct dl_phdr_info *info, size_t size, void *to)
-{
-    struct loaded *it = to;
-    (void)size;
-    for (unsigned i = 0; i < info->dlpi_phnum; i++) {
-        uintptr_t from = info->dlpi_addr + info->dlpi_phdr[i].p_vaddr;
-        if (info->dlpi_phdr[i].p_type != PT_LOAD || it->address < from || it->address >= from + info->dlpi_phdr[i].p_memsz)
-            continue;
-        it->place = it->address - 1 - info->dlpi_addr;
-        snprintf(it->file, sizeof it->file, "%s", info->dlpi_name[0] ? info->dlpi_name : "/proc/self/exe");
-        return 1;
-    }
-    return 0;
-}
-
 /* Starts addr2line on an address: what it prints, and its number. The program's own name leads to another process's. */
-static FILE *start_addr2line(const struct loaded *it, pid_t *child)
+static FILE *start_addr2line(const struct found *it, pid_t *child)
 {
+    const char *name = it->name[0] ? it->name : "/proc/self/exe";
     char place[32], file[MOST_LINE];
     char *words[] = {"addr2line", "-Cife", file, place, NULL};
     posix_spawn_file_actions_t actions;
     int ends[2];
-    snprintf(place, sizeof place, "0x%llx", (unsigned long long)it->place);
-    ssize_t length = readlink(it->file, file, sizeof file - 1);
+    snprintf(place, sizeof place, "0x%llx", (unsigned long long)it->at);
+    ssize_t length = readlink(name, file, sizeof file - 1);
     if (length > 0)
         file[length] = '\0';
     else
-        snprintf(file, sizeof file, "%s", it->file);
+        snprintf(file, sizeof file, "%s", name);
     if (pipe2(ends, O_CLOEXEC) != 0)
         return NULL;
     posix_spawn_file_actions_init(&actions);
@@ -72,10 +51,10 @@ static bool is_wrapper(const char *line)
 /* Prints where an address is in the program: the function and the line, or the address if these aren't known. */
 static void print_place(FILE *to, const void *address)
 {
-    struct loaded it = {(uintptr_t)address, 0, ""};
+    struct found it = {(uintptr_t)address - 1, "", false};
     char function[MOST_LINE], line[MOST_LINE] = "?";
     pid_t child;
-    if (!address || !dl_iterate_phdr(is_loaded, &it)) {
+    if (!address || !dl_iterate_phdr(find_library, &it)) {
         fputs("a place that is not known", to);
         return;
     }
@@ -88,7 +67,7 @@ static void print_place(FILE *to, const void *address)
     }
     const char *folder = strrchr(line, '/');
     if (line[0] == '?')
-        fprintf(to, "0x%llx", (unsigned long long)it.place);
+        fprintf(to, "0x%llx", (unsigned long long)it.at);
     else
         fprintf(to, "%s (%s)", folder ? folder + 1 : line, function);
 }

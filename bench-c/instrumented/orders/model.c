@@ -12,29 +12,14 @@ static struct view *next_step(tmwatch_simulation *o, unsigned thread)
     return it;
 }
 
-/* The oldest store that an access of this order may read, or after which it may store. */
-static unsigned floor_of(const tmwatch_simulation *o, const struct place *it, const struct view *view, int order)
-{
-    struct clock knows = view->knows;
-    if (order == SEQUENTIAL) {
-        join(&knows, &o->fences);
-        knows.at[SEQUENCE] = o->sequence;
-    }
-    for (unsigned i = it->count - 1; i > 0; i--)
-        for (unsigned k = 0; k < CLOCKS; k++)
-            if (it->stores[i].seen.at[k] > 0 && it->stores[i].seen.at[k] <= knows.at[k])
-                return i;
-    return 0;
-}
-
 /* The thread has read or written this store. */
 static void see(const tmwatch_access *a, struct store *it)
 {
-    tmwatch_simulation *o = a->orders;
+    uint32_t step = a->orders->views[a->thread].knows.at[a->thread];
     if (it->seen.at[a->thread] == 0)
-        it->seen.at[a->thread] = o->views[a->thread].knows.at[a->thread];
-    if (a->order == SEQUENTIAL && ++o->sequence && it->seen.at[SEQUENCE] == 0)
-        it->seen.at[SEQUENCE] = o->sequence;
+        it->seen.at[a->thread] = step;
+    if (a->order == SEQUENTIAL && it->ordered.at[a->thread] == 0)
+        it->ordered.at[a->thread] = step;
 }
 
 /* An access beside the table: as if by one that acquires and releases, whatever its order. */
@@ -44,29 +29,34 @@ static void pass(tmwatch_simulation *o, struct view *view)
     o->untracked = view->knows;
 }
 
-/* Reads a store of the place. */
-static uint64_t read_store(const tmwatch_access *a, struct place *it, unsigned found, enum deviation_kind kind)
+/* Reads a store of the place, and is about to store after it or not. */
+static uint64_t read_store(const tmwatch_access *a, struct place *it, unsigned found, bool stores)
 {
     struct view *view = &a->orders->views[a->thread];
     struct store *store = &it->stores[found];
     it->stale[a->thread] = found + 1 < it->count ? (uint8_t)(it->stale[a->thread] + 1) : 0;
-    keep_deviation(a, it, found, kind);
+    keep_deviation(a, it, found, STALE_LOAD);
     meet(a, store);
+    settle_access(a, it, found, stores);
     see(a, store);
+    follow_access(a, it, store->value, false);
     join(&view->loaded, &store->releases);
     if (acquires(a->order))
         join(&view->knows, &store->releases);
     return store->value;
 }
 
-/* Draws one of the stores from the lowest on: the newest, or by these odds any older one. */
-static unsigned draw_store(const tmwatch_access *a, const struct place *it, unsigned lowest, uint32_t odds)
+/* Draws one of the stores that an access of this order may find: the newest, or by these odds any older one. */
+static unsigned draw_store(const tmwatch_access *a, const struct place *it, int order, uint32_t odds)
 {
-    uint64_t *draws = &a->orders->draws;
+    tmwatch_simulation *o = a->orders;
+    struct view *view = &o->views[a->thread];
     unsigned newest = it->count - 1;
-    if (lowest == newest || it->stale[a->thread] >= MOST_STALE || draw_below(draws, ODDS) >= odds)
+    bool is_known = newest == 0 || is_within(&it->stores[newest].seen, &view->knows);
+    if (is_known || it->stale[a->thread] >= MOST_STALE || draw_below(&o->draws, ODDS) >= odds)
         return newest;
-    return lowest + draw_below(draws, newest - lowest);
+    unsigned lowest = floor_of(o, it, view, order);
+    return lowest == newest ? newest : lowest + draw_below(&o->draws, newest - lowest);
 }
 
 /* Whether a read-modify-write may come after this store. */
@@ -82,7 +72,7 @@ uint64_t tmwatch_orders_load(const tmwatch_access *a)
     struct place *it = find_place(a);
     look_for_race(a, a->bytes, ATOMIC_LOAD);
     if (it)
-        return read_store(a, it, draw_store(a, it, floor_of(o, it, view, a->order), o->stale), STALE_LOAD);
+        return keep_load(a, it, read_store(a, it, draw_store(a, it, a->order, o->stale), false));
     pass(o, view);
     return in_memory(a->at, a->bytes);
 }
@@ -98,23 +88,21 @@ bool tmwatch_orders_take(const tmwatch_access *a, uint64_t *held)
         pass(o, view);
         return true;
     }
-    unsigned found = draw_store(a, it, floor_of(o, it, view, a->order), o->late);
+    unsigned found = draw_store(a, it, a->order, o->late);
     o->taken_store = may_change(it, found) ? found : it->count - 1;
-    *held = read_store(a, it, o->taken_store, STALE_LOAD);
+    *held = read_store(a, it, o->taken_store, true);
     return o->taken_store + 1 == it->count;
 }
 
 /* Draws the store that a compare-and-swap reads: of an older one it may fail, or succeed if nothing has changed that. */
 static unsigned draw_compared(const tmwatch_access *a, const struct place *it, uint64_t looked_for, int failed)
 {
-    const tmwatch_simulation *o = a->orders;
-    const struct view *view = &o->views[a->thread];
-    unsigned newest = it->count - 1, to_fail = floor_of(o, it, view, failed), to_change = floor_of(o, it, view, a->order);
-    unsigned found = draw_store(a, it, to_fail < to_change ? to_fail : to_change, o->stale);
-    bool is_equal = it->stores[found].value == looked_for;
-    if (is_equal ? found >= to_change && may_change(it, found) : found >= to_fail)
-        return found;
-    return newest;
+    tmwatch_simulation *o = a->orders;
+    unsigned newest = it->count - 1, found = draw_store(a, it, failed == SEQUENTIAL ? a->order : failed, o->stale);
+    bool is_equal = it->stores[found].value == looked_for, is_changed = is_equal && !may_change(it, found);
+    if (found == newest || is_changed)
+        return newest;
+    return found < floor_of(o, it, &o->views[a->thread], is_equal ? a->order : failed) ? newest : found;
 }
 
 enum tmwatch_compared tmwatch_orders_compare(const tmwatch_access *a, uint64_t *held, int failed, bool is_weak)
@@ -136,12 +124,12 @@ enum tmwatch_compared tmwatch_orders_compare(const tmwatch_access *a, uint64_t *
     if (it->stores[found].value != looked_for || is_spurious) {
         if (is_spurious && found < floor_of(o, it, view, failed))
             found = it->count - 1;
-        *held = read_store(&to_fail, it, found, STALE_LOAD);
+        *held = read_store(&to_fail, it, found, false);
         look_for_race(a, a->bytes, ATOMIC_LOAD);
         return TMWATCH_FAILS;
     }
     o->taken_store = found;
-    read_store(a, it, found, STALE_LOAD);
+    read_store(a, it, found, true);
     return found + 1 == it->count ? TMWATCH_TAKES_NEWEST : TMWATCH_TAKES_OLDER;
 }
 
@@ -149,12 +137,16 @@ enum tmwatch_compared tmwatch_orders_compare(const tmwatch_access *a, uint64_t *
 static struct store *add_store(const tmwatch_access *a, struct place *it, unsigned at, uint64_t value)
 {
     const struct view *view = &a->orders->views[a->thread];
+    struct clock before = it->stores[at - 1].before_stores;
     struct store *store = make_room(it, at);
+    join(&before, &a->orders->made);
+    store->before_reads = store->before_stores = before;
     store->value = value;
     store->thread = (uint8_t)a->thread;
     store->caller = a->caller;
     store->releases = releases(a->order) ? view->knows : view->fenced;
     see(a, store);
+    follow_access(a, it, value, store == &it->stores[it->count - 1] && a->order != SEQUENTIAL);
     look_for_race(a, a->bytes, ATOMIC_STORE);
     return store;
 }
@@ -168,11 +160,12 @@ bool tmwatch_orders_store(const tmwatch_access *a, uint64_t value)
         pass(o, view);
         return true;
     }
-    unsigned after = draw_store(a, it, floor_of(o, it, view, a->order), o->late);
+    unsigned after = draw_store(a, it, a->order, o->late);
     while (!may_change(it, after))
         after++;
     bool is_newest = after + 1 == it->count;
     keep_deviation(a, it, after, LATE_STORE);
+    settle_access(a, it, after, true);
     add_store(a, it, after + 1, value);
     return is_newest;
 }
@@ -194,11 +187,9 @@ void tmwatch_orders_fence(const tmwatch_access *a)
     struct view *view = next_step(o, a->thread);
     if (acquires(a->order))
         join(&view->knows, &view->loaded);
-    if (a->order == SEQUENTIAL) {
-        join(&view->knows, &o->fences);
-        view->knows.at[SEQUENCE] = ++o->sequence;
-        o->fences = view->knows;
-    }
+    follow_fence(a);
+    if (a->order == SEQUENTIAL)
+        settle_fence(o, a->thread);
     if (releases(a->order))
         view->fenced = view->knows;
 }
@@ -207,10 +198,9 @@ void tmwatch_orders_fence(const tmwatch_access *a)
 static void forget_places(tmwatch_simulation *o, uintptr_t at, size_t bytes)
 {
     uintptr_t end = at + bytes;
-    struct clock released = {{0}};
     if (bytes <= (size_t)FEW_WORDS * WORD_BYTES)
         for (uintptr_t word = at; word < end; word = (word | (WORD_BYTES - 1)) + 1)
-            drop_places(o, word, end - word, &released);
+            drop_places(o, word, end - word, NULL);
     else
         for (unsigned i = 0; i < o->used; i++)
             if (o->places[i].at < end && at < o->places[i].at + o->places[i].bytes)
@@ -253,6 +243,7 @@ void tmwatch_orders_wide(const tmwatch_access *a)
 
 void tmwatch_orders_begins(tmwatch_simulation *o, unsigned thread)
 {
+    follow_fence(&(tmwatch_access){.orders = o, .thread = thread, .order = __ATOMIC_ACQUIRE});
     join(&o->views[thread].knows, &o->ended);
 }
 
@@ -285,13 +276,19 @@ void tmwatch_orders_futex(tmwatch_simulation *o, const volatile void *word, cons
         meet_unseen(o, UNMARKED_LOCK, caller);
 }
 
-tmwatch_simulation *tmwatch_orders_new(uint64_t seed, const atomic_uint_least64_t *recorded)
+void tmwatch_orders_still(tmwatch_simulation *o)
+{
+    o->stale = o->late = 0;
+}
+
+tmwatch_simulation *tmwatch_orders_new(uint64_t seed, const atomic_uint_least64_t *recorded, tmwatch_delays *delays)
 {
     tmwatch_simulation *o = calloc(1, sizeof *o);
     if (!o)
         return NULL;
     o->draws = seed;
     o->recorded = recorded;
+    o->delays = delays;
     tmwatch_orders_round(o);
     return o;
 }
@@ -306,6 +303,8 @@ void tmwatch_orders_round(tmwatch_simulation *o)
     static const uint8_t stale_odds[] = {2, 8, 8, 14};
     memset(o, 0, offsetof(tmwatch_simulation, locks));
     o->round++;
+    if (o->round > FOLLOWED_ROUNDS)
+        o->delays = NULL;
     o->stale = stale_odds[draw_below(&o->draws, sizeof stale_odds)];
     o->late = draw_below(&o->draws, 2) == 0 ? 0 : LATE_ODDS;
 }

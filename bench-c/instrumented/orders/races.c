@@ -43,7 +43,7 @@ static void keep_race(const tmwatch_access *a, enum access_kind kind, unsigned o
 static void look_at_plain(const tmwatch_access *a, const struct cell *it, uint8_t bytes, enum access_kind kind, enum access_kind other)
 {
     unsigned threads = is_store(kind) || is_store(other) ? it->threads[other] & ~(1u << a->thread) : 0;
-    for (unsigned i = 0; threads >> i > 0; i++) {
+    for (unsigned i = 0; i < THREADS; i++) {
         const struct last *last = &it->last[other][i];
         if (threads >> i & 1 && last->bytes & bytes && !is_known(a, i, last->step))
             keep_race(a, kind, i, other, last->caller);

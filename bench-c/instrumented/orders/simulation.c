@@ -1,24 +1,38 @@
 /* Places: what is accessed atomically, each with its last stores. */
 
-enum { MOST_STORES = 16, MOST_PLACES = 1024, MOST_LOCKS = 64, CELL_BITS = 12, CELLS = 1 << CELL_BITS, KEPT_DEVIATIONS = 1 << 15 };
+enum { MOST_STORES = 16, MOST_SEQUENTIAL = 32, MOST_PLACES = 1024, MOST_LOCKS = 64, MOST_LOADS = 1024, KEPT_DEVIATIONS = 1 << 15 };
+enum { CELL_BITS = 12, CELLS = 1 << CELL_BITS };
 /* No place lies in two words of eight bytes, each of which has a list. So many words at most are looked for one by one. */
 enum { WORD_BITS = 3, WORD_BYTES = 1 << WORD_BITS, HEAD_BITS = 11, HEADS = 1 << HEAD_BITS, FEW_WORDS = 16 };
 static const uint64_t apart_words = 0x9E3779B97F4A7C15;
 
-/* A store: what an acquire that reads it gets to know; and at which step each thread has first read or written it, or 0. So who knows that
-   step reads no older one. The last of these is the first sequentially consistent operation that has. */
+/* A store: what an acquire that reads it gets to know; and at which step each thread has first read or written it, also by a sequentially
+   consistent operation. So who knows that step, or comes after that operation, reads no older one. And the last operations of that kind that
+   come before who reads it, and before who stores after it. */
 struct store {
     uint64_t value;
-    struct clock releases, seen;
+    struct clock releases, seen, ordered, before_reads, before_stores;
     bool is_change; /* a read-modify-write, of the store before it: none comes between */
     uint8_t thread;
     const void *caller; /* where it was made, or null: it was there before */
+};
+
+/* What comes before a point of the order of sequentially consistent operations: each thread's last, and what the fences among them know. */
+struct past {
+    struct clock last, known;
+};
+
+/* Such an operation of a thread: its step, that of the thread's last fence, if there was one, and its past, itself included. */
+struct sequential {
+    uint32_t step, fence;
+    struct past past;
 };
 
 /* The newest store is the last. */
 struct place {
     uintptr_t at;
     unsigned bytes, count; /* 0 bytes: none is here */
+    uint32_t number;       /* of the round's histories */
     uint16_t next;
     uint8_t stale[THREADS]; /* how many loads in a row a thread had that weren't of the newest */
     struct store stores[MOST_STORES];
@@ -34,7 +48,7 @@ struct lock {
 /* What orders threads and isn't simulated. */
 enum unseen { UNMARKED_STORE, UNMARKED_LOCK, UNSEEN_KINDS };
 
-enum deviation_kind { STALE_LOAD, LATE_STORE, LATE_CHANGE };
+enum deviation_kind { STALE_LOAD, LATE_STORE };
 
 /* The last store of another thread that a thread has read: at which step of the other it was made, where, and where it was loaded. */
 struct met {
@@ -73,18 +87,34 @@ struct race {
     const void *caller, *other_caller;
 };
 
+/* A relaxed load of a round: what it has returned, which one it is, at which step of its thread, in which history, and where. Whether a read
+   has answered so, whether nothing that is stored later may be returned any more, and whether that is returned, by a second run. */
+struct load {
+    uint64_t value;
+    uint32_t index, step, place;
+    unsigned thread;
+    const void *caller;
+    bool answers, is_closed, is_made;
+};
+
 struct tmwatch_simulation {
-    /* Of a round: what threads know; what transactions that have ended, fences of sequential consistency and accesses beside the table
-       have made known; how many operations of sequential consistency there were; the odds. */
+    /* Of a round: what threads know; what transactions that have ended and accesses beside the table have made known; each thread's first
+       sequentially consistent fence, what comes before all that follows, and how many operations of each thread are kept; the odds. */
     struct view views[THREADS];
-    struct clock ended, fences, untracked;
+    struct clock ended, untracked;
     struct met met[THREADS][THREADS];
-    uint32_t sequence, stale, late;
-    unsigned used, locks_used;
+    struct clock fences;
+    struct past past;
+    unsigned operations_used[THREADS];
+    uint32_t stale, late;
+    unsigned used, locks_used, loads_used;
+    uint32_t histories, loads_made;
     uint16_t heads[HEADS];
     /* Of all rounds. */
     struct lock locks[MOST_LOCKS];
     struct place places[MOST_PLACES];
+    struct sequential operations[THREADS][MOST_SEQUENTIAL];
+    struct clock made; /* the last sequentially consistent operations that come before who comes after this access */
     struct place *taken; /* of the read-modify-write that is under way: its place, or null, and which store it has read */
     unsigned taken_store;
     uint64_t draws, deviated, unseen[UNSEEN_KINDS];
@@ -93,22 +123,19 @@ struct tmwatch_simulation {
     const void *unseen_caller[UNSEEN_KINDS];
     bool has_race;
     struct race race;
+    tmwatch_delays *delays; /* or null: none is looked for */
+    uint64_t accesses;      /* a hash of all that were made */
+    struct load loads[MOST_LOADS];
     struct cell cells[CELLS];
     struct deviation deviations[KEPT_DEVIATIONS];
 };
 
 static uint64_t in_memory(const volatile void *at, unsigned bytes)
 {
-    switch (bytes) {
-    case 1:
-        return __atomic_load_n((const volatile uint8_t *)at, RELAXED);
-    case 2:
-        return __atomic_load_n((const volatile uint16_t *)at, RELAXED);
-    case 4:
-        return __atomic_load_n((const volatile uint32_t *)at, RELAXED);
-    default:
-        return __atomic_load_n((const volatile uint64_t *)at, RELAXED);
-    }
+    return bytes == 1   ? __atomic_load_n((const volatile uint8_t *)at, RELAXED)
+           : bytes == 2 ? __atomic_load_n((const volatile uint16_t *)at, RELAXED)
+           : bytes == 4 ? __atomic_load_n((const volatile uint32_t *)at, RELAXED)
+                        : __atomic_load_n((const volatile uint64_t *)at, RELAXED);
 }
 
 static uint16_t *head_of(tmwatch_simulation *o, uintptr_t at)
@@ -116,7 +143,10 @@ static uint16_t *head_of(tmwatch_simulation *o, uintptr_t at)
     return &o->heads[(at >> WORD_BITS) * apart_words >> (64 - HEAD_BITS)];
 }
 
-/* Empties those that overlap these bytes of one word, and adds to *released what their stores have released: the last of them, or none. */
+static void end_history(tmwatch_simulation *o, const struct place *it);
+
+/* Empties those that overlap these bytes of one word: the last of them, or none. What their stores have released is added to *released; or
+   that is null, since these bytes are another object's now. */
 static struct place *drop_places(tmwatch_simulation *o, uintptr_t at, size_t bytes, struct clock *released)
 {
     struct place *found = NULL;
@@ -124,8 +154,10 @@ static struct place *drop_places(tmwatch_simulation *o, uintptr_t at, size_t byt
         struct place *it = &o->places[i - 1];
         if (it->at >> WORD_BITS != at >> WORD_BITS || (it->bytes > 0 && (it->at >= at + bytes || at >= it->at + it->bytes)))
             continue;
-        for (unsigned k = 0; it->bytes > 0 && (k == 0 || k < it->count); k++)
+        for (unsigned k = 0; released && it->bytes > 0 && (k == 0 || k < it->count); k++)
             join(released, &it->stores[k].releases);
+        if (released)
+            end_history(o, it);
         it->bytes = 0;
         found = it;
     }
@@ -149,6 +181,7 @@ static struct place *add_place(tmwatch_simulation *o, uintptr_t at, unsigned byt
     it->at = at;
     it->bytes = bytes;
     it->count = 0;
+    it->number = ++o->histories;
     it->stores[0].releases = released;
     return it;
 }
@@ -182,6 +215,7 @@ static struct place *find_place(const tmwatch_access *a)
         return it;
     if (it->count > 0)
         meet_unseen(o, UNMARKED_STORE, a->caller);
+    end_history(o, it);
     memset(it->stale, 0, sizeof it->stale);
     it->stores[0] = (struct store){.value = newest, .releases = it->count > 0 ? (struct clock){{0}} : it->stores[0].releases};
     it->count = 1;
@@ -208,10 +242,7 @@ static struct lock *find_lock(tmwatch_simulation *o, const volatile void *at)
     unsigned i = 0;
     while (i < o->locks_used && o->locks[i].at != at)
         i++;
-    if (i == o->locks_used) {
-        if (i == MOST_LOCKS - 1)
-            return &o->locks[i];
+    if (i == o->locks_used && i < MOST_LOCKS - 1)
         o->locks[o->locks_used++] = (struct lock){.at = at};
-    }
     return &o->locks[i];
 }

@@ -117,6 +117,8 @@ pub struct Plan {
     pub blinds: u64,
     /// With `round`: `tmwatch_break` is called before this event of the round instead. 0: before the round.
     pub event: u64,
+    /// Whether a race on plain data is wrong, as a violation is.
+    pub races: bool,
 }
 
 impl Default for Plan {
@@ -143,6 +145,7 @@ impl Default for Plan {
             plain: false,
             blinds: DRAWN,
             event: 0,
+            races: false,
         }
     }
 }
@@ -175,8 +178,15 @@ pub struct Benched {
     /// By steps: which event of its round the wrong one is, from 1 on; 0 if none is.
     pub event: u64,
     /// By the orders of C++20, lines: which loads of a violated round did not return the newest value, where in the program, and which
-    /// stores they missed; the first race on plain data; what is not seen.
+    /// stores they missed; what is not seen.
     pub shown: String,
+    /// By the orders of C++20, if all that orders threads is seen: the first race on plain data, and where it is; or empty.
+    pub race: String,
+    /// By the orders of C++20, if nothing is wrong: a load that may be delayed past later stores, so that the run would be violated, and
+    /// where it is; or empty.
+    pub delayed: String,
+    /// What was met that may order threads and is not seen: 1 stores, 2 locks, 4 waits, 8 blocks, as the header says; or their sum.
+    pub unseen: u64,
     /// The run's end, for `tmwatch show`, if the plan asked for it.
     pub trace: Option<String>,
 }
@@ -356,12 +366,33 @@ pub(crate) unsafe fn run_table(table: &ffi::Memory, plan: &Plan) -> Result<Bench
     let benched: ffi::Benched = unsafe { benched.assume_init() };
     let again = words_of(&benched.again)?;
     // SAFETY: the bench has ended these bytes by a 0.
-    let shown = unsafe { CStr::from_ptr(benched.shown.as_ptr()) }.to_string_lossy().into_owned();
+    let [shown, race, delayed] = unsafe {
+        [benched.shown.as_ptr(), benched.race.as_ptr(), benched.delayed.as_ptr()]
+            .map(|it| CStr::from_ptr(it).to_string_lossy().into_owned())
+    };
     // (there are no words for a start)
     let is_certain = benched.is_certain && plan.start == [0; 8];
-    let ffi::Benched { told, counts, rounds, from, foreign, stores, steps, switches, rescues, event, .. } = benched;
+    let ffi::Benched { told, counts, rounds, from, foreign, stores, steps, switches, rescues, event, unseen, .. } = benched;
     let (told, trace) = (told.into(), trace?);
-    Ok(Benched { told, counts, rounds, from, foreign, stores, steps, switches, rescues, again, is_certain, event, shown, trace })
+    Ok(Benched {
+        told,
+        counts,
+        rounds,
+        from,
+        foreign,
+        stores,
+        steps,
+        switches,
+        rescues,
+        again,
+        is_certain,
+        event,
+        shown,
+        race,
+        delayed,
+        unseen,
+        trace,
+    })
 }
 
 impl Plan {
@@ -393,6 +424,10 @@ impl Plan {
             event: self.event,
             legs: null_mut(),
             listing: null_mut(),
+            races: u64::from(self.races),
+            small: 0,
+            goes_on: 0,
+            crashes: 0,
         }
     }
 }

@@ -75,10 +75,15 @@ pub struct Plan {
     pub event: u64,
     pub legs: *mut c_void,
     pub listing: *mut c_void,
+    pub races: u64,
+    pub small: u64,
+    pub goes_on: u64,
+    pub crashes: u64,
 }
 
-/// How many bytes tell what the orders of C++20 have shown.
+/// How many bytes tell what the orders of C++20 have shown, and a race or a delayed load.
 pub const MOST_SHOWN: usize = 4096;
+pub const MOST_RACE: usize = 1024;
 
 #[repr(C)]
 pub struct Benched {
@@ -91,13 +96,17 @@ pub struct Benched {
     pub steps: u64,
     pub switches: u64,
     pub rescues: u64,
+    pub waits: u64,
+    pub crashes: u64,
     pub again: Plan,
     pub is_certain: bool,
     pub event: u64,
     pub rejected: u64,
     pub leg: Plan,
-    pub is_undelayed: bool,
+    pub unseen: u64,
+    pub race: [c_char; MOST_RACE],
     pub shown: [c_char; MOST_SHOWN],
+    pub delayed: [c_char; MOST_RACE],
 }
 
 extern "C" {
@@ -159,11 +168,11 @@ mod tests {
         layout!(to, Memory, "tmwatch_memory", memory tx_size begin read write add commit abort run);
         layout!(
             to, Plan, "tmwatch_plan", rounds seed threads registers calls attempts writes adds aborts pause seconds schedule start trace
-            mixes round orders plain patience progress blinds event legs listing
+            mixes round orders plain patience progress blinds event legs listing races small goes_on crashes
         );
         layout!(
-            to, Benched, "tmwatch_benched", told counts rounds from foreign stores steps switches rescues again is_certain event rejected
-            leg is_undelayed shown
+            to, Benched, "tmwatch_benched", told counts rounds from foreign stores steps switches rescues waits crashes again is_certain event
+            rejected leg unseen race shown delayed
         );
         to
     }
@@ -203,6 +212,7 @@ mod tests {
             ("plain", u64::from(plan.plain)),
             ("blinds", plan.blinds),
             ("event", plan.event),
+            ("races", u64::from(plan.races)),
         ] {
             same(&format!("plan.{name}"), number);
         }

@@ -85,13 +85,15 @@ impl fmt::Display for Status {
 
 impl std::error::Error for Status {}
 
-/// Which bound was passed.
+/// Which bound was passed, or what else leaves the verdict open.
 #[derive(Clone, Copy, Debug, PartialEq, Eq, Hash)]
 pub enum Why {
     /// More transactions than `window` since the last moment at which all had ended.
     Transactions,
     /// More states than `states` that the registers may hold at such a moment.
     States,
+    /// On the bench: violated by the orders of x86 or C++20, which what the bench has not seen may forbid.
+    Unseen,
 }
 
 /// What a watch says of the events that it has judged. `at` is the length of a prefix.
@@ -119,7 +121,11 @@ pub struct Told {
 impl From<ffi::Told> for Told {
     fn from(told: ffi::Told) -> Told {
         let at = told.at;
-        let why = if told.why == 1 { Why::Transactions } else { Why::States };
+        let why = match told.why {
+            1 => Why::Transactions,
+            2 => Why::States,
+            _ => Why::Unseen,
+        };
         let verdict = match told.verdict {
             0 => Verdict::OpaqueSoFar,
             1 => Verdict::Violated { at },
@@ -165,6 +171,7 @@ mod tests {
         assert_eq!(told(1, 0), Verdict::Violated { at: 7 });
         assert_eq!(told(2, 1), Verdict::Undecided { at: 7, why: Why::Transactions });
         assert_eq!(told(2, 2), Verdict::Undecided { at: 7, why: Why::States });
+        assert_eq!(told(2, 3), Verdict::Undecided { at: 7, why: Why::Unseen });
         assert_eq!(told(3, 0), Verdict::Malformed { at: 7 });
     }
 }

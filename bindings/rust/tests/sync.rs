@@ -161,8 +161,8 @@ struct Locked<G> {
     before: Vec<(usize, u64)>,
 }
 
-/// A lock, and whether it is one that the bench sees.
-trait Lock: Default + Sync {
+/// A lock of a memory.
+trait Lock: Sync {
     type Guard<'l>
     where
         Self: 'l;
@@ -176,22 +176,132 @@ impl Lock for Mutex<()> {
     }
 }
 
-/// A lock whose orders are too weak.
-#[derive(Default)]
-struct Spin(AtomicBool);
-struct SpinGuard<'l>(&'l AtomicBool);
+/// A mutex that is only tried.
+struct Tried(Mutex<()>);
+
+impl Lock for Tried {
+    type Guard<'l> = tmwatch::sync::MutexGuard<'l, ()>;
+    fn lock(&self) -> Self::Guard<'_> {
+        loop {
+            if let Ok(guard) = self.0.try_lock() {
+                return guard;
+            }
+        }
+    }
+}
+
+/// How a word of a lock is taken or returned, or its number is waited for: a method, by an order.
+type By = (&'static str, Ordering);
+
+/// A lock by an atomic: a word that is 0 while it is free, or 1 if taking it makes it less, or the number whose turn it is.
+struct Spin {
+    taken: By,
+    given: By,
+    word: AtomicU64,
+    tickets: AtomicU64,
+}
+struct SpinGuard<'l>(&'l Spin);
+
+const SMALLER: [&str; 2] = ["and", "min"];
+const WAITS: [&str; 4] = ["load", "failed exchange", "failed weak exchange", "failed update"];
+
+impl Spin {
+    fn new(taken: By, given: By) -> Self {
+        Spin { taken, given, word: AtomicU64::new(SMALLER.contains(&taken.0).into()), tickets: AtomicU64::new(0) }
+    }
+
+    /// Changes the word by this method, or leaves it: returns what it was, if that is known.
+    fn change(&self, (method, order): By, held: u64, value: u64) -> Result<u64, u64> {
+        let word = &self.word;
+        Ok(match method {
+            "exchange" => return word.compare_exchange(held, value, order, Relaxed),
+            "weak exchange" => return word.compare_exchange_weak(held, value, order, Relaxed),
+            "update" => return word.fetch_update(order, Relaxed, |it| (it == held).then_some(value)),
+            "add" => word.fetch_add(value.wrapping_sub(held), order),
+            "sub" => word.fetch_sub(held.wrapping_sub(value), order),
+            "or" => word.fetch_or(value, order),
+            "and" => word.fetch_and(value, order),
+            "xor" => word.fetch_xor(held ^ value, order),
+            "nand" => word.fetch_nand(!value, order),
+            "max" => word.fetch_max(value, order),
+            "min" => word.fetch_min(value, order),
+            "swap" => word.swap(value, order),
+            _ => {
+                word.store(value, order);
+                held
+            }
+        })
+    }
+
+    /// The word's value, as this method sees it without a change.
+    fn see(&self, (method, order): By) -> u64 {
+        const NEVER: u64 = u64::MAX;
+        match method {
+            "load" => self.word.load(order),
+            "failed exchange" => self.word.compare_exchange(NEVER, 0, Relaxed, order).unwrap_err(),
+            "failed weak exchange" => self.word.compare_exchange_weak(NEVER, 0, Relaxed, order).unwrap_err(),
+            _ => self.word.fetch_update(Relaxed, order, |_| None).unwrap_err(),
+        }
+    }
+}
 
 impl Lock for Spin {
     type Guard<'l> = SpinGuard<'l>;
     fn lock(&self) -> SpinGuard<'_> {
-        while self.0.swap(true, Acquire) {}
-        SpinGuard(&self.0)
+        let (free, taken) = if SMALLER.contains(&self.taken.0) { (1, 0) } else { (0, u64::MAX) };
+        if WAITS.contains(&self.taken.0) {
+            let ticket = self.tickets.fetch_add(1, Relaxed);
+            while self.see(self.taken) != ticket {}
+        } else {
+            while self.change(self.taken, free, taken) != Ok(free) {}
+        }
+        SpinGuard(self)
     }
 }
 
 impl Drop for SpinGuard<'_> {
     fn drop(&mut self) {
-        self.0.store(false, Relaxed);
+        let Spin { taken, given, word, .. } = self.0;
+        let held = word.load(Relaxed);
+        let free = if WAITS.contains(&taken.0) { held + 1 } else { SMALLER.contains(&taken.0).into() };
+        while self.0.change(*given, held, free) != Ok(held) {}
+    }
+}
+
+/// A lock of two threads, each of which says that it comes, and then looks whether the other does: by a method, by an order, and the order
+/// of a fence and that of the look.
+#[cfg(feature = "steps")]
+struct Polite {
+    comes: [AtomicU64; 2],
+    said: By,
+    fence: Ordering,
+    looked: Ordering,
+}
+#[cfg(feature = "steps")]
+struct PoliteGuard<'l>(&'l Polite);
+
+#[cfg(feature = "steps")]
+impl Lock for Polite {
+    type Guard<'l> = PoliteGuard<'l>;
+    fn lock(&self) -> PoliteGuard<'_> {
+        loop {
+            match self.said {
+                ("swap", order) => drop([self.comes[tmwatch::thread()].swap(1, order)]),
+                (_, order) => self.comes[tmwatch::thread()].store(1, order),
+            }
+            fence(self.fence);
+            if self.comes[1 - tmwatch::thread()].load(self.looked) == 0 {
+                return PoliteGuard(self);
+            }
+            self.comes[tmwatch::thread()].store(0, Release);
+        }
+    }
+}
+
+#[cfg(feature = "steps")]
+impl Drop for PoliteGuard<'_> {
+    fn drop(&mut self) {
+        self.0.comes[tmwatch::thread()].store(0, Release);
     }
 }
 
@@ -226,25 +336,164 @@ impl<L: Lock> Memory for Global<L> {
     }
 }
 
-fn judge<L: Lock>(orders: Orders) -> Result<tmwatch::Benched, Status> {
-    let memory = Global { lock: L::default(), words: Default::default() };
-    bench(&memory, &Plan { rounds: 2000, schedule: Schedule::Steps, orders: Some(orders), ..Plan::default() })
+fn judge<L: Lock>(lock: L, orders: Orders) -> Result<tmwatch::Benched, Status> {
+    let memory = Global { lock, words: Default::default() };
+    bench(&memory, &Plan { rounds: 1000, threads: 2, schedule: Schedule::Steps, orders: Some(orders), ..Plan::default() })
+}
+
+fn spin(orders: Orders) -> tmwatch::Benched {
+    judge(Spin::new(("swap", Acquire), ("store", Relaxed)), orders).unwrap()
 }
 
 #[test]
 fn orders_are_seen_with_the_feature_alone() {
     fence(SeqCst);
-    let right = judge::<Mutex<()>>(Orders::Cxx);
+    let right = judge(Mutex::new(()), Orders::Cxx);
     if !cfg!(feature = "steps") {
         assert_eq!(right.unwrap_err(), Status::BadBounds);
         return;
     }
-    let right = right.unwrap();
-    assert_eq!((right.told.verdict, right.rescues, right.shown.as_str()), (Verdict::OpaqueSoFar, 0, ""));
-    assert_eq!(judge::<Spin>(Orders::Sequential).unwrap().told.verdict, Verdict::OpaqueSoFar);
-    assert_eq!(judge::<Spin>(Orders::X86).unwrap().told.verdict, Verdict::OpaqueSoFar);
-    let wrong = judge::<Spin>(Orders::Cxx).unwrap();
+    for right in [right, judge(Tried(Mutex::new(())), Orders::Cxx)].map(Result::unwrap) {
+        assert_eq!((right.told.verdict, right.rescues, right.shown.as_str()), (Verdict::OpaqueSoFar, 0, ""));
+    }
+    assert_eq!(spin(Orders::Sequential).told.verdict, Verdict::OpaqueSoFar);
+    assert_eq!(spin(Orders::X86).told.verdict, Verdict::OpaqueSoFar);
+    let wrong = spin(Orders::Cxx);
     assert!(matches!(wrong.told.verdict, Verdict::Violated { .. }) && wrong.is_certain);
     assert!(wrong.again.ends_with(" --orders c++"), "{}", wrong.again);
     assert!(wrong.shown.contains("stale load"), "{}", wrong.shown);
+}
+
+/// Whether a lock orders what it guards.
+#[cfg(feature = "steps")]
+fn holds(taken: By, given: By) -> bool {
+    let verdict = judge(Spin::new(taken, given), Orders::Cxx).unwrap().told.verdict;
+    assert!(matches!(verdict, Verdict::OpaqueSoFar | Verdict::Violated { .. }), "{taken:?} {given:?} {verdict:?}");
+    verdict == Verdict::OpaqueSoFar
+}
+
+#[test]
+#[cfg(feature = "steps")]
+fn each_method_has_the_order_that_it_is_given() {
+    for method in ["swap", "exchange", "weak exchange", "update", "or", "nand", "and", "max", "min"] {
+        for (order, orders) in [(Acquire, true), (AcqRel, true), (SeqCst, true), (Release, false), (Relaxed, false)] {
+            assert_eq!(holds((method, order), ("store", Release)), orders, "taken by {method}, {order:?}");
+        }
+    }
+    for method in WAITS {
+        for (order, orders) in [(Acquire, true), (SeqCst, true), (Relaxed, false)] {
+            assert_eq!(holds((method, order), ("store", Release)), orders, "waited for by {method}, {order:?}");
+        }
+    }
+    for method in ["swap", "exchange", "weak exchange", "update", "add", "sub", "xor", "nand", "store"] {
+        for (order, orders) in [(Release, true), (AcqRel, true), (SeqCst, true), (Acquire, false), (Relaxed, false)] {
+            if method != "store" || !matches!(order, AcqRel | Acquire) {
+                assert_eq!(holds(("swap", Acquire), (method, order)), orders, "returned by {method}, {order:?}");
+            }
+        }
+    }
+}
+
+#[test]
+#[cfg(feature = "steps")]
+fn an_order_of_all_is_more_than_to_acquire_and_release() {
+    let holds = |said, fence, looked| {
+        let lock = Polite { comes: Default::default(), said, fence, looked };
+        judge(lock, Orders::Cxx).unwrap().told.verdict == Verdict::OpaqueSoFar
+    };
+    for method in ["swap", "store"] {
+        assert!(holds((method, SeqCst), Acquire, SeqCst), "{method}");
+        assert!(holds((method, Relaxed), SeqCst, Acquire), "{method}, and a fence");
+        assert!(!holds((method, SeqCst), Acquire, Acquire), "{method}, and a look that acquires");
+        assert!(!holds((method, Release), Acquire, SeqCst), "{method} that releases");
+        assert!(!holds((method, Relaxed), AcqRel, Acquire), "{method}, and a fence that acquires and releases");
+    }
+    assert!(!holds(("swap", AcqRel), Acquire, SeqCst), "swap that acquires and releases");
+}
+
+#[test]
+fn orders_that_no_access_has_are_refused() {
+    let word = AtomicU64::new(1);
+    let refusal_of = |call: &dyn Fn() -> bool| {
+        let ended = std::panic::catch_unwind(std::panic::AssertUnwindSafe(call)).err()?;
+        Some(if cfg!(feature = "steps") { *ended.downcast::<&str>().unwrap() } else { "" })
+    };
+    for order in [Relaxed, Acquire, Release, AcqRel, SeqCst] {
+        let load = matches!(order, Release | AcqRel).then_some("no load releases");
+        let store = matches!(order, Acquire | AcqRel).then_some("no store acquires");
+        let of_fence = (order == Relaxed).then_some("there is no relaxed fence");
+        let calls: [(&dyn Fn() -> bool, Option<&str>); 6] = [
+            (&|| word.load(order) == 1, load),
+            (&|| word.compare_exchange(1, 1, SeqCst, order).is_ok(), load),
+            (&|| word.compare_exchange_weak(2, 1, SeqCst, order).is_ok(), load),
+            (&|| word.fetch_update(SeqCst, order, |_| None).is_ok(), load),
+            (&|| [word.store(1, order)].is_empty(), store),
+            (&|| [fence(order)].is_empty(), of_fence),
+        ];
+        for (place, (call, said)) in calls.into_iter().enumerate() {
+            let said = said.map(|it| if cfg!(feature = "steps") { it } else { "" });
+            assert_eq!(refusal_of(call), said, "call {place}, {order:?}");
+        }
+    }
+}
+
+/// A lock over all, and atomics that threads renew before each transaction, under a lock that the bench does not see: so what another has
+/// stored in one of before may be seen for long, if it is still taken for the same.
+struct Renewed(Mutex<[u64; 8]>, std::sync::Mutex<[AtomicU64; 3]>);
+
+struct Renewing<'m> {
+    words: tmwatch::sync::MutexGuard<'m, [u64; 8]>,
+    before: [u64; 8],
+    is_seen: bool,
+}
+
+impl Renewed {
+    /// Whether each atomic has the value that it was renewed with.
+    fn is_seen(&self) -> bool {
+        let Ok(mut places) = self.1.try_lock() else { return true };
+        let is_seen = places.iter().all(|it| it.load(Relaxed) == 7);
+        places.iter().for_each(|it| it.store(8, Relaxed));
+        places.iter().for_each(|it| it.store(7, Relaxed));
+        places[0] = AtomicU64::new(7);
+        *places[1].get_mut() = 7;
+        let last = std::mem::replace(&mut places[2], AtomicU64::new(9)).into_inner();
+        *places[2].get_mut() = last;
+        is_seen
+    }
+}
+
+impl Memory for Renewed {
+    type Transaction<'m> = Renewing<'m>;
+
+    fn begin(&self) -> Result<Renewing<'_>, Aborted> {
+        let is_seen = self.is_seen();
+        let words = self.0.lock().unwrap();
+        let before = *words;
+        Ok(Renewing { words, before, is_seen })
+    }
+
+    fn read<'m>(&'m self, it: &mut Renewing<'m>, register: usize) -> Result<u64, Aborted> {
+        Ok(it.words[register] + u64::from(!it.is_seen))
+    }
+
+    fn write<'m>(&'m self, it: &mut Renewing<'m>, register: usize, value: u64) -> Result<(), Aborted> {
+        it.words[register] = value;
+        Ok(())
+    }
+
+    fn commit<'m>(&'m self, _: Renewing<'m>) -> Result<(), Aborted> {
+        Ok(())
+    }
+
+    fn abort<'m>(&'m self, mut it: Renewing<'m>) {
+        *it.words = it.before;
+    }
+}
+
+#[test]
+fn what_a_place_held_before_is_not_seen() {
+    let memory = Renewed(Mutex::new([0; 8]), std::sync::Mutex::new([7, 7, 7].map(AtomicU64::new)));
+    let orders = Some(if cfg!(feature = "steps") { Orders::Cxx } else { Orders::Sequential });
+    let benched = bench(&memory, &Plan { rounds: 200, schedule: Schedule::Steps, orders, ..Plan::default() }).unwrap();
+    assert_eq!((benched.told.verdict, benched.rescues), (Verdict::OpaqueSoFar, 0));
 }

@@ -1,6 +1,9 @@
--- A step that follows from others can be put behind them.
-use Rattle.tmw_part.proofs.Shared.{Criterion, Derives, IsTrue, List, ReasonStep, Some, State, Txn, [], ap, arith, follows, inl, inr, length, refl, slice_get, suc, take-append-le, zero, ℕ, ◌++◌, ◌<◌, ◌∷◌, ◌≡◌, ◌⊎◌}
+-- A step that follows from others can be put behind them, and is told by all.
+use Rattle.tmw_part.proofs.Shared.{Asked, DerivesIn, IsTrue, List, None, Option, ReasonStep, Some, [], and_from, and_parts, ap, arith, ends_before, eq-eqb, excludes, follows, gives, has_writer, inl, inr, is_known_rival, is_same_source, is_same_writer, length, orders, refl, slice_get, suc, take-append-le, tells, zero, ℕ, ◌++◌, ◌<◌, ◌==◌, ◌∷◌, ◌≡◌, ◌≤◌, ◌⊎◌}
 use Rattle.std.proofs.Math.Seq.{take-append_seam}
+use Rattle.tmw_part.proofs.ListFacts.{any-last, any-more}
+use Rattle.tmw_part.specs.declared.reason_step.ReasonStep.TheVariants.{ChangedFirst, From, Overwritten, ReadFirst, RealTime, Through, TooLate}
+use Rattle.tmw_part.specs.declared.reason_step.ValueSource.{ValueSource}
 
 -- a place of a list with one more
 last_or : {A : Type 0} (xs : List A) (x y : A) (i : ℕ) → slice_get (xs ++ x ∷ []) i ≡ Some y
@@ -14,11 +17,68 @@ last_or (z ∷ xs) x y (suc i) at =
       | inr last ↦ inr (ap (λ n. suc n) last.0, last.1)
     ]
 
+-- steps that are all assumed
+pub derives-assumed : (w : Asked) (steps : List ReasonStep) → DerivesIn w (length steps) steps
+derives-assumed w steps = λ i y low at. absurd (beyond steps y i low at)
+  where
+    beyond : (xs : List ReasonStep) (y : ReasonStep) (i : ℕ) → length xs ≤ i → slice_get xs i ≡ Some y → ⊥
+    beyond [] y i low at = cc
+    beyond (x ∷ xs) y zero low at = omega (arith, low)
+    beyond (x ∷ xs) y (suc i) low at = beyond xs y i (omega (arith, low)) at
+
 -- a step that follows can be added
-pub derives-push : (criterion : Criterion) (states : List State) (ts : List Txn) (steps : List ReasonStep) (x : ReasonStep)
-    → Derives criterion states ts steps → IsTrue (follows criterion states ts steps x) → Derives criterion states ts (steps ++ x ∷ [])
-derives-push criterion states ts steps x derives new = λ i y at.
+pub derives-push : (w : Asked) (assumed : ℕ) (steps : List ReasonStep) (x : ReasonStep) → DerivesIn w assumed steps
+    → IsTrue (follows w.criterion w.states w.transactions steps x) → DerivesIn w assumed (steps ++ x ∷ [])
+derives-push w assumed steps x derives new = λ i y low at.
     elim (last_or steps x y i at) [
-      | inl within ↦ rw (take-append-le i steps (x ∷ []) (omega (arith, within.0))) (derives i y within.1)
+      | inl within ↦ rw (take-append-le i steps (x ∷ []) (omega (arith, within.0))) (derives i y low within.1)
       | inr last ↦ rw (last.0, take-append_seam steps (x ∷ []), ← last.1) new
     ]
+
+ends-more : (steps : List ReasonStep) (x : ReasonStep) (a : ℕ) (w : Option ℕ) → IsTrue (ends_before steps a w) → IsTrue (ends_before (steps ++ x ∷ []) a w)
+ends-more steps x a None is = absurd (cc)
+ends-more steps x a (Some b) is = any-more (orders a b) steps x is
+
+-- what is told stays told
+pub tells-more : (steps : List ReasonStep) (x y : ReasonStep) → IsTrue (tells steps y) → IsTrue (tells (steps ++ x ∷ []) y)
+tells-more steps x (RealTime one other) is = any-more (orders one other) steps x is
+tells-more steps x (From s) is = any-more (gives s) steps x is
+tells-more steps x (TooLate s) is = any-more (excludes s) steps x is
+tells-more steps x (Overwritten s rival left) is = any-more (excludes s) steps x is
+tells-more steps x (ReadFirst s rival left) is = any-more (orders s.reader rival) steps x is
+tells-more steps x (ChangedFirst rival left s) is = ends-more steps x rival s.writer is
+tells-more steps x (Through one between other) is = any-more (orders one other) steps x is
+
+same : (n : ℕ) → IsTrue (n == n)
+same n = eq-eqb n n refl
+
+same_writers : (w : Option ℕ) → IsTrue (is_same_writer w w)
+same_writers None = refl
+same_writers (Some a) = same a
+
+itself : (s : ValueSource) → IsTrue (is_same_source s s)
+itself s =
+    and_from (s.reader == s.reader) _ (same s.reader)
+    (and_from (s.register.number == s.register.number) _ (same s.register.number)
+    (and_from (s.value == s.value) _ (same s.value) (same_writers s.writer)))
+
+writer_told : (steps : List ReasonStep) (rival left : ℕ) (s : ValueSource) (w : Option ℕ) → s.writer ≡ w → IsTrue (has_writer s)
+    → IsTrue (ends_before (steps ++ ChangedFirst rival left s ∷ []) rival w)
+writer_told steps rival left s None is has = absurd (let bad = rw is at has in cc)
+writer_told steps rival left s (Some b) is has =
+    any-last (orders rival b) steps (ChangedFirst rival left s) (and_from (rival == rival) _ (same rival) (rw is (same b)))
+
+-- and a step that follows is told once it is added
+pub tells-itself : (w : Asked) (steps : List ReasonStep) (x : ReasonStep) → IsTrue (follows w.criterion w.states w.transactions steps x)
+    → IsTrue (tells (steps ++ x ∷ []) x)
+tells-itself w steps (RealTime one other) new = any-last (orders one other) steps (RealTime one other) (and_from (one == one) _ (same one) (same other))
+tells-itself w steps (From s) new = any-last (gives s) steps (From s) (itself s)
+tells-itself w steps (TooLate s) new = any-last (excludes s) steps (TooLate s) (itself s)
+tells-itself w steps (Overwritten s rival left) new = any-last (excludes s) steps (Overwritten s rival left) (itself s)
+tells-itself w steps (ReadFirst s rival left) new =
+    any-last (orders s.reader rival) steps (ReadFirst s rival left) (and_from (s.reader == s.reader) _ (same s.reader) (same rival))
+tells-itself w steps (ChangedFirst rival left s) new =
+    let more = (and_parts (is_known_rival w.transactions steps s rival left) _ new).1 in
+    writer_told steps rival left s s.writer refl (and_parts (has_writer s) _ more).0
+tells-itself w steps (Through one between other) new =
+    any-last (orders one other) steps (Through one between other) (and_from (one == one) _ (same one) (same other))

@@ -1,4 +1,6 @@
+mod CasesProof
 mod ClosureSteps
+mod DerivationsProof
 mod EventsProof
 pub mod Fewer
 mod ListFacts
@@ -7,6 +9,7 @@ mod OrderFacts
 mod OrderValues
 mod Parts
 mod Shared
+mod StatesAt
 mod StepsProof
 mod TestProof
 mod Transactions

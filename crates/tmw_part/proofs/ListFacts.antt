@@ -1,5 +1,8 @@
--- Members and places of lists.
-use Rattle.tmw_part.proofs.Shared.{AllByRecursion, Bool, IsTrue, List, Some, [], and_parts, arith, inl, inr, length, list_all, list_any, or_cases, range_with_len, refl, slice_get, suc, take, zero, ℕ, ◌+◌, ◌<◌, ◌∷◌, ◌≡◌}
+-- Members and places of lists, and how many pass a test.
+use Rattle.tmw_part.proofs.Shared.{All, All-from_recursion, All-more, AllByRecursion, AreAmong, Bool, Contains, IfNone, IsTrue, List, None, Option, ReasonStep, Some, [], and_parts, ap, arith, cases_Bool, false, get_or, inl, inr, length, list_all, list_any, or_cases, range_with_len, refl, remove, slice_get, suc, sym, take, take_all, true, zero, ℕ, ◌++◌, ◌+◌, ◌<◌, ◌∙◌, ◌∷◌, ◌≡◌, ◌≤◌}
+use Rattle.std.specs.List.{filter, find}
+use Rattle.std.proofs.lemmas.Bool.{or_left, or_right}
+use Rattle.std.proofs.lemmas.List.Elements.{recursion_from_All}
 
 -- one that passes the test, of those of which each has P
 pub record Found {A : Type 0} (P : A → Type 0) (test : A → Bool) : Type 0 where
@@ -48,3 +51,93 @@ pub get_some : {A : Type 0} (xs : List A) (n : ℕ) → n < length xs → (x : A
 get_some [] n low = absurd (omega (arith, low))
 get_some (x ∷ xs) zero low = (x, refl)
 get_some (x ∷ xs) (suc n) low = get_some xs n (omega (arith, low))
+
+-- what each is, each is but for one that is removed
+all-remove : {A : Type 0} (P : A → Type 0) (xs : List A) (i : ℕ) → AllByRecursion P xs → AllByRecursion P (remove xs i)
+all-remove P [] zero all = tt
+all-remove P [] (suc i) all = tt
+all-remove P (x ∷ xs) zero all = all.1
+all-remove P (x ∷ xs) (suc i) all = (all.0, all-remove P xs i all.1)
+
+pub among-remove : (steps : List ReasonStep) (i : ℕ) → AreAmong steps (remove steps i)
+among-remove steps i = λ all are. All-from_recursion (Contains all) (remove steps i)
+    (all-remove (Contains all) steps i (recursion_from_All (Contains all) steps are))
+
+-- where each that passes the one test passes the other, no more pass; and fewer, where one that passes this does not pass that
+count-most : {A : Type 0} (p q : A → Bool) (xs : List A) → ((x : A) → p x ≡ true → q x ≡ true) → length (filter p xs) ≤ length (filter q xs)
+count-most p q [] most = omega arith
+count-most p q (x ∷ xs) most =
+    let rest = count-most p q xs most in
+    elim (cases_Bool (p x)) [
+      | inl is ↦ rw (is, most x is) (omega (arith, rest))
+      | inr no_p ↦ elim (cases_Bool (q x)) [
+        | inl is ↦ rw (no_p, is) (omega (arith, rest))
+        | inr no_q ↦ rw (no_p, no_q) (omega (arith, rest))
+      ]
+    ]
+
+some_same : {A : Type 0} {x y : A} → Some x ≡ Some y → x ≡ y
+some_same e = cc
+
+pub count-fewer : {A : Type 0} (p q r : A → Bool) (xs : List A) (x : A) → ((y : A) → p y ≡ true → q y ≡ true) → find r xs ≡ Some x
+    → q x ≡ true → p x ≡ false → length (filter p xs) < length (filter q xs)
+count-fewer p q r [] x most found has out = absurd (cc)
+count-fewer p q r (y ∷ xs) x most found has out =
+    elim (cases_Bool (r y)) [
+      | inl is ↦
+          let same : y ≡ x = some_same (rw is at found) in
+          let rest = count-most p q xs most in
+          let in_q : q y ≡ true = ap q same ∙ has in
+          let no_p : p y ≡ false = ap p same ∙ out in
+          rw (in_q, no_p) (omega (arith, rest))
+      | inr no_r ↦
+          let rest = count-fewer p q r xs x most (rw no_r at found) has out in
+          elim (cases_Bool (p y)) [
+            | inl is ↦ rw (is, most y is) (omega (arith, rest))
+            | inr no_p ↦ elim (cases_Bool (q y)) [
+              | inl is ↦ rw (no_p, is) (omega (arith, rest))
+              | inr no_q ↦ rw (no_p, no_q) (omega (arith, rest))
+            ]
+          ]
+    ]
+
+-- what is found passes, and is a member; where nothing is found none passes
+pub find-some : {A : Type 0} (p : A → Bool) (xs : List A) (x : A) → find p xs ≡ Some x → (p x ≡ true) × Contains xs x
+find-some p [] x found = absurd (cc)
+find-some p (y ∷ xs) x found =
+    elim (cases_Bool (p y)) [
+      | inl is ↦ let same : y ≡ x = some_same (rw is at found) in (ap p (sym same) ∙ is, (0, omega arith, same))
+      | inr no_p ↦ let (passes, (k, low, at)) = find-some p xs x (rw no_p at found) in (passes, (suc k, omega (arith, low), at))
+    ]
+
+pub find-none : {A : Type 0} (p : A → Bool) (xs : List A) → find p xs ≡ None → AllByRecursion (λ x. p x ≡ false) xs
+find-none p [] none = tt
+find-none p (y ∷ xs) none =
+    elim (cases_Bool (p y)) [
+      | inl is ↦ let bad = rw is at none in absurd (cc)
+      | inr no_p ↦ (no_p, find-none p xs (rw no_p at none))
+    ]
+
+-- where nothing is found, each of the first so many has P
+pub none-more : {A B : Type 0} (best : Option B) (P : A → Type 0) (xs : List A) (i : ℕ) (d : A) → i < length xs → IfNone best (All P (take i xs))
+    → P (get_or xs i d) → IfNone best (All P (take (i + 1) xs))
+none-more None P xs i d low all here = All-more P xs i d low all here
+none-more (Some x) P xs i d low all here = tt
+
+pub none-whole : {A B : Type 0} (best : Option B) (P : A → Type 0) (xs : List A) (i : ℕ) → length xs ≤ i → IfNone best (All P (take i xs))
+    → IfNone best (All P xs)
+none-whole None P xs i all_seen all = rw (take_all i xs all_seen) at all
+none-whole (Some x) P xs i all_seen all = tt
+
+-- one that passes the test passes among more
+pub any-more : {A : Type 0} (p : A → Bool) (xs : List A) (x : A) → IsTrue (list_any p xs) → IsTrue (list_any p (xs ++ x ∷ []))
+any-more p [] x any = absurd (cc)
+any-more p (y ∷ xs) x any =
+    elim (cases_Bool (p y)) [
+      | inl is ↦ or_left (p y) _ is
+      | inr no_p ↦ or_right (p y) _ (any-more p xs x (rw no_p at any))
+    ]
+
+pub any-last : {A : Type 0} (p : A → Bool) (xs : List A) (x : A) → IsTrue (p x) → IsTrue (list_any p (xs ++ x ∷ []))
+any-last p [] x is = or_left (p x) _ is
+any-last p (y ∷ xs) x is = or_right (p y) _ (any-last p xs x is)

@@ -1,22 +1,25 @@
 -- Steps that follow from those before them hold in each serial order, and contradict each other in none.
-use Rattle.tmw_part.proofs.Shared.{All, All-contains, All-from_recursion, AllByRecursion, Bool, Changes, ComesFrom, Committed, Contains, Criterion, Derives, ExplainsBy, HoldsIn, IsTrue, List, None, Opacity, Option, Placed, ReasonLaw, ReasonStep, Some, StandsAt, StandsBefore, StandsBeforeWriter, State, Status, Strict, Txn, [], and_from, and_parts, ap, arith, begin_apart, begins_before, cases_Bool, cases_order, comes_not_else, contradicts, ends_before, eq-eqb, eqb-true, false, follows, from_else, gives, has_place, has_writer, inl, inr, is_asked, is_before, is_committed, is_excluded, is_held, is_known_rival, is_pair, is_rival, is_same_writer, is_some_of, left_by, length, list_all, list_any, ltb-true, may_come_from, may_hold, needs, not, not-true, nothing, operations, ops_at, or_cases, orders, range_with_len, refl, slice_get, slice_index, status_of, subst, suc, supplies, sym, take, take_all, true, txn_at, writes, zero, ℕ, ◌&&◌, ◌+◌, ◌<◌, ◌==◌, ◌||◌, ◌∙◌, ◌∷◌, ◌≡◌, ◌≤◌}
-use Rattle.tmw_part.specs.declared.reason_step.ReasonStep.TheVariants.{ChangedFirst, From, ReadFirst, RealTime, Through}
+use Rattle.tmw_part.proofs.Shared.{All, All-contains, All-from_recursion, AllByRecursion, Bool, Changes, ComesFrom, ComesNot, Committed, Contains, Criterion, Derives, ExplainsBy, HoldsIn, IsTrue, List, None, Opacity, Option, Placed, ReasonLaw, ReasonStep, Some, StandsAt, StandsBefore, StandsBeforeWriter, State, Status, Strict, Txn, [], and_from, and_parts, ap, arith, begin_apart, begins_before, cases_Bool, cases_order, comes_not_else, contradicts, ends_before, eq-eqb, excludes, eqb-true, false, follows, from_else, gives, has_place, has_writer, inl, inr, is_asked, is_before, is_committed, is_held, is_known_rival, is_pair, is_rival, is_same_source, is_same_writer, is_some_of, left_by, length, list_all, list_any, ltb-true, may_come_from, may_hold, needs, not, not-true, nothing, operations, ops_at, or_cases, orders, range_with_len, refl, slice_get, slice_index, stands_between, status_of, subst, suc, supplies, sym, take, take_all, true, txn_at, writes, zero, ℕ, ◌&&◌, ◌+◌, ◌-◌, ◌<◌, ◌==◌, ◌||◌, ◌∙◌, ◌∷◌, ◌≡◌, ◌≤◌}
+use Rattle.tmw_part.specs.declared.reason_step.ReasonStep.TheVariants.{ChangedFirst, From, Overwritten, ReadFirst, RealTime, Through, TooLate}
 use Rattle.tmw_part.specs.declared.reason_step.Contradiction.{Contradiction}
 use Rattle.tmw_part.specs.declared.reason_step.Contradiction.TheVariants.{Cycle, NoSource, Unlike}
 use Rattle.tmw_part.specs.declared.reason_step.ValueSource.{ValueSource}
+use Rattle.std.proofs.lemmas.List.Elements.{recursion_from_All}
 use Rattle.std.proofs.lemmas.List.Folds.{list_any_at}
 use Rattle.std.proofs.lemmas.Option.{get_or_from_slice_get, slice_get-get_or, slice_get_within}
-use Rattle.tmw_part.proofs.ListFacts.{find_any, find_place, each_place, none_all, all-more, get_some}
+use Rattle.tmw_events.specs.declared.ix.Ix.{Ix}
+use Rattle.tmw_events.proofs.Same.{same_ix}
+use Rattle.tmw_part.proofs.ListFacts.{find_any, each_place, all-more, get_some}
 use Rattle.tmw_part.proofs.OrderFacts.{IsIn, IsSerial, apart, serial}
 use Rattle.tmw_part.proofs.OrderValues.{state_at, reads_at, length-state_at, value_at, needs_holds, reads_alike}
 
 -- what is used of transactions that begin apart, of an order of them, of the state that it begins in and of the steps that are known
-record Case (criterion : Criterion) (states : List State) (ts : List Txn) (s : State) (order : List Placed) (steps : List ReasonStep) : Type 0 where
-  begin : IsTrue (begin_apart ts)
-  start : Contains states s
-  long : length s ≡ 8
-  serial : IsSerial criterion s ts order
-  known : AllByRecursion (HoldsIn ts order) steps
+pub record Case (criterion : Criterion) (states : List State) (ts : List Txn) (s : State) (order : List Placed) (steps : List ReasonStep) : Type 0 where
+  pub begin : IsTrue (begin_apart ts)
+  pub start : Contains states s
+  pub long : length s ≡ 8
+  pub serial : IsSerial criterion s ts order
+  pub known : AllByRecursion (HoldsIn ts order) steps
 
 pub some_of : (v : ℕ) (o : Option ℕ) → IsTrue (is_some_of v o) → o ≡ Some v
 some_of v None is = absurd (cc)
@@ -69,7 +72,7 @@ changes_of ts order a r at writes =
     let same = txn_at-get ts a at.stands.placed.txn at.stands.is in
     record { placed = at.stands.placed; there = at.stands.there; held = at.held; writes = rw same at writes }
 
-abbrev IsWithin : List Txn → Option ℕ → Type 0
+abbrev pub IsWithin : List Txn → Option ℕ → Type 0
 IsWithin ts None = Unit {0}
 IsWithin ts (Some a) = a < length ts
 
@@ -77,6 +80,18 @@ pub same_writer : (v w : Option ℕ) → IsTrue (is_same_writer v w) → v ≡ w
 same_writer None None is = refl
 same_writer (Some a) (Some b) is = ap (λ x. Some x) (eqb-true a b is)
 same_writer v w is = absurd (cc)
+
+-- sources that are told apart by none of their parts are one
+pub same_source : (s t : ValueSource) → IsTrue (is_same_source s t) → s ≡ t
+same_source s t is =
+    let make : ℕ → Ix → ℕ → Option ℕ → ValueSource = λ reader q v w. record { reader = reader; register = q; value = v; writer = w } in
+    let (reader, rest) = and_parts (s.reader == t.reader) _ is in
+    let (register, more) = and_parts (s.register.number == t.register.number) _ rest in
+    let (value, writer) = and_parts (s.value == t.value) _ more in
+    ap (λ x. make x s.register s.value s.writer) (eqb-true s.reader t.reader reader)
+    ∙ ap (λ x. make t.reader x s.value s.writer) (same_ix s.register t.register (eqb-true s.register.number t.register.number register))
+    ∙ ap (λ x. make t.reader t.register x s.writer) (eqb-true s.value t.value value)
+    ∙ ap (λ x. make t.reader t.register t.value x) (same_writer s.writer t.writer writer)
 
 module _ (criterion : Criterion) (states : List State) (ts : List Txn) (start : State) (order : List Placed) (steps : List ReasonStep)
     (c : Case criterion states ts start order steps) where
@@ -106,6 +121,8 @@ module _ (criterion : Criterion) (states : List State) (ts : List Txn) (start : 
       let one : i ≡ m = stands_once a i m at first in
       let two : j ≡ k = stands_once b j k there here in
       omega (arith, low)
+  says_before a b (TooLate s) holds is = absurd (cc)
+  says_before a b (Overwritten s w left) holds is = absurd (cc)
   says_before a b (ReadFirst s w left) holds is = both a b s.reader w is holds
   says_before a b (ChangedFirst w left s) holds is =
       let (one, two) = and_parts (w == a) _ is in
@@ -165,40 +182,42 @@ module _ (criterion : Criterion) (states : List State) (ts : List Txn) (start : 
         changes = changes_of ts order a s.register.number at writes;
       }
 
-  -- a source that is excluded is none
-  not_excluded : (s : ValueSource) (w : Option ℕ) → s.writer ≡ w → (j : ℕ) → StandsAt ts order s.reader j
-      → ComesFrom ts order s.register.number j w → IsTrue (is_excluded ts steps s) → ⊥
-  not_excluded s None is j at comes excluded =
-      elim (or_cases (ends_before steps s.reader s.writer) _ excluded) [
-        | inl after ↦ absurd (let none = rw is at after in cc)
-        | inr between ↦
-            let (a, found) = find_place _ 0 (length ts) between in
-            let (rival, stands) = and_parts (is_rival ts steps s a) _ found in
-            let before = (and_parts (begins_before steps s.writer a) _ stands).1 in
-            let r = rival_at s a rival in
-            comes r.place (omega arith) (before_holds a s.reader before r.place j r.stands at) r.changes
-      ]
-  not_excluded s (Some b) is j at (i, first, low, changes, last) excluded =
-      elim (or_cases (ends_before steps s.reader s.writer) _ excluded) [
-        | inl after ↦
-            let high = before_holds s.reader b (rw is at after) j i at first in omega (arith, low, high)
-        | inr between ↦
-            let (a, found) = find_place _ 0 (length ts) between in
-            let (rival, stands) = and_parts (is_rival ts steps s a) _ found in
-            let (begins, before) = and_parts (begins_before steps s.writer a) _ stands in
-            let r = rival_at s a rival in
-            let behind = before_holds b a (subst (λ (o : Option ℕ). IsTrue (begins_before steps o a)) is begins) i r.place first r.stands in
-            last r.place (omega (arith, behind)) (before_holds a s.reader before r.place j r.stands at) r.changes
-      ]
+  -- a value does not come from a writer that stands behind the reader
+  not_late : (s : ValueSource) (w : Option ℕ) → s.writer ≡ w → (j : ℕ) → StandsAt ts order s.reader j
+      → ComesFrom ts order s.register.number j w → IsTrue (ends_before steps s.reader s.writer) → ⊥
+  not_late s None is j at comes after = absurd (let none = rw is at after in cc)
+  not_late s (Some b) is j at (i, first, low, changes, last) after =
+      let high = before_holds s.reader b (rw is at after) j i at first in omega (arith, low, high)
+
+  -- and not past a rival that stands between the two
+  not_between : (s : ValueSource) (w : Option ℕ) → s.writer ≡ w → (j : ℕ) → StandsAt ts order s.reader j
+      → ComesFrom ts order s.register.number j w → (a : ℕ) → IsTrue (stands_between ts steps s a) → ⊥
+  not_between s None is j at comes a between =
+      let (rival, stands) = and_parts (is_rival ts steps s a) _ between in
+      let before = (and_parts (begins_before steps s.writer a) _ stands).1 in
+      let r = rival_at s a rival in
+      comes r.place (omega arith) (before_holds a s.reader before r.place j r.stands at) r.changes
+  not_between s (Some b) is j at (i, first, low, changes, last) a between =
+      let (rival, stands) = and_parts (is_rival ts steps s a) _ between in
+      let (begins, before) = and_parts (begins_before steps s.writer a) _ stands in
+      let r = rival_at s a rival in
+      let behind = before_holds b a (subst (λ (o : Option ℕ). IsTrue (begins_before steps o a)) is begins) i r.place first r.stands in
+      last r.place (omega (arith, behind)) (before_holds a s.reader before r.place j r.stands at) r.changes
+
+  -- what says that a value does not come from there holds
+  excluded : (s : ValueSource) (step : ReasonStep) → HoldsIn ts order step → IsTrue (excludes s step) → ComesNot ts order s
+  excluded s (TooLate t) holds is = rw (same_source s t is) holds
+  excluded s (Overwritten t rival left) holds is = rw (same_source s t is) holds
+  excluded s step holds is = absurd (cc)
 
   -- where the value of a reader comes from
-  record Actual (s : ValueSource) : Type 0 where
-    place : ℕ
-    stands : StandsAt ts order s.reader place
-    writer : Option ℕ
-    within : IsWithin ts writer
-    comes : ComesFrom ts order s.register.number place writer
-    may : IsTrue (may_come_from states ts s writer)
+  pub record Actual (s : ValueSource) : Type 0 where
+    pub place : ℕ
+    pub stands : StandsAt ts order s.reader place
+    pub writer : Option ℕ
+    pub within : IsWithin ts writer
+    pub comes : ComesFrom ts order s.register.number place writer
+    pub may : IsTrue (may_come_from states ts s writer)
 
   read_value : (s : ValueSource) (j : ℕ) → StandsAt ts order s.reader j → IsTrue (needs s.register.number s.value (ops_at ts s.reader))
       → slice_index (state_at start order j) s.register.number ≡ s.value
@@ -207,7 +226,7 @@ module _ (criterion : Criterion) (states : List State) (ts : List Txn) (start : 
       needs_holds (state_at start order j) s.register.number s.value (operations at.placed.txn.text)
       (reads_at start order j at.placed c.serial.legal at.there) (rw same at needs)
 
-  actual : (s : ValueSource) → IsTrue (is_asked criterion ts steps s) → Actual s
+  pub actual : (s : ValueSource) → IsTrue (is_asked criterion ts steps s) → Actual s
   actual s asked =
       let (has, needs) = and_parts (has_place criterion ts steps s.reader) _ asked in
       let (j, at) = has_stands criterion refl s.reader has in
@@ -251,7 +270,7 @@ module _ (criterion : Criterion) (states : List State) (ts : List Txn) (start : 
       ]
 
   -- the test that passes for each writer passes for that one
-  writer_passes : (test : Option ℕ → Bool) (w : Option ℕ) → IsWithin ts w
+  pub writer_passes : (test : Option ℕ → Bool) (w : Option ℕ) → IsWithin ts w
       → IsTrue (test None && list_all (λ a. test (Some a)) (range_with_len 0 (length ts))) → IsTrue (test w)
   writer_passes test None within all = (and_parts (test None) _ all).0
   writer_passes test (Some a) within all =
@@ -259,24 +278,18 @@ module _ (criterion : Criterion) (states : List State) (ts : List Txn) (start : 
       rw same at (each_place (λ b. test (Some b)) 0 (length ts) a (and_parts (test None) _ all).1 within)
 
   is_source : (s : ValueSource) → (found : Actual s)
-      → IsTrue (not (may_come_from states ts s found.writer) || is_excluded ts steps (from_else s found.writer)) → ⊥
+      → IsTrue (not (may_come_from states ts s found.writer) || list_any (excludes (from_else s found.writer)) steps) → ⊥
   is_source s found none =
       elim (or_cases (not (may_come_from states ts s found.writer)) _ none) [
         | inl not_so ↦ let e = sym (not-true _ not_so) ∙ found.may in absurd (cc)
-        | inr excluded ↦ not_excluded (from_else s found.writer) found.writer refl found.place found.stands found.comes excluded
+        | inr not_it ↦
+            let told = find_any (HoldsIn ts order) (excludes (from_else s found.writer)) steps c.known not_it in
+            excluded (from_else s found.writer) told.one told.has told.passes found.place found.stands found.comes
       ]
 
   -- a source that is known is one
   given : (s : ValueSource) (step : ReasonStep) → HoldsIn ts order step → IsTrue (gives s step) → HoldsIn ts order (From s)
-  given s (From t) holds is =
-      let (reader, rest) = and_parts (s.reader == t.reader) _ is in
-      let (register, more) = and_parts (s.register.number == t.register.number) _ rest in
-      let (value, writer) = and_parts (s.value == t.value) _ more in
-      let (j, at, comes) = holds in
-      let here : StandsAt ts order s.reader j = rw (eqb-true s.reader t.reader reader) at in
-      let there : ComesFrom ts order s.register.number j s.writer =
-      rw (eqb-true s.register.number t.register.number register, same_writer s.writer t.writer writer) comes in
-      (j, here, there)
+  given s (From t) holds is = rw (same_source s t is) holds
   given s step holds is = absurd (cc)
 
   source_holds : (s : ValueSource) → IsTrue (list_any (gives s) steps) → HoldsIn ts order (From s)
@@ -343,6 +356,11 @@ module _ (criterion : Criterion) (states : List State) (ts : List Txn) (start : 
             (found.place, found.stands, subst (ComesFrom ts order s.register.number found.place) (same_writer found.writer s.writer same) found.comes)
         | inr none ↦ absurd (is_source s found none)
       ]
+  step_holds (TooLate s) is = λ j at comes. not_late s s.writer refl j at comes (and_parts (may_come_from states ts s s.writer) _ is).1
+  step_holds (Overwritten s a left) is = λ j at comes.
+      let rest = (and_parts (may_come_from states ts s s.writer) _ is).1 in
+      let between = (and_parts (is_some_of left (left_by s.register.number None (ops_at ts a))) _ rest).1 in
+      not_between s s.writer refl j at comes a between
   step_holds (ReadFirst s w left) is = λ i j at there.
       let (known, begins) = and_parts (is_known_rival ts steps s w left) _ is in
       let (has, both) = and_parts (list_any (gives s) steps) _ known in
@@ -389,10 +407,9 @@ module _ (criterion : Criterion) (states : List State) (ts : List Txn) (start : 
       (length-state_at start order i ∙ c.long) tt (reads_at start order i at.placed c.serial.legal at.there) in
       let none : IsTrue (is_pair expected read None) = rw (same, alike) at unlike in absurd (cc)
 
-module _ (criterion : Criterion) (states : List State) (ts : List Txn) (steps : List ReasonStep) (begin : IsTrue (begin_apart ts))
-    (long : All (λ s. length s ≡ 8) states) (derives : Derives criterion states ts steps) (s : State) (order : List Placed)
-    (start : Contains states s) (explains : ExplainsBy criterion s ts order) where
-  case_at : (known : List ReasonStep) → AllByRecursion (HoldsIn ts order) known → Case criterion states ts s order known
+module _ (criterion : Criterion) (states : List State) (ts : List Txn) (begin : IsTrue (begin_apart ts)) (long : All (λ s. length s ≡ 8) states)
+    (s : State) (order : List Placed) (start : Contains states s) (explains : ExplainsBy criterion s ts order) where
+  pub case_at : (known : List ReasonStep) → AllByRecursion (HoldsIn ts order) known → Case criterion states ts s order known
   case_at known all = record {
     begin = begin;
     start = start;
@@ -401,22 +418,41 @@ module _ (criterion : Criterion) (states : List State) (ts : List Txn) (steps : 
     known = all;
   }
 
-  first_hold : (n : ℕ) → n ≤ length steps → AllByRecursion (HoldsIn ts order) (take n steps)
-  first_hold zero low = none_all (HoldsIn ts order) steps
-  first_hold (suc n) low =
-      let before = first_hold n (omega (arith, low)) in
-      let (step, at) = get_some steps n (omega (arith, low)) in
-      all-more (HoldsIn ts order) steps n step at
-      (step_holds criterion states ts s order (take n steps) (case_at (take n steps) before) step (derives n step at)) before
+  module _ (assumed : ℕ) (steps : List ReasonStep) (derives : Derives criterion states ts assumed steps)
+      (given : AllByRecursion (HoldsIn ts order) (take assumed steps)) where
+    first_hold : (k : ℕ) → assumed + k ≤ length steps → AllByRecursion (HoldsIn ts order) (take (assumed + k) steps)
+    first_hold zero low =
+        let same : assumed ≡ assumed + 0 = omega arith in subst (λ n. AllByRecursion (HoldsIn ts order) (take n steps)) same given
+    first_hold (suc k) low =
+        let before = first_hold k (omega (arith, low)) in
+        let (step, at) = get_some steps (assumed + k) (omega (arith, low)) in
+        let follows = derives (assumed + k) step (omega arith) at in
+        let more = all-more (HoldsIn ts order) steps (assumed + k) step at
+        (step_holds criterion states ts s order (take (assumed + k) steps) (case_at (take (assumed + k) steps) before) step follows) before in
+        let same : suc (assumed + k) ≡ assumed + suc k = omega arith in
+        subst (λ n. AllByRecursion (HoldsIn ts order) (take n steps)) same more
 
-  all_hold : AllByRecursion (HoldsIn ts order) steps
-  all_hold = subst (AllByRecursion (HoldsIn ts order)) (take_all (length steps) steps (omega arith)) (first_hold (length steps) (omega arith))
+    short : length steps ≤ assumed → AllByRecursion (HoldsIn ts order) steps
+    short within = subst (AllByRecursion (HoldsIn ts order)) (take_all assumed steps (omega (arith, within))) given
+
+    pub all_hold : AllByRecursion (HoldsIn ts order) steps
+    all_hold =
+        elim (cases_order assumed (length steps)) [
+          | inl same ↦ short (omega (arith, same))
+          | inr differ ↦ elim differ [
+            | inl low ↦
+                let k = length steps - assumed in
+                let whole : assumed + k ≡ length steps = omega (arith, low) in
+                subst (AllByRecursion (HoldsIn ts order)) (take_all (assumed + k) steps (omega (arith, whole))) (first_hold k (omega (arith, whole)))
+            | inr high ↦ short (omega (arith, high))
+          ]
+        ]
 
 pub reason_law : ReasonLaw
-reason_law criterion states ts steps begin long derives = record {
-  hold = λ s order start explains.
-      All-from_recursion (HoldsIn ts order) steps (all_hold criterion states ts steps begin long derives s order start explains);
-  none = λ end is s order start explains. none_contradicts criterion states ts s order steps
-      (case_at criterion states ts steps begin long derives s order start explains steps
-      (all_hold criterion states ts steps begin long derives s order start explains)) end is;
+reason_law criterion states ts assumed steps begin long derives = record {
+  hold = λ s order start explains given. All-from_recursion (HoldsIn ts order) steps
+      (all_hold criterion states ts begin long s order start explains assumed steps derives (recursion_from_All (HoldsIn ts order) _ given));
+  none = λ end is s order start explains given. none_contradicts criterion states ts s order steps
+      (case_at criterion states ts begin long s order start explains steps
+      (all_hold criterion states ts begin long s order start explains assumed steps derives (recursion_from_All (HoldsIn ts order) _ given))) end is;
 }

@@ -1,4 +1,8 @@
+pub mod CaseSearch
+pub mod DerivationSearch
+pub mod DrawnSteps
 pub mod FindPart
+pub mod FindReason
 pub mod Marks
 pub mod NameInWindow
 pub mod Origins

@@ -16,7 +16,7 @@ use Rattle.tmw_part.specs.declared.piece.Piece.{Piece}
 use Rattle.tmw_part.specs.Marks.{keeps_last, kept_of, places_of}
 use Rattle.tmw_part.specs.NameInWindow.{owner_in}
 use Rattle.tmw_part.specs.Pieces.{calls_from}
-use Rattle.tmw_part.specs.UnlikeAnswers.{first_unlike}
+use Rattle.tmw_part.specs.UnlikeAnswers.{first_unlike, needed_of}
 
 abbrev pub nothing : Txn
 nothing = record { thread = 0; first = 0; last = 0; text = [] }
@@ -56,18 +56,20 @@ is_same_pair_or_none None whole = true
 is_same_pair_or_none (Some p) None = false
 is_same_pair_or_none (Some p) (Some q) = (p.0 == q.0) && (p.1 == q.1)
 
--- In the register, the operations that are left leave nothing or what the whole leaves there; and they were given no answer of it unlike
--- the operations before it, or the first has the values of the first such answer of the whole.
+-- In the register, the operations that are left need nothing before them or what the whole needs, and leave nothing or what the whole leaves
+-- there; and they were given no answer of it unlike the operations before it, or the first has the values of the first such answer of the
+-- whole.
 abbrev pub agrees : List Op → List Op → ℕ → Bool
 agrees left whole r =
-    is_same_or_none (left_by r None left) (left_by r None whole)
-    && is_same_pair_or_none (first_unlike r None left) (first_unlike r None whole)
+    is_same_or_none (needed_of r left) (needed_of r whole)
+    && (is_same_or_none (left_by r None left) (left_by r None whole)
+    && is_same_pair_or_none (first_unlike r None left) (first_unlike r None whole))
 
 abbrev pub agree : List Op → List Op → Bool
 agree left whole = list_all (agrees left whole) (range_with_len 0 8)
 
 -- A transaction with the one text is left of one with the other: it has the same status, lacks only operations that may go, and agrees with
--- the other on what it leaves in each register that it changes, and on the values of the first answer unlike its own operations. (What an
+-- the other on what it needs and leaves in each register that it reads or changes, and on the values of the first answer unlike its own operations. (What an
 -- add that is not answered would leave isn't known.)
 abbrev pub is_left_of : (ℕ → ℕ → Bool) → List Kind → List Kind → Bool
 is_left_of unread left whole =

@@ -1,6 +1,6 @@
 -- Steps of a reason why transactions have no serial order: when a step follows from those before it, and when they contradict each other.
 -- A transaction is told by its place in the list of all. A value comes from the transaction that left it, or from the start.
-use Rattle.std.specs.Prelude.{◌≡◌, ◌==◌, ◌&&◌, ◌||◌, ℕ, Bool, true, false, not, nat_lt, List, [], ◌∷◌, length, take, slice_get, slice_index, Option, Some, None, is_some, IsTrue, if◌then◌else◌}
+use Rattle.std.specs.Prelude.{◌≡◌, ◌≤◌, ◌==◌, ◌&&◌, ◌||◌, ℕ, Bool, true, false, not, nat_lt, List, [], ◌∷◌, length, take, slice_get, slice_index, Option, Some, None, is_some, IsTrue, if◌then◌else◌}
 use Rattle.std.specs.List.{list_all, list_any, range_with_len}
 use Rattle.std.specs.Option.{option_eq}
 use Rattle.tmw_defs.specs.declared.criterion.Criterion.{Criterion}
@@ -14,11 +14,17 @@ use Rattle.tmw_defs.specs.Opaque.{State, precedes, may_hold}
 use Rattle.tmw_cuts.specs.RegisterUse.{writes, left_by}
 use Rattle.tmw_part.specs.declared.reason_step.ValueSource.{ValueSource}
 use Rattle.tmw_part.specs.declared.reason_step.ReasonStep.{ReasonStep}
-use Rattle.tmw_part.specs.declared.reason_step.ReasonStep.TheVariants.{RealTime, From, ReadFirst, ChangedFirst, Through}
+use Rattle.tmw_part.specs.declared.reason_step.ReasonStep.TheVariants.{RealTime, From, TooLate, Overwritten, ReadFirst, ChangedFirst, Through}
 use Rattle.tmw_part.specs.declared.reason_step.Contradiction.{Contradiction}
 use Rattle.tmw_part.specs.declared.reason_step.Contradiction.TheVariants.{Cycle, NoSource, Unlike}
 use Rattle.tmw_part.specs.PartTest.{txn_at}
 use Rattle.tmw_part.specs.UnlikeAnswers.{first_unlike}
+
+-- What a reason speaks of: the transactions of a window, and the states from which and the criterion by which they have no serial order.
+pub record Asked : Type 0 where
+  pub criterion : Criterion
+  pub states : List State
+  pub transactions : List Txn
 
 -- The operations of the transaction at this place.
 abbrev pub ops_at : List Txn → ℕ → List Op
@@ -51,6 +57,8 @@ is_same_source s t =
 abbrev pub orders : ℕ → ℕ → ReasonStep → Bool
 orders a b (RealTime one other) = (one == a) && (other == b)
 orders a b (From s) = is_some_of a s.writer && (s.reader == b)
+orders a b (TooLate s) = false
+orders a b (Overwritten s rival left) = false
 orders a b (ReadFirst s rival left) = (s.reader == a) && (rival == b)
 orders a b (ChangedFirst rival left s) = (rival == a) && is_some_of b s.writer
 orders a b (Through one between other) = (one == a) && (other == b)
@@ -59,6 +67,12 @@ orders a b (Through one between other) = (one == a) && (other == b)
 abbrev pub gives : ValueSource → ReasonStep → Bool
 gives s (From t) = is_same_source s t
 gives s _ = false
+
+-- The step says that this is not the source.
+abbrev pub excludes : ValueSource → ReasonStep → Bool
+excludes s (TooLate t) = is_same_source s t
+excludes s (Overwritten t rival left) = is_same_source s t
+excludes s _ = false
 
 -- The step says that the transaction is some value's source.
 abbrev pub supplies : ℕ → ReasonStep → Bool
@@ -109,19 +123,14 @@ is_rival ts steps s a =
 abbrev pub stands_between : List Txn → List ReasonStep → ValueSource → ℕ → Bool
 stands_between ts steps s a = is_rival ts steps s a && (begins_before steps s.writer a && is_before steps a s.reader)
 
--- By these steps the value can't come from there: the reader stands before the writer, or a rival between the two.
-abbrev pub is_excluded : List Txn → List ReasonStep → ValueSource → Bool
-is_excluded ts steps s =
-    ends_before steps s.reader s.writer || list_any (stands_between ts steps s) (range_with_len 0 (length ts))
-
 -- The same value from another source.
 abbrev pub from_else : ValueSource → Option ℕ → ValueSource
 from_else s w = record s { writer = w }
 
--- The value can't come from this writer, unless it is the source's own.
+-- The value can't come from this writer, or by these steps it does not, unless it is the source's own.
 abbrev pub comes_not_else : List State → List Txn → List ReasonStep → ValueSource → Option ℕ → Bool
 comes_not_else states ts steps s w =
-    is_same_writer w s.writer || (not (may_come_from states ts s w) || is_excluded ts steps (from_else s w))
+    is_same_writer w s.writer || (not (may_come_from states ts s w) || list_any (excludes (from_else s w)) steps)
 
 -- It comes from no other than the source's own writer.
 abbrev pub is_only : List State → List Txn → List ReasonStep → ValueSource → Bool
@@ -149,12 +158,20 @@ is_known_rival ts steps s a left =
 abbrev pub has_writer : ValueSource → Bool
 has_writer s = is_some s.writer
 
--- Whether a step follows from these: by real time; because the value can come from nowhere else; because the reader and the writer would
--- else have a rival between them; or by a third transaction.
+-- The value may come from there, and the transaction is a rival that leaves this value and by these steps stands between the two.
+abbrev pub is_overwritten : List State → List Txn → List ReasonStep → ValueSource → ℕ → ℕ → Bool
+is_overwritten states ts steps s a left =
+    may_come_from states ts s s.writer
+    && (is_some_of left (left_by s.register.number None (ops_at ts a)) && stands_between ts steps s a)
+
+-- Whether a step follows from these: by real time; because the value can come from nowhere else; because a source that it may have comes
+-- too late or is overwritten; because the reader and the writer would else have a rival between them; or by a third transaction.
 abbrev pub follows : Criterion → List State → List Txn → List ReasonStep → ReasonStep → Bool
 follows criterion states ts steps (RealTime one other) = not (one == other) && precedes (txn_at ts one) (txn_at ts other)
 follows criterion states ts steps (From s) =
     is_asked criterion ts steps s && (may_come_from states ts s s.writer && is_only states ts steps s)
+follows criterion states ts steps (TooLate s) = may_come_from states ts s s.writer && ends_before steps s.reader s.writer
+follows criterion states ts steps (Overwritten s rival left) = is_overwritten states ts steps s rival left
 follows criterion states ts steps (ReadFirst s rival left) =
     is_known_rival ts steps s rival left && begins_before steps s.writer rival
 follows criterion states ts steps (ChangedFirst rival left s) =
@@ -172,7 +189,17 @@ contradicts criterion states ts steps (NoSource b r v) =
 contradicts criterion states ts steps (Unlike a r expected read) =
     has_place criterion ts steps a && is_pair expected read (first_unlike r.number None (ops_at ts a))
 
--- Each of the steps follows from those before it.
-abbrev pub Derives : Criterion → List State → List Txn → List ReasonStep → Type 0
-Derives criterion states ts steps =
-    (i : ℕ) (step : ReasonStep) → slice_get steps i ≡ Some step → IsTrue (follows criterion states ts (take i steps) step)
+-- By these steps it is known what the step says.
+abbrev pub tells : List ReasonStep → ReasonStep → Bool
+tells steps (RealTime one other) = is_before steps one other
+tells steps (From s) = list_any (gives s) steps
+tells steps (TooLate s) = list_any (excludes s) steps
+tells steps (Overwritten s rival left) = list_any (excludes s) steps
+tells steps (ReadFirst s rival left) = is_before steps s.reader rival
+tells steps (ChangedFirst rival left s) = ends_before steps rival s.writer
+tells steps (Through one between other) = is_before steps one other
+
+-- Each of the steps follows from those before it, but the first, of which so many are assumed.
+abbrev pub Derives : Criterion → List State → List Txn → ℕ → List ReasonStep → Type 0
+Derives criterion states ts assumed steps =
+    (i : ℕ) (step : ReasonStep) → assumed ≤ i → slice_get steps i ≡ Some step → IsTrue (follows criterion states ts (take i steps) step)

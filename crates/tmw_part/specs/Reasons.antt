@@ -1,18 +1,21 @@
--- What the steps of a reason say of a serial order, and the law that they hold in each.
-use Rattle.std.specs.Prelude.{◌≡◌, ◌<◌, ◌≤◌, ◌==◌, ◌&&◌, ℕ, suc, Bool, true, not, List, [], ◌∷◌, length, remove, slice_get, Option, Some, None, All, IsTrue}
-use Rattle.std.specs.List.{Contains, list_all}
+-- What the steps of a reason say of a serial order, what a reason is, and the law that its steps hold in each order.
+use Rattle.std.specs.Prelude.{◌≡◌, ◌⊎◌, ◌<◌, ◌≤◌, ◌==◌, ◌&&◌, ◌||◌, ℕ, suc, Bool, true, false, not, List, [], ◌∷◌, length, remove, slice_get, take, Option, Some, None, All, IsTrue}
+use Rattle.std.specs.Option.{option_to_list}
+use Rattle.std.specs.List.{Contains, flat_map, list_all, list_any, range_with_len}
 use Rattle.tmw_defs.specs.declared.criterion.Criterion.{Criterion}
 use Rattle.tmw_defs.specs.Criteria.{ExplainsBy}
 use Rattle.tmw_defs.specs.History.{Txn, operations, transactions}
 use Rattle.tmw_defs.specs.Opaque.{State, Placed}
 use Rattle.tmw_cuts.specs.RegisterUse.{writes}
 use Rattle.tmw_events.specs.declared.event.Event.{Event}
-use Rattle.tmw_part.specs.declared.question.Question.{Question}
-use Rattle.tmw_part.specs.declared.reason.Reason.{Reason}
+use Rattle.tmw_part.specs.declared.reason_case.Derivation.{Derivation}
+use Rattle.tmw_part.specs.declared.reason_case.ReasonCase.{ReasonCase}
 use Rattle.tmw_part.specs.declared.reason_step.ReasonStep.{ReasonStep}
-use Rattle.tmw_part.specs.declared.reason_step.ReasonStep.TheVariants.{RealTime, From, ReadFirst, ChangedFirst, Through}
+use Rattle.tmw_part.specs.declared.reason_step.ReasonStep.TheVariants.{RealTime, From, TooLate, Overwritten, ReadFirst, ChangedFirst, Through}
+use Rattle.tmw_part.specs.declared.reason_step.ValueSource.{ValueSource}
 use Rattle.tmw_part.specs.declared.reason_step.Contradiction.{Contradiction}
-use Rattle.tmw_part.specs.ReasonSteps.{Derives, contradicts}
+use Rattle.tmw_part.specs.ReasonSteps.{Asked, Derives, contradicts, from_else, gives, is_asked, may_come_from}
+use Rattle.tmw_part.specs.PartTest.{is_among}
 use Rattle.tmw_part.specs.FindPart.{HasOrderFrom}
 
 -- The transaction at place a of the list stands at place i of the order.
@@ -42,6 +45,10 @@ abbrev pub ComesFrom : List Txn → List Placed → ℕ → ℕ → Option ℕ �
 ComesFrom ts order r j None = IsUnchanged order r 0 j
 ComesFrom ts order r j (Some a) = (i : ℕ) × StandsAt ts order a i × (i < j) × Changes order r i × IsUnchanged order r (suc i) j
 
+-- Where a source's reader stands, its value does not come from there.
+abbrev pub ComesNot : List Txn → List Placed → ValueSource → Type 0
+ComesNot ts order s = (j : ℕ) → StandsAt ts order s.reader j → ComesFrom ts order s.register.number j s.writer → ⊥
+
 -- The one stands before the writer. None stands before the start.
 abbrev pub StandsBeforeWriter : List Txn → List Placed → ℕ → Option ℕ → Type 0
 StandsBeforeWriter ts order a None = ⊥
@@ -51,57 +58,104 @@ StandsBeforeWriter ts order a (Some b) = StandsBefore ts order a b
 abbrev pub HoldsIn : List Txn → List Placed → ReasonStep → Type 0
 HoldsIn ts order (RealTime one other) = StandsBefore ts order one other
 HoldsIn ts order (From s) = (j : ℕ) × StandsAt ts order s.reader j × ComesFrom ts order s.register.number j s.writer
+HoldsIn ts order (TooLate s) = ComesNot ts order s
+HoldsIn ts order (Overwritten s rival left) = ComesNot ts order s
 HoldsIn ts order (ReadFirst s rival left) = StandsBefore ts order s.reader rival
 HoldsIn ts order (ChangedFirst rival left s) = StandsBeforeWriter ts order rival s.writer
 HoldsIn ts order (Through one between other) = StandsBefore ts order one other
 
--- The steps are a reason: each follows from those before it, and together they contradict each other so.
-pub record IsReason (criterion : Criterion) (states : List State) (ts : List Txn) (steps : List ReasonStep) (end : Contradiction) : Type 0 where
-  pub derives : Derives criterion states ts steps
+-- From these states the steps contradict each other so, where each but those that are assumed follows from those before it.
+pub record IsContradicted (criterion : Criterion) (states : List State) (ts : List Txn) (assumed : ℕ) (steps : List ReasonStep) (end : Contradiction)
+    : Type 0 where
+  pub derives : Derives criterion states ts assumed steps
   pub ends : IsTrue (contradicts criterion states ts steps end)
 
--- None of the steps can be left out.
-abbrev pub IsNeededEach : Criterion → List State → List Txn → List ReasonStep → Contradiction → Type 0
-IsNeededEach criterion states ts steps end =
-    (i : ℕ) → i < length steps → IsReason criterion states ts (remove steps i) end → ⊥
+-- None of the steps that follow can be left out.
+abbrev pub IsNeededEach : Criterion → List State → List Txn → ℕ → List ReasonStep → Contradiction → Type 0
+IsNeededEach criterion states ts assumed steps end =
+    (i : ℕ) → assumed ≤ i → i < length steps → IsContradicted criterion states ts assumed (remove steps i) end → ⊥
 
--- The steps are a reason, none of which can be left out.
-pub record IsPruned (criterion : Criterion) (states : List State) (ts : List Txn) (steps : List ReasonStep) (end : Contradiction) : Type 0 where
-  pub is : IsReason criterion states ts steps end
-  pub needed : IsNeededEach criterion states ts steps end
-
--- Such a reason, of at most eight transactions.
-pub record IsFound (criterion : Criterion) (states : List State) (ts : List Txn) (reason : Reason) : Type 0 where
-  pub few : length ts ≤ 8
-  pub pruned : IsPruned criterion states ts reason.steps.items reason.end
+-- A derivation of a contradiction: steps that come to it, none of which can be left out.
+pub record IsDerivation (criterion : Criterion) (states : List State) (ts : List Txn) (derivation : Derivation) : Type 0 where
+  pub is : IsContradicted criterion states ts derivation.assumed derivation.steps.items derivation.end
+  pub needed : IsNeededEach criterion states ts derivation.assumed derivation.steps.items derivation.end
 
 -- So it is of what is judged.
-abbrev pub IsReasonIn : Question → Contradiction → List ReasonStep → Type 0
-IsReasonIn w end steps = IsReason w.criterion w.states.now w.transactions.now steps end
+abbrev pub IsContradictedIn : Asked → ℕ → Contradiction → List ReasonStep → Type 0
+IsContradictedIn w assumed end steps = IsContradicted w.criterion w.states w.transactions assumed steps end
 
-abbrev pub IsNeededEachIn : Question → Contradiction → List ReasonStep → Type 0
-IsNeededEachIn w end steps = IsNeededEach w.criterion w.states.now w.transactions.now steps end
+abbrev pub IsNeededEachIn : Asked → ℕ → Contradiction → List ReasonStep → Type 0
+IsNeededEachIn w assumed end steps = IsNeededEach w.criterion w.states w.transactions assumed steps end
 
-abbrev pub IsPrunedIn : Question → Contradiction → List ReasonStep → Type 0
-IsPrunedIn w end steps = IsPruned w.criterion w.states.now w.transactions.now steps end
+abbrev pub IsDerivationIn : Asked → Derivation → Type 0
+IsDerivationIn w = IsDerivation w.criterion w.states w.transactions
+
+-- The derivation assumes nothing; or that this is a value's source, and nothing else.
+abbrev pub assumes_none : Derivation → Bool
+assumes_none derivation = derivation.assumed == 0
+
+abbrev pub is_given_by : ValueSource → Option ReasonStep → Bool
+is_given_by s None = false
+is_given_by s (Some step) = gives s step
+
+abbrev pub assumes : ValueSource → Derivation → Bool
+assumes s derivation = (derivation.assumed == 1) && is_given_by s (slice_get derivation.steps.items 0)
+
+-- The value can't come from this writer, or a derivation assumes that it does.
+abbrev pub is_refuted : List State → List Txn → List Derivation → ValueSource → Option ℕ → Bool
+is_refuted states ts derivations s w = not (may_come_from states ts s w) || list_any (assumes (from_else s w)) derivations
+
+-- Each order has the reader, which needs the value, and wherever this may come from a derivation refutes that it does.
+abbrev pub is_split : Criterion → List State → List Txn → List Derivation → ValueSource → Bool
+is_split criterion states ts derivations s =
+    is_asked criterion ts [] s
+    && (is_refuted states ts derivations s None
+    && list_all (λ a. is_refuted states ts derivations s (Some a)) (range_with_len 0 (length ts)))
+
+-- Together the derivations refute each order: one assumes nothing, or they are the cases of where a value comes from.
+abbrev pub RefuteEach : Criterion → List State → List Txn → List Derivation → Type 0
+RefuteEach criterion states ts derivations =
+    IsTrue (list_any assumes_none derivations) ⊎ ((s : ValueSource) × IsTrue (is_split criterion states ts derivations s))
+
+abbrev pub RefuteEachIn : Asked → List Derivation → Type 0
+RefuteEachIn w = RefuteEach w.criterion w.states w.transactions
+
+-- The states at these places, as far as there are some.
+abbrev pub states_at : List State → List ℕ → List State
+states_at states places = flat_map (λ place. option_to_list (slice_get states place)) places
+
+-- A case of a reason: derivations that refute each order from those states for which it is said.
+pub record IsCase (criterion : Criterion) (states : List State) (ts : List Txn) (case : ReasonCase) : Type 0 where
+  pub are : All (IsDerivation criterion (states_at states case.states.items) ts) case.derivations.items
+  pub refute : RefuteEach criterion (states_at states case.states.items) ts case.derivations.items
+
+-- A case is said for the state at this place.
+abbrev pub is_said_for : ℕ → List ReasonCase → Bool
+is_said_for place cases = list_any (λ case. is_among place case.states.items) cases
+
+-- The cases are a reason: each is one, and one is said for each state.
+pub record IsReason (criterion : Criterion) (states : List State) (ts : List Txn) (cases : List ReasonCase) : Type 0 where
+  pub are : All (IsCase criterion states ts) cases
+  pub each : (place : ℕ) → place < length states → IsTrue (is_said_for place cases)
 
 -- No two of the transactions begin at the same place of the history.
 abbrev pub begin_apart : List Txn → Bool
 begin_apart [] = true
 begin_apart (t ∷ ts) = list_all (λ u. not (u.first == t.first)) ts && begin_apart ts
 
--- The steps hold in each serial order of the transactions from one of the states, each of eight registers. So if they contradict each
--- other, there is none.
-pub record StepsLaw (criterion : Criterion) (states : List State) (ts : List Txn) (steps : List ReasonStep) : Type 0 where
-  pub hold : (s : State) (order : List Placed) → Contains states s → ExplainsBy criterion s ts order → All (HoldsIn ts order) steps
+-- Where those that are assumed hold, the steps hold in each serial order of the transactions from one of the states, each of eight registers.
+-- So if they contradict each other, there is none.
+pub record StepsLaw (criterion : Criterion) (states : List State) (ts : List Txn) (assumed : ℕ) (steps : List ReasonStep) : Type 0 where
+  pub hold : (s : State) (order : List Placed) → Contains states s → ExplainsBy criterion s ts order
+      → All (HoldsIn ts order) (take assumed steps) → All (HoldsIn ts order) steps
   pub none : (end : Contradiction) → IsTrue (contradicts criterion states ts steps end) → (s : State) (order : List Placed)
-      → Contains states s → ExplainsBy criterion s ts order → ⊥
+      → Contains states s → ExplainsBy criterion s ts order → All (HoldsIn ts order) (take assumed steps) → ⊥
 
 abbrev pub ReasonLaw : Type 0
-ReasonLaw = (criterion : Criterion) (states : List State) (ts : List Txn) (steps : List ReasonStep) → IsTrue (begin_apart ts)
-    → All (λ s. length s ≡ 8) states → Derives criterion states ts steps → StepsLaw criterion states ts steps
+ReasonLaw = (criterion : Criterion) (states : List State) (ts : List Txn) (assumed : ℕ) (steps : List ReasonStep) → IsTrue (begin_apart ts)
+    → All (λ s. length s ≡ 8) states → Derives criterion states ts assumed steps → StepsLaw criterion states ts assumed steps
 
 -- A reason of the events' transactions tells that they have no order from any of the states.
 abbrev pub ReasonTells : Type 0
-ReasonTells = (criterion : Criterion) (states : List State) (events : List Event) (steps : List ReasonStep) (end : Contradiction)
-    → All (λ s. length s ≡ 8) states → IsReason criterion states (transactions events) steps end → HasOrderFrom criterion states events → ⊥
+ReasonTells = (criterion : Criterion) (states : List State) (events : List Event) (cases : List ReasonCase)
+    → All (λ s. length s ≡ 8) states → IsReason criterion states (transactions events) cases → HasOrderFrom criterion states events → ⊥

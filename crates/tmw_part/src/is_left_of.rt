@@ -4,7 +4,7 @@ ghost use Rattle.tmw_defs.specs.History.{operations};
 ghost use Rattle.tmw_defs.specs.Part.{is_answered, is_unread, may_go};
 ghost use Rattle.tmw_part.specs.PartTest.{agree, agrees, are_ops_left, is_left_of, is_same_op};
 
-use crate::register_use::{find_unlike, left_by};
+use crate::register_use::{find_unlike, left_by, needed_of};
 use crate::transaction::{TextOperations, Transaction, status_of};
 use tmw_defs::Op;
 use tmw_events::{Ix, Kind};
@@ -89,15 +89,17 @@ pub(crate) fn may_go_whole(part: &[Transaction], text: &[Kind]) -> bool
     are_ops_left(part, &[], text)
 }
 
-/// Whether a transaction of which this text is left leaves in the register nothing, or what its whole text does; and was
-/// given no answer of the register unlike its own operations, or the first with the values of the first such answer of
-/// its whole text.
+/// Whether a transaction of which this text is left needs nothing in the register, or what its whole text needs; leaves
+/// nothing there, or what its whole text does; and was given no answer of it unlike its own operations, or the first with
+/// the values of the first such answer of its whole text.
 fn agrees(left: &[Kind], whole: &[Kind], register: u8) -> bool
     ensures { result ≡ agrees (operations left.now) (operations whole.now) register }
 {
+    let need = needed_of(register, left);
     let last = left_by(register, left);
     let unlike = find_unlike(register, left);
-    (last.is_none() || last == left_by(register, whole))
+    (need.is_none() || need == needed_of(register, whole))
+        && (last.is_none() || last == left_by(register, whole))
         && (unlike.is_none() || unlike == find_unlike(register, whole))
 }
 

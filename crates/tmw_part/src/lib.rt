@@ -13,13 +13,17 @@ mod readers;
 mod transaction;
 mod whole_window;
 
-// The reason: the steps that are tried, which follow, what they come to, and which are needed.
-mod candidate_steps;
-mod contradictions;
-mod kept_transaction;
+// The reason: the steps that speak of what is drawn, which follow, what they come to, which are needed, and the cases.
+mod candidates;
+mod case_search;
+mod derivation_search;
+mod drawn_ends;
+mod drawn_steps;
+mod drawn_transaction;
 mod prune_steps;
 mod question;
 mod reason;
+mod reason_case;
 mod reason_step;
 mod register_use;
 mod step_closure;
@@ -34,5 +38,6 @@ pub use marks::kept_of;
 pub use name_in_window::{Name, names_of};
 pub use origin::{Fate, Origin, find_origin};
 pub use part_search::{MOST_EVENTS, find_part};
-pub use reason::{Reason, find_reason, law_reason};
+pub use reason::{find_reason, law_reason};
+pub use reason_case::{Derivation, Reason, ReasonCase};
 pub use reason_step::{Contradiction, ReasonStep, ValueSource};

@@ -11,7 +11,7 @@ use crate::transaction::{Transaction, precedes};
 use std::alloc::{AllocError, Global};
 
 /// Whether the number is one of these.
-fn is_among(number: usize, places: &[usize]) -> bool
+pub(crate) fn is_among(number: usize, places: &[usize]) -> bool
     ensures { result ≡ is_among number places.now }
 {
     places.iter().any(|place| *place == number)

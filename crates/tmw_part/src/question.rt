@@ -1,4 +1,5 @@
 use crate::transaction::Transaction;
+use std::marker::Model;
 use tmw_cuts::State;
 use tmw_defs::Criterion;
 
@@ -9,4 +10,16 @@ pub(crate) struct Question<'a> {
     pub criterion: Criterion,
     pub states: &'a [State],
     pub transactions: &'a [Transaction],
+}
+
+impl<'a> Model for Question<'a> {
+    ghost use Rattle.tmw_part.specs.ReasonSteps.{Asked};
+
+    ghost Value = { Asked };
+
+    ghost view = { λ q. record {
+      criterion = q.criterion;
+      states = q.states.now;
+      transactions = q.transactions.now;
+    } };
 }

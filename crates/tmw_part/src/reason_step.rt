@@ -17,6 +17,10 @@ pub enum ReasonStep {
     RealTime(usize, usize),
     /// The value comes from there: nobody else can have left it.
     From(ValueSource),
+    /// The value, which may come from there, does not: the reader stands before that writer.
+    TooLate(ValueSource),
+    /// The value, which may come from there, does not: the rival, which leaves this value in the register, stands between.
+    Overwritten(ValueSource, usize, u64),
     /// The reader stands before the rival, which leaves this other value in the register and stands after the source.
     ReadFirst(ValueSource, usize, u64),
     /// The rival stands before the source's writer: it leaves this other value in the register and stands before the reader.

@@ -2,7 +2,7 @@ ghost use Rattle.std.specs.Prelude.{◌≡◌, None};
 ghost use Rattle.tmw_defs.specs.History.{operations};
 ghost use Rattle.tmw_cuts.specs.RegisterUse.{writes, left_by};
 ghost use Rattle.tmw_part.specs.ReasonSteps.{needs};
-ghost use Rattle.tmw_part.specs.UnlikeAnswers.{answer_of, first_unlike, known_after};
+ghost use Rattle.tmw_part.specs.UnlikeAnswers.{answer_of, first_unlike, known_after, needed_of};
 
 use crate::transaction::TextOperations;
 use tmw_defs::Op;
@@ -23,16 +23,20 @@ pub(crate) fn needs(register: u8, value: u64, text: &[Kind]) -> bool
     false
 }
 
-/// The value of the register that the first operation on it needs before them, if it needs one. Which it is decides only
-/// which steps are tried.
-pub(crate) fn needed_of(register: u8, text: &[Kind]) -> Option<u64> {
-    let first = TextOperations(text).find(|op| match op {
-        Op::Read(other, _) | Op::Add(other, _, _) | Op::Write(other, _) => other.number == register,
-    });
-    match first {
-        Some(Op::Read(_, value) | Op::Add(_, _, value)) => Some(value),
-        _ => None,
+/// The value that the first operation on the register was answered, if it was answered one.
+pub(crate) fn needed_of(register: u8, text: &[Kind]) -> Option<u64>
+    ensures { result ≡ needed_of register (operations text.now) }
+{
+    for op in TextOperations(text) {
+        match op {
+            Op::Read(other, value) | Op::Add(other, _, value) if other.number == register => {
+                return Some(value);
+            }
+            Op::Write(other, _value) if other.number == register => return None,
+            _ => {}
+        }
     }
+    None
 }
 
 /// The value that the operations of a transaction leave in the register, if they write or add to it.

@@ -1,22 +1,20 @@
-ghost use Rattle.std.specs.Prelude.{IfOk, IfSome, IsTrue};
-ghost use Rattle.tmw_part.specs.ReasonSteps.{Derives, follows};
+ghost use Rattle.std.specs.Prelude.{◌≡◌, IfOk, All, find, length};
+ghost use Rattle.std.specs.List.{Contains, list_any};
+ghost use Rattle.tmw_part.specs.ReasonSteps.{contradicts};
+ghost use Rattle.tmw_part.specs.DerivationSearch.{Closes, is_news};
 
+use crate::candidates::Candidates;
 use crate::question::Question;
-use crate::reason_step::ReasonStep;
-use crate::step_facts::{ends_before, is_before, is_given};
-use crate::step_rules::follows;
-use std::alloc::{AllocError, Global};
+use crate::reason_step::{Contradiction, ReasonStep};
+use crate::step_facts::tells;
+use crate::step_rules::{contradicts, follows};
+use std::alloc::AllocError;
 
-/// Whether by these steps it is known what the step says.
-fn tells(steps: &[ReasonStep], step: &ReasonStep) -> bool {
-    match *step {
-        ReasonStep::RealTime(one, other) | ReasonStep::Through(one, _, other) => is_before(
-            steps, one, other,
-        ),
-        ReasonStep::From(source) => is_given(steps, &source),
-        ReasonStep::ReadFirst(source, rival, _) => is_before(steps, source.reader, rival),
-        ReasonStep::ChangedFirst(rival, _, source) => ends_before(steps, rival, source.writer),
-    }
+/// Whether the step follows from these, and isn't told by them.
+fn is_news(judged: &Question, steps: &[ReasonStep], step: &ReasonStep) -> bool
+    ensures { result ≡ is_news judged.now steps.now step.now }
+{
+    !tells(steps, step) && follows(judged, steps, step)
 }
 
 /// Finds the first of the candidates that follows from the steps and isn't told by them.
@@ -25,30 +23,39 @@ fn find_step(
     steps: &[ReasonStep],
     candidates: &[ReasonStep],
 ) -> Option<ReasonStep>
-    ensures { let w = judged.now in IfSome result (λ step. IsTrue
-        (follows w.criterion w.states.now w.transactions.now steps.now step)) }
+    ensures { result ≡ find (is_news judged.now steps.now) candidates.now }
 {
-    for candidate in candidates {
-        if !tells(steps, candidate) && follows(judged, steps, candidate) {
+    let mut rest = candidates;
+    while let [candidate, more @ ..] = rest {
+        if is_news(judged, steps, candidate) {
             return Some(*candidate);
         }
+        rest = more;
     }
     None
 }
 
-/// Returns some of the candidates, each of which follows from those before it.
-pub(crate) fn close(
-    alloc: Global,
-    judged: &Question,
-    candidates: &[ReasonStep],
-) -> Result<Vec<ReasonStep>, AllocError>
-    ensures { let w = judged.now in IfOk result (λ steps.
-        Derives w.criterion w.states.now w.transactions.now steps.items) }
+/// Whether the steps come to one of these contradictions.
+fn comes_to_one(judged: &Question, steps: &[ReasonStep], ends: &[Contradiction]) -> bool
+    ensures { let w = judged.now in result ≡ list_any
+        (contradicts w.criterion w.states w.transactions steps.now) ends.now }
 {
-    let mut steps = Vec::new(alloc);
-    // Each candidate is added once at most, since it is told then.
-    for _added in 0..candidates.len() {
-        let Some(step) = find_step(judged, &steps, candidates) else {
+    ends.iter().any(|end| contradicts(judged, steps, end))
+}
+
+/// Adds to the steps, which are assumed, candidates that follow, until they come to a contradiction or none follows.
+pub(crate) fn close(
+    judged: &Question,
+    candidates: &Candidates,
+    assumed: Vec<ReasonStep>,
+) -> Result<Vec<ReasonStep>, AllocError>
+    requires { All (Contains candidates.now.steps.items) assumed.items }
+    ensures { IfOk result (λ steps.
+        Closes judged.now candidates.now (length assumed.items) steps.items) }
+{
+    let mut steps = assumed;
+    while !comes_to_one(judged, &steps, &candidates.ends) {
+        let Some(step) = find_step(judged, &steps, &candidates.steps) else {
             break;
         };
         steps.push(step)?;

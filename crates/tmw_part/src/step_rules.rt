@@ -1,13 +1,15 @@
 ghost use Rattle.std.specs.Prelude.{◌≡◌, ◌==◌, ◌<◌, ◌&&◌, Some, length, not, slice_index};
 ghost use Rattle.std.specs.List.{list_all, list_any, range_with_len};
 ghost use Rattle.tmw_defs.specs.Opaque.{precedes};
-ghost use Rattle.tmw_part.specs.ReasonSteps.{comes_not_else, contradicts, follows, has_place, has_writer, is_asked, is_before, is_excluded, is_held, is_known_rival, is_left_by_none, is_only, is_rival, may_come_from, stands_between};
+ghost use Rattle.tmw_part.specs.ReasonSteps.{comes_not_else, contradicts, follows, has_place, has_writer, is_asked, is_before, is_held, is_known_rival, is_left_by_none, is_only, is_overwritten, is_rival, may_come_from, stands_between};
 ghost use Rattle.tmw_part.specs.PartTest.{txn_at};
 
 use crate::question::Question;
 use crate::reason_step::{Contradiction, ReasonStep, ValueSource};
 use crate::register_use::{find_unlike, left_by, needs, writes};
-use crate::step_facts::{begins_before, ends_before, is_before, is_given, is_supplied};
+use crate::step_facts::{
+    begins_before, ends_before, is_before, is_excluded, is_given, is_supplied,
+};
 use crate::transaction::{Transaction, precedes, status_of};
 use tmw_cuts::State;
 use tmw_defs::{Criterion, Status};
@@ -25,7 +27,7 @@ pub(crate) fn text_at(transactions: &[Transaction], place: usize) -> &[Kind]
 
 /// Whether the transaction at this place is held in each order.
 fn is_held(judged: &Question, steps: &[ReasonStep], place: usize) -> bool
-    ensures { result ≡ is_held judged.now.transactions.now steps.now place }
+    ensures { result ≡ is_held judged.now.transactions steps.now place }
 {
     let text = text_at(judged.transactions, place);
     status_of(text) == Status::Committed || is_supplied(steps, place)
@@ -34,7 +36,7 @@ fn is_held(judged: &Question, steps: &[ReasonStep], place: usize) -> bool
 /// Whether each order has the transaction at this place.
 fn has_place(judged: &Question, steps: &[ReasonStep], place: usize) -> bool
     ensures { let w = judged.now in
-        result ≡ has_place w.criterion w.transactions.now steps.now place }
+        result ≡ has_place w.criterion w.transactions steps.now place }
 {
     match judged.criterion {
         Criterion::Opacity => place < judged.transactions.len(),
@@ -51,9 +53,9 @@ fn has_value(states: &[State], register: u8, value: u64) -> bool
 }
 
 /// Whether a reader's value may come from this writer, or from the start, as far as one can tell without an order.
-fn may_come_from(judged: &Question, source: &ValueSource, writer: Option<usize>) -> bool
+pub(crate) fn may_come_from(judged: &Question, source: &ValueSource, writer: Option<usize>) -> bool
     ensures { let w = judged.now in
-        result ≡ may_come_from w.states.now w.transactions.now source.now writer }
+        result ≡ may_come_from w.states w.transactions source.now writer }
 {
     let register = source.register.get();
     match writer {
@@ -69,7 +71,7 @@ fn may_come_from(judged: &Question, source: &ValueSource, writer: Option<usize>)
 
 /// Whether the transaction is held, changes the source's register and is neither the reader nor the writer.
 fn is_rival(judged: &Question, steps: &[ReasonStep], source: &ValueSource, place: usize) -> bool
-    ensures { result ≡ is_rival judged.now.transactions.now steps.now source.now place }
+    ensures { result ≡ is_rival judged.now.transactions steps.now source.now place }
 {
     let text = text_at(judged.transactions, place);
     place != source.reader
@@ -85,39 +87,41 @@ fn stands_between(
     source: &ValueSource,
     place: usize,
 ) -> bool
-    ensures { result ≡ stands_between judged.now.transactions.now steps.now source.now place }
+    ensures { result ≡ stands_between judged.now.transactions steps.now source.now place }
 {
     is_rival(judged, steps, source, place)
         && begins_before(steps, source.writer, place)
         && is_before(steps, place, source.reader)
 }
 
-/// Whether by these steps a rival stands between the writer and the reader.
-fn is_overwritten(judged: &Question, steps: &[ReasonStep], source: &ValueSource) -> bool
-    ensures { let ts = judged.now.transactions.now in
-        result ≡ list_any (stands_between ts steps.now source.now) (range_with_len 0 (length ts)) }
-{
-    (0..judged.transactions.len()).any(|place| stands_between(judged, steps, source, place))
-}
-
-/// Whether by these steps the value can't come from there: the reader stands before the writer, or a rival stands
+/// Whether the value may come from there, and the transaction is a rival that leaves this value and by these steps stands
 /// between the two.
-fn is_excluded(judged: &Question, steps: &[ReasonStep], source: &ValueSource) -> bool
-    ensures { result ≡ is_excluded judged.now.transactions.now steps.now source.now }
+fn is_overwritten(
+    judged: &Question,
+    steps: &[ReasonStep],
+    source: &ValueSource,
+    place: usize,
+    left: u64,
+) -> bool
+    ensures { let w = judged.now in result
+        ≡ is_overwritten w.states w.transactions steps.now source.now place left }
 {
-    ends_before(steps, source.reader, source.writer) || is_overwritten(judged, steps, source)
+    let text = text_at(judged.transactions, place);
+    may_come_from(judged, source, source.writer)
+        && left_by(source.register.get(), text) == Some(left)
+        && stands_between(judged, steps, source, place)
 }
 
 /// Whether each order has the reader, which needs the register to hold the value.
-fn is_asked(judged: &Question, steps: &[ReasonStep], source: &ValueSource) -> bool
+pub(crate) fn is_asked(judged: &Question, steps: &[ReasonStep], source: &ValueSource) -> bool
     ensures { let w = judged.now in
-        result ≡ is_asked w.criterion w.transactions.now steps.now source.now }
+        result ≡ is_asked w.criterion w.transactions steps.now source.now }
 {
     let text = text_at(judged.transactions, source.reader);
     has_place(judged, steps, source.reader) && needs(source.register.get(), source.value, text)
 }
 
-/// Whether the value can't come from this writer, unless it is the source's own.
+/// Whether the value can't come from this writer, or by these steps does not, unless it is the source's own.
 fn comes_not_else(
     judged: &Question,
     steps: &[ReasonStep],
@@ -125,19 +129,17 @@ fn comes_not_else(
     writer: Option<usize>,
 ) -> bool
     ensures { let w = judged.now in
-        result ≡ comes_not_else w.states.now w.transactions.now steps.now source.now writer }
+        result ≡ comes_not_else w.states w.transactions steps.now source.now writer }
 {
     let other = ValueSource { writer, ..*source };
-    writer == source.writer
-        || !may_come_from(judged, source, writer)
-        || is_excluded(judged, steps, &other)
+    writer == source.writer || !may_come_from(judged, source, writer) || is_excluded(steps, &other)
 }
 
 /// Whether the value comes from no other transaction than the source's own writer.
 fn from_no_other(judged: &Question, steps: &[ReasonStep], source: &ValueSource) -> bool
     ensures { let w = judged.now in result ≡ list_all
-        (λ a. comes_not_else w.states.now w.transactions.now steps.now source.now (Some a))
-        (range_with_len 0 (length w.transactions.now)) }
+        (λ a. comes_not_else w.states w.transactions steps.now source.now (Some a))
+        (range_with_len 0 (length w.transactions)) }
 {
     (0..judged.transactions.len()).all(|place| comes_not_else(judged, steps, source, Some(place)))
 }
@@ -145,7 +147,7 @@ fn from_no_other(judged: &Question, steps: &[ReasonStep], source: &ValueSource) 
 /// Whether the value comes from nowhere but the source's own writer.
 fn is_only(judged: &Question, steps: &[ReasonStep], source: &ValueSource) -> bool
     ensures { let w = judged.now in
-        result ≡ is_only w.states.now w.transactions.now steps.now source.now }
+        result ≡ is_only w.states w.transactions steps.now source.now }
 {
     comes_not_else(judged, steps, source, None) && from_no_other(judged, steps, source)
 }
@@ -153,8 +155,8 @@ fn is_only(judged: &Question, steps: &[ReasonStep], source: &ValueSource) -> boo
 /// Whether no transaction can have left the value.
 fn is_from_none(judged: &Question, source: &ValueSource) -> bool
     ensures { let w = judged.now in result ≡ list_all
-        (λ a. not (may_come_from w.states.now w.transactions.now source.now (Some a)))
-        (range_with_len 0 (length w.transactions.now)) }
+        (λ a. not (may_come_from w.states w.transactions source.now (Some a)))
+        (range_with_len 0 (length w.transactions)) }
 {
     (0..judged.transactions.len()).all(|place| !may_come_from(judged, source, Some(place)))
 }
@@ -162,7 +164,7 @@ fn is_from_none(judged: &Question, source: &ValueSource) -> bool
 /// Whether neither the start nor any transaction can have left the value.
 fn is_left_by_none(judged: &Question, source: &ValueSource) -> bool
     ensures { let w = judged.now in
-        result ≡ is_left_by_none w.states.now w.transactions.now source.now }
+        result ≡ is_left_by_none w.states w.transactions source.now }
 {
     !may_come_from(judged, source, None) && is_from_none(judged, source)
 }
@@ -170,8 +172,8 @@ fn is_left_by_none(judged: &Question, source: &ValueSource) -> bool
 /// Whether each order has the reader, which needs the value, and nobody can have left it.
 fn is_without_source(judged: &Question, steps: &[ReasonStep], source: &ValueSource) -> bool
     ensures { let w = judged.now in
-        result ≡ (is_asked w.criterion w.transactions.now steps.now source.now
-        && is_left_by_none w.states.now w.transactions.now source.now) }
+        result ≡ (is_asked w.criterion w.transactions steps.now source.now
+        && is_left_by_none w.states w.transactions source.now) }
 {
     is_asked(judged, steps, source) && is_left_by_none(judged, source)
 }
@@ -196,7 +198,7 @@ fn is_known_rival(
     left: u64,
 ) -> bool
     ensures { let w = judged.now in
-        result ≡ is_known_rival w.transactions.now steps.now source.now place left }
+        result ≡ is_known_rival w.transactions steps.now source.now place left }
 {
     let text = text_at(judged.transactions, place);
     is_given(steps, source)
@@ -216,7 +218,7 @@ fn is_late(steps: &[ReasonStep], source: &ValueSource, rival: usize) -> bool
 /// Tells whether the step follows from these.
 pub(crate) fn follows(judged: &Question, steps: &[ReasonStep], step: &ReasonStep) -> bool
     ensures { let w = judged.now in
-        result ≡ follows w.criterion w.states.now w.transactions.now steps.now step.now }
+        result ≡ follows w.criterion w.states w.transactions steps.now step.now }
 {
     match *step {
         ReasonStep::RealTime(one, other) => one != other
@@ -225,6 +227,13 @@ pub(crate) fn follows(judged: &Question, steps: &[ReasonStep], step: &ReasonStep
             is_asked(judged, steps, &source)
                 && may_come_from(judged, &source, source.writer)
                 && is_only(judged, steps, &source)
+        }
+        ReasonStep::TooLate(source) => {
+            may_come_from(judged, &source, source.writer)
+                && ends_before(steps, source.reader, source.writer)
+        }
+        ReasonStep::Overwritten(source, rival, left) => {
+            is_overwritten(judged, steps, &source, rival, left)
         }
         ReasonStep::ReadFirst(source, rival, left) => {
             is_known_rival(judged, steps, &source, rival, left)
@@ -244,7 +253,7 @@ pub(crate) fn follows(judged: &Question, steps: &[ReasonStep], step: &ReasonStep
 /// Tells whether these steps contradict each other so.
 pub(crate) fn contradicts(judged: &Question, steps: &[ReasonStep], end: &Contradiction) -> bool
     ensures { let w = judged.now in
-        result ≡ contradicts w.criterion w.states.now w.transactions.now steps.now end.now }
+        result ≡ contradicts w.criterion w.states w.transactions steps.now end.now }
 {
     match *end {
         Contradiction::Cycle(place) => {

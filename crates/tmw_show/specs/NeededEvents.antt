@@ -1,5 +1,5 @@
 -- Which events of a window are shown: all, or those that contradict each other, where it is asked why the window is violated.
-use Rattle.std.specs.Prelude.{◌≡◌, ℕ, Bool, true, false, List, [], ◌++◌, length, nat_lt, codes, if◌then◌else◌, Option, None, IfSome}
+use Rattle.std.specs.Prelude.{◌≡◌, ℕ, Bool, true, false, List, [], ◌++◌, length, nat_lt, codes, if◌then◌else◌, Option, None}
 use Rattle.std.specs.Fmt.{decimal}
 use Rattle.tmw_cuts.specs.Members.{members}
 use Rattle.tmw_defs.specs.declared.criterion.Criterion.{Criterion}
@@ -8,10 +8,10 @@ use Rattle.tmw_defs.specs.declared.verdict.Verdict.TheVariants.{Violated}
 use Rattle.tmw_events.specs.declared.event.Event.{Event}
 use Rattle.tmw_events.specs.declared.registers.Registers.{Registers}
 use Rattle.tmw_lines.specs.LineFeeds.{line}
-use Rattle.tmw_defs.specs.History.{transactions}
 use Rattle.tmw_part.specs.FindPart.{FindsPart}
-use Rattle.tmw_part.specs.Reasons.{IsFound}
-use Rattle.tmw_part.specs.declared.reason.Reason.{Reason}
+use Rattle.tmw_part.specs.DrawnSteps.{drawn_of}
+use Rattle.tmw_part.specs.FindReason.{FindsReason}
+use Rattle.tmw_part.specs.declared.reason_case.Reason.{Reason}
 use Rattle.tmw_part.specs.Marks.{all_kept, kept_of}
 use Rattle.tmw_window.specs.declared.shown_window.ShownWindow.{ShownWindow}
 use Rattle.tmw_show.specs.declared.needed_events.NeededEvents.{NeededEvents}
@@ -22,13 +22,13 @@ use Rattle.tmw_show.specs.declared.needed_events.NeededEvents.TheVariants.{Unask
 abbrev pub IsViolation : Verdict → Type 0
 IsViolation verdict = (at : ℕ) × (verdict ≡ Violated at)
 
--- Only where it is asked why a window is violated that is, a part of it is found, and maybe a reason why the window is.
+-- Only where it is asked why a window is violated that is, a part of it is found, and a reason why the window is of what is drawn.
 abbrev pub IsNeededOf : Criterion → Bool → Registers → ShownWindow → NeededEvents → Type 0
 IsNeededOf criterion why registers showing Unasked = why ≡ false
 IsNeededOf criterion why registers showing NotViolated = (why ≡ true) × (IsViolation showing.verdict → ⊥)
 IsNeededOf criterion why registers showing (Part marks reason) = (why ≡ true)
     × IsViolation showing.verdict × FindsPart criterion registers.number (members showing.states) showing.events.items marks.items
-    × IfSome reason (IsFound criterion (members showing.states) (transactions showing.events.items))
+    × FindsReason criterion (members showing.states) showing.events.items (drawn_of marks.items showing.events.items) reason
 
 -- This is what is shown, where it is so asked, of a run with so many registers whose last window this is.
 pub record IsShownFor (criterion : Criterion) (why : Bool) (registers : Registers) (showing : ShownWindow) (shown : ShownTrace) : Type 0 where

@@ -16,9 +16,10 @@ use Rattle.tmw_report.specs.Lines.{report_by}
 use Rattle.tmw_show.specs.declared.page.constants.TheConstants.{HEAD, TAIL}
 use Rattle.tmw_show.specs.declared.needed_events.NeededEvents.{NeededEvents}
 use Rattle.tmw_show.specs.declared.needed_events.NeededEvents.TheVariants.{Part}
-use Rattle.tmw_part.specs.declared.reason.Reason.{Reason}
+use Rattle.tmw_part.specs.declared.reason_case.Reason.{Reason}
+use Rattle.tmw_show.specs.declared.frame.Frame.TheVariants.{Clause}
 use Rattle.tmw_show.specs.NeededEvents.{reason_of}
-use Rattle.tmw_show.specs.Sentences.{clauses_text, told_sentence}
+use Rattle.tmw_show.specs.Sentences.{reason_text}
 use Rattle.tmw_show.specs.declared.shown_trace.ShownTrace.{ShownTrace}
 use Rattle.tmw_show.specs.declared.run_verdict.RunVerdict.{RunVerdict}
 
@@ -76,10 +77,10 @@ abbrev pub needed_json : NeededEvents → List ℕ
 needed_json (Part marks reason) = codes ",\"needed\":\"" ++ (flat_map (λ mark. digit mark ∷ []) marks.items ++ codes "\"")
 needed_json _ = []
 
--- and the reason, if one is told
-abbrev pub why_json : List ℕ → Option Reason → List ℕ
-why_json told None = []
-why_json told (Some reason) = codes ",\"why\":\"" ++ (clauses_text told reason ++ codes "\"")
+-- and the reason, if one is told of a window before which so many events stand, with each value in digits
+abbrev pub why_json : ℕ → List Event → Option Reason → List ℕ
+why_json before window None = []
+why_json before window (Some reason) = codes ",\"why\":\"" ++ (reason_text Clause [] before window reason ++ codes "\"")
 
 -- what is shown, as one JSON object and a line feed
 abbrev pub json_text : Criterion → ℕ → ShownTrace → List ℕ
@@ -88,7 +89,7 @@ json_text criterion before shown =
     ++ (window_json shown.registers (members shown.showing.states) shown.showing.events.items
     ++ (mark_json (told_of criterion before shown)
     ++ (needed_json shown.needed
-    ++ (why_json (told_sentence [] (before + shown.showing.from) shown.showing.events.items (reason_of shown.needed)) (reason_of shown.needed)
+    ++ (why_json (before + shown.showing.from) shown.showing.events.items (reason_of shown.needed)
     ++ codes "}\n"))))
 
 -- the page

@@ -27,7 +27,8 @@ use Rattle.tmw_show.specs.declared.shown_trace.ShownTrace.{ShownTrace}
 use Rattle.tmw_show.specs.Drawing.{states_text, window_text}
 use Rattle.tmw_show.specs.NeededEvents.{IsNeededOf, marks_of, needed_text, reason_of}
 use Rattle.tmw_show.specs.Page.{page_text, told_of}
-use Rattle.tmw_show.specs.Sentences.{reason_text, told_sentence}
+use Rattle.tmw_show.specs.Sentences.{found_text}
+use Rattle.tmw_show.specs.declared.frame.Frame.TheVariants.{Line}
 use Rattle.tmw_show.specs.TracesText.{traces_text}
 use Rattle.tmw_show.specs.ValueNames.{long_values}
 
@@ -63,7 +64,7 @@ drawn_text criterion before shown =
     ++ (needed_text shown.needed shown.showing.events.items
     ++ (window_text (told_of criterion before shown) earlier (marks_of shown.needed shown.showing.events.items) shown.showing.events.items
     ++ (let values = long_values (shown_events shown) in
-    reason_text values (told_sentence values earlier shown.showing.events.items (reason_of shown.needed)) (reason_of shown.needed)))))
+    found_text Line values earlier shown.showing.events.items (reason_of shown.needed)))))
 
 abbrev pub shown_text : Criterion → ℕ → Form → ShownTrace → List ℕ
 shown_text criterion before Drawing shown = drawn_text criterion before shown

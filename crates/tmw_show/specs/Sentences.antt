@@ -1,5 +1,5 @@
 -- The sentences that tell why a window is violated. Values that are among some have names.
-use Rattle.std.specs.Prelude.{ℕ, ◌+◌, List, [], ◌∷◌, ◌++◌, codes, Option, Some, None}
+use Rattle.std.specs.Prelude.{ℕ, ◌+◌, Bool, true, false, List, [], ◌∷◌, ◌++◌, codes, drop, length, min, nat_lt, take, Option, Some, None}
 use Rattle.std.specs.List.{flat_map}
 use Rattle.std.specs.Fmt.{decimal}
 use Rattle.tmw_lines.specs.LineFeeds.{line}
@@ -8,12 +8,16 @@ use Rattle.tmw_part.specs.Origins.{origin_of}
 use Rattle.tmw_part.specs.declared.origin.Fate.{Fate}
 use Rattle.tmw_part.specs.declared.origin.Fate.TheVariants.{GivenUp, Unasked, Overwritten, Stays}
 use Rattle.tmw_part.specs.declared.origin.Origin.{Origin}
-use Rattle.tmw_part.specs.declared.reason.Reason.{Reason}
+use Rattle.tmw_part.specs.declared.reason_case.Derivation.{Derivation}
+use Rattle.tmw_part.specs.declared.reason_case.Reason.{Reason}
+use Rattle.tmw_part.specs.declared.reason_case.ReasonCase.{ReasonCase}
 use Rattle.tmw_part.specs.declared.reason_step.Contradiction.{Contradiction}
 use Rattle.tmw_part.specs.declared.reason_step.Contradiction.TheVariants.{Cycle, NoSource, Unlike}
 use Rattle.tmw_part.specs.declared.reason_step.ValueSource.{ValueSource}
 use Rattle.tmw_part.specs.declared.reason_step.ReasonStep.{ReasonStep}
-use Rattle.tmw_part.specs.declared.reason_step.ReasonStep.TheVariants.{RealTime, From, ReadFirst, ChangedFirst, Through}
+use Rattle.tmw_part.specs.declared.reason_step.ReasonStep.TheVariants.{RealTime, From, TooLate, Overwritten, ReadFirst, ChangedFirst, Through}
+use Rattle.tmw_show.specs.declared.frame.Frame.{Frame}
+use Rattle.tmw_show.specs.declared.frame.Frame.TheVariants.{Line, Clause}
 use Rattle.tmw_show.specs.TransactionNames.{name_text}
 use Rattle.tmw_show.specs.ValueNames.{value_text}
 
@@ -31,23 +35,46 @@ abbrev pub source_text : List ℕ → ValueSource → Option ℕ → List ℕ
 source_text values s None = []
 source_text values s (Some writer) =
     read_text values s.reader s.value s.register.number
-    (codes ", which " ++ (name_text writer ++ (codes " left there" ++ so_text writer s.reader)))
+    (codes ", which only " ++ (name_text writer ++ (codes " can have left" ++ so_text writer s.reader)))
+
+-- The value does not come from this writer, which comes after the reader.
+abbrev pub too_late_text : List ℕ → ValueSource → Option ℕ → List ℕ
+too_late_text values s None = []
+too_late_text values s (Some writer) =
+    read_text values s.reader s.value s.register.number (codes ", not from " ++ (name_text writer ++ codes ", which comes after it"))
+
+-- The transaction that left a value, or the start.
+abbrev pub writer_text : Option ℕ → List ℕ
+writer_text None = codes "the start"
+writer_text (Some writer) = name_text writer
+
+-- The value does not come from there: the rival left this value in between.
+abbrev pub overwritten_text : List ℕ → ValueSource → ℕ → ℕ → List ℕ
+overwritten_text values s rival left =
+    read_text values s.reader s.value s.register.number
+    (codes ", not from "
+    ++ (writer_text s.writer
+    ++ (codes ": " ++ (name_text rival ++ (codes " left " ++ (value_text values left ++ codes " there in between"))))))
+
+-- The reader stands before the rival, which leaves another value.
+abbrev pub first_text : List ℕ → ValueSource → ℕ → ℕ → Option ℕ → List ℕ
+first_text values s rival left None =
+    codes ", which only the start can have left, and "
+    ++ (name_text rival ++ (codes " left " ++ (value_text values left ++ (codes " there" ++ so_text s.reader rival))))
+first_text values s rival left (Some writer) =
+    codes ", where " ++ (name_text rival ++ (codes " left " ++ (value_text values left ++ so_text s.reader rival)))
+
+abbrev pub read_first_text : List ℕ → ValueSource → ℕ → ℕ → List ℕ
+read_first_text values s rival left =
+    read_text values s.reader s.value s.register.number (first_text values s rival left s.writer)
 
 -- The rival stands before the writer, if there is one.
 abbrev pub later_text : ℕ → Option ℕ → List ℕ
 later_text rival None = []
 later_text rival (Some writer) = so_text rival writer
 
--- The sentence of a step. What follows through a third transaction is in the sentences of the others, and that a value stood there from the
--- start is in the sentence that tells who changed it.
-abbrev pub step_text : List ℕ → ReasonStep → List ℕ
-step_text values (RealTime one other) =
-    name_text one ++ (codes " ended before " ++ (name_text other ++ (codes " began" ++ so_text one other)))
-step_text values (From s) = source_text values s s.writer
-step_text values (ReadFirst s rival left) =
-    read_text values s.reader s.value s.register.number
-    (codes ", where " ++ (name_text rival ++ (codes " left " ++ (value_text values left ++ so_text s.reader rival))))
-step_text values (ChangedFirst rival left s) =
+abbrev pub changed_first_text : List ℕ → ℕ → ℕ → ValueSource → List ℕ
+changed_first_text values rival left s =
     name_text rival
     ++ (codes " left "
     ++ (value_text values left
@@ -55,13 +82,31 @@ step_text values (ChangedFirst rival left s) =
     ++ (decimal s.register.number
     ++ (codes ", where "
     ++ (name_text s.reader ++ (codes " read " ++ (value_text values s.value ++ later_text rival s.writer))))))))
+
+-- The sentence of a step. What follows through a third transaction is in the sentences of the others, and that a value stood there from the
+-- start is in the sentence that tells who changed it.
+abbrev pub step_text : List ℕ → ReasonStep → List ℕ
+step_text values (RealTime one other) =
+    name_text one ++ (codes " ended before " ++ (name_text other ++ (codes " began" ++ so_text one other)))
+step_text values (From s) = source_text values s s.writer
+step_text values (TooLate s) = too_late_text values s s.writer
+step_text values (Overwritten s rival left) = overwritten_text values s rival left
+step_text values (ReadFirst s rival left) = read_first_text values s rival left
+step_text values (ChangedFirst rival left s) = changed_first_text values rival left s
 step_text values (Through one between other) = []
+
+-- What is assumed: that a value comes from there.
+abbrev pub assumption_text : List ℕ → ReasonStep → List ℕ
+assumption_text values (From s) =
+    codes "if "
+    ++ read_text values s.reader s.value s.register.number (codes " as " ++ (writer_text s.writer ++ codes " left it:"))
+assumption_text values _ = []
 
 -- The sentence of what the steps come to.
 abbrev pub end_text : List ℕ → Contradiction → List ℕ
 end_text values (Cycle place) = name_text place ++ codes " would come before itself"
 end_text values (NoSource reader register value) =
-    read_text values reader value register.number (codes ", which neither the start nor another commit left")
+    read_text values reader value register.number (codes ": none of these states has it, and no other commit of this window left it")
 end_text values (Unlike reader register expected read) =
     read_text values reader read register.number (codes ", where its own earlier calls make it " ++ value_text values expected)
 
@@ -92,27 +137,51 @@ told_by values before window (NoSource reader register value) =
 told_by values before window (Unlike reader register expected read) =
     origin_text values before register.number read (origin_of window register.number read (Some expected) reader)
 
-abbrev pub told_sentence : List ℕ → ℕ → List Event → Option Reason → List ℕ
-told_sentence values before window None = []
-told_sentence values before window (Some reason) = told_by values before window reason.end
+-- A sentence with what stands around it, unless it is empty.
+abbrev pub framed : Frame → List ℕ → List ℕ
+framed frame [] = []
+framed Line (code ∷ sentence) = line (codes "    why    " ++ code ∷ sentence)
+framed Clause (code ∷ sentence) = (code ∷ sentence) ++ codes "; "
 
--- a sentence as a line, unless it is empty
-abbrev pub sentence_line : List ℕ → List ℕ
-sentence_line [] = []
-sentence_line (code ∷ sentence) = line (codes "    why    " ++ code ∷ sentence)
+-- The sentences of steps, of which so many are assumed.
+abbrev pub steps_from : Frame → List ℕ → ℕ → List ReasonStep → List ℕ
+steps_from frame values first steps =
+    flat_map (λ step. framed frame (assumption_text values step)) (take first steps)
+    ++ flat_map (λ step. framed frame (step_text values step)) (drop first steps)
 
--- a line for each step, this one, and one for what the steps come to, where a reason is found
-abbrev pub reason_text : List ℕ → List ℕ → Option Reason → List ℕ
-reason_text values told None = []
-reason_text values told (Some reason) =
-    flat_map (λ step. sentence_line (step_text values step)) reason.steps.items
-    ++ (sentence_line told ++ sentence_line (end_text values reason.end))
+abbrev pub steps_text : Frame → List ℕ → ℕ → List ReasonStep → List ℕ
+steps_text frame values assumed steps = steps_from frame values (min assumed (length steps)) steps
 
--- the sentences in one line, each but the last with a semicolon, and each value in digits
-abbrev pub clause_text : List ℕ → List ℕ
-clause_text [] = []
-clause_text (code ∷ sentence) = (code ∷ sentence) ++ codes "; "
+-- What the steps come to: where a value comes from that no order explains, if it has one, and that.
+abbrev pub ending_text : Frame → List ℕ → ℕ → List Event → Contradiction → List ℕ
+ending_text frame values before window end = framed frame (told_by values before window end) ++ framed frame (end_text values end)
 
-abbrev pub clauses_text : List ℕ → Reason → List ℕ
-clauses_text told reason =
-    flat_map (λ step. clause_text (step_text [] step)) reason.steps.items ++ (clause_text told ++ end_text [] reason.end)
+abbrev pub derivation_text : Frame → List ℕ → ℕ → List Event → Derivation → List ℕ
+derivation_text frame values before window d =
+    steps_text frame values d.assumed d.steps.items ++ ending_text frame values before window d.end
+
+-- For which states a case is said.
+abbrev pub state_item : ℕ → List ℕ
+state_item place = codes ", state line " ++ decimal (place + 1)
+
+abbrev pub header_text : List ℕ → List ℕ
+header_text places = codes "from" ++ (drop 1 (flat_map state_item places) ++ codes ":")
+
+-- So it is for each derivation of a case, behind that where there are several cases.
+abbrev pub derivations_text : Frame → List ℕ → ℕ → List Event → ReasonCase → List ℕ
+derivations_text frame values before window case = flat_map (derivation_text frame values before window) case.derivations.items
+
+abbrev pub case_text : Frame → List ℕ → ℕ → List Event → Bool → ReasonCase → List ℕ
+case_text frame values before window false case = derivations_text frame values before window case
+case_text frame values before window true case =
+    framed frame (header_text case.states.items) ++ derivations_text frame values before window case
+
+-- The sentences of a reason why a window is violated before which so many events stand.
+abbrev pub reason_text : Frame → List ℕ → ℕ → List Event → Reason → List ℕ
+reason_text frame values before window reason =
+    flat_map (case_text frame values before window (nat_lt 1 (length reason.cases.items))) reason.cases.items
+
+-- and where a reason is found
+abbrev pub found_text : Frame → List ℕ → ℕ → List Event → Option Reason → List ℕ
+found_text frame values before window None = []
+found_text frame values before window (Some reason) = reason_text frame values before window reason

@@ -2,12 +2,13 @@ ghost use Rattle.std.specs.Prelude.{◌≡◌, ◌+◌, ◌<◌, ◌^◌, ◌++�
 ghost use Rattle.tmw_cuts.specs.Members.{members};
 ghost use Rattle.tmw_show.specs.RunShow.{drawn_text, shown_events, shown_text};
 ghost use Rattle.tmw_show.specs.NeededEvents.{reason_of};
-ghost use Rattle.tmw_show.specs.Sentences.{reason_text, told_sentence};
+ghost use Rattle.tmw_show.specs.Sentences.{found_text};
+ghost use Rattle.tmw_show.specs.declared.frame.Frame.TheVariants.{Line};
 ghost use Rattle.tmw_show.specs.TracesText.{traces_text};
 
+use crate::frame::Frame;
 use crate::item_text::push_each;
 use crate::needed_events::{NeededEvents, marks_of, push_needed};
-use crate::origin_sentence::told_by;
 use crate::page::page_text;
 use crate::run_verdict::RunVerdict;
 use crate::sentences::push_reason;
@@ -83,18 +84,14 @@ fn push_reason_of(
     needed: &NeededEvents,
 ) -> Result<(), AllocError>
     requires { before + length events.now < 2 ^ 128 }
-    ensures { let reason = reason_of needed.now in
-        let told = told_sentence values.now before events.now reason in
-        OnOk result (text.new.items ≡ text.old.items ++ reason_text values.now told reason) }
+    ensures { let found = reason_of needed.now in OnOk result
+        (text.new.items ≡ text.old.items ++ found_text Line values.now before events.now found) }
 {
     match needed {
         NeededEvents::Part {
             reason: Some(reason),
             ..
-        } => {
-            let told = told_by(*text.allocator(), values, before, events, &reason.end)?;
-            push_reason(text, values, &told, reason)
-        }
+        } => push_reason(text, Frame::Line, values, before, events, reason),
         _ => Ok(()),
     }
 }

@@ -4,6 +4,7 @@
 
 mod event_text;
 mod form_text;
+mod frame;
 mod item_text;
 mod laws;
 mod legend;

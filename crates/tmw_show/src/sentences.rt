@@ -1,92 +1,194 @@
 //! The sentences that tell why a window is violated. Values that are among some have names.
-ghost use Rattle.std.specs.Prelude.{◌≡◌, ◌++◌, [], IfOk, OnOk, Some, string_bytes};
-ghost use Rattle.tmw_show.specs.Sentences.{clause_text, clauses_text, end_text, later_text, reason_text, sentence_line, so_text, source_text, step_text};
+ghost use Rattle.std.specs.Prelude.{◌≡◌, ◌+◌, ◌<◌, ◌^◌, ◌++◌, IfOk, OnOk, length, string_bytes};
+ghost use Rattle.std.specs.List.{flat_map};
+ghost use Rattle.tmw_show.specs.Sentences.{assumption_text, case_text, changed_first_text, derivation_text, end_text, ending_text, framed, header_text, later_text, overwritten_text, read_first_text, reason_text, so_text, source_text, state_item, step_text, steps_text, too_late_text, writer_text};
 
-use crate::item_text::{ItemText, push_each};
+use crate::frame::Frame;
+use crate::item_text::{ItemText, push_each, push_list};
+use crate::origin_sentence::told_by;
 use crate::transaction_names::TransactionName;
 use crate::value_names::Value;
 use std::alloc::{AllocError, Global};
-use tmw_part::{Contradiction, Reason, ReasonStep, ValueSource};
+use tmw_events::Event;
+use tmw_part::{Contradiction, Derivation, Reason, ReasonCase, ReasonStep, ValueSource};
 
-/// Adds a line for each step of the reason, a line of what is told, if that is anything, and one for what the steps come
-/// to.
+/// Adds the sentences of the reason why a window is violated before which so many events stand. If it has several cases,
+/// each begins with the states for which it is said.
 pub fn push_reason(
     text: &mut Vec<u8>,
+    frame: Frame,
     values: &[u64],
-    told: &str,
+    before: u128,
+    events: &[Event],
     reason: &Reason,
 ) -> Result<(), AllocError>
-    ensures { OnOk result
-        (text.new.items ≡ text.old.items ++ reason_text values.now told.now (Some reason.now)) }
+    requires { before + length events.now < 2 ^ 128 }
+    ensures { OnOk result (text.new.items
+        ≡ text.old.items ++ reason_text frame values.now before events.now reason.now) }
 {
-    push_each(text, &StepLine { values }, &reason.steps)?;
-    push_sentence(text, told)?;
-    let end = end_text(*text.allocator(), values, &reason.end)?;
-    push_sentence(text, &end)
-}
-
-/// Adds the sentences of a reason in one line, each but the last with a semicolon, and each value in digits.
-pub fn push_clauses(text: &mut Vec<u8>, told: &str, reason: &Reason) -> Result<(), AllocError>
-    ensures { OnOk result
-        (text.new.items ≡ text.old.items ++ clauses_text told.now reason.now) }
-{
-    push_each(text, &StepClause, &reason.steps)?;
-    push_clause(text, told)?;
-    let end = end_text(*text.allocator(), &[], &reason.end)?;
-    text.extend_from_slice(end.as_bytes())?;
+    let several = reason.cases.len() > 1;
+    for case in &reason.cases {
+        push_case(text, frame, values, before, events, several, case)?;
+    }
     Ok(())
 }
 
-/// The clause of a step.
-#[derive(Drop)]
-struct StepClause;
-
-impl ItemText<ReasonStep> for StepClause {
-    ghost part = { λ own step. clause_text (step_text [] step) };
-
-    fn push(&self, text: &mut Vec<u8>, step: &ReasonStep) -> Result<(), AllocError> {
-        let sentence = step_text(*text.allocator(), &[], step)?;
-        push_clause(text, &sentence)
+/// Adds the sentences of a case, of several or not.
+fn push_case(
+    text: &mut Vec<u8>,
+    frame: Frame,
+    values: &[u64],
+    before: u128,
+    events: &[Event],
+    several: bool,
+    case: &ReasonCase,
+) -> Result<(), AllocError>
+    requires { before + length events.now < 2 ^ 128 }
+    ensures { OnOk result (text.new.items
+        ≡ text.old.items ++ case_text frame values.now before events.now several case.now) }
+{
+    if several {
+        push_header(text, frame, &case.states)?;
     }
+    push_derivations(text, frame, values, before, events, &case.derivations)
 }
 
-/// Adds a sentence and a semicolon, unless it is empty.
-fn push_clause(text: &mut Vec<u8>, sentence: &str) -> Result<(), AllocError>
-    ensures { OnOk result (text.new.items ≡ text.old.items ++ clause_text sentence.now) }
+/// Adds the sentences of each derivation.
+fn push_derivations(
+    text: &mut Vec<u8>,
+    frame: Frame,
+    values: &[u64],
+    before: u128,
+    events: &[Event],
+    derivations: &[Derivation],
+) -> Result<(), AllocError>
+    requires { before + length events.now < 2 ^ 128 }
+    ensures { OnOk result (text.new.items ≡ text.old.items
+        ++ flat_map (derivation_text frame values.now before events.now) derivations.now) }
 {
-    if sentence.is_empty() {
-        return Ok(());
+    for derivation in derivations {
+        push_steps(text, frame, values, derivation.assumed, &derivation.steps)?;
+        push_end(text, frame, values, before, events, &derivation.end)?;
     }
-    text.extend_from_slice(sentence.as_bytes())?;
-    text.extend_from_slice(b"; ")?;
     Ok(())
 }
 
-/// The line of a step.
+/// Adds the sentences of steps, of which so many are assumed.
+fn push_steps(
+    text: &mut Vec<u8>,
+    frame: Frame,
+    values: &[u64],
+    assumed: usize,
+    steps: &[ReasonStep],
+) -> Result<(), AllocError>
+    ensures { OnOk result (text.new.items
+        ≡ text.old.items ++ steps_text frame values.now assumed steps.now) }
+{
+    let first = assumed.min(steps.len());
+    push_each(text, &AssumedText { frame, values }, &steps[..first])?;
+    push_each(text, &StepText { frame, values }, &steps[first..])
+}
+
+/// Adds the sentences of what the steps come to: where the value comes from that no order explains, and that.
+fn push_end(
+    text: &mut Vec<u8>,
+    frame: Frame,
+    values: &[u64],
+    before: u128,
+    events: &[Event],
+    end: &Contradiction,
+) -> Result<(), AllocError>
+    requires { before + length events.now < 2 ^ 128 }
+    ensures { OnOk result (text.new.items
+        ≡ text.old.items ++ ending_text frame values.now before events.now end.now) }
+{
+    let alloc = *text.allocator();
+    let told = told_by(alloc, values, before, events, end)?;
+    push_sentence(text, frame, &told)?;
+    let end = end_text(alloc, values, end)?;
+    push_sentence(text, frame, &end)
+}
+
+/// The sentence of a step that is assumed.
 #[derive(Drop)]
-struct StepLine<'a> {
+struct AssumedText<'a> {
+    frame: Frame,
     values: &'a [u64],
 }
 
-impl ItemText<ReasonStep> for StepLine<'_> {
-    ghost part = { λ own step. sentence_line (step_text own.values.now step) };
+impl ItemText<ReasonStep> for AssumedText<'_> {
+    ghost part = { λ own step. framed own.frame (assumption_text own.values.now step) };
 
     fn push(&self, text: &mut Vec<u8>, step: &ReasonStep) -> Result<(), AllocError> {
-        let sentence = step_text(*text.allocator(), self.values, step)?;
-        push_sentence(text, &sentence)
+        let sentence = assumption_text(*text.allocator(), self.values, step)?;
+        push_sentence(text, self.frame, &sentence)
     }
 }
 
-/// Adds a sentence as a line, unless it is empty.
-fn push_sentence(text: &mut Vec<u8>, sentence: &str) -> Result<(), AllocError>
-    ensures { OnOk result (text.new.items ≡ text.old.items ++ sentence_line sentence.now) }
+/// The sentence of a step that follows.
+#[derive(Drop)]
+struct StepText<'a> {
+    frame: Frame,
+    values: &'a [u64],
+}
+
+impl ItemText<ReasonStep> for StepText<'_> {
+    ghost part = { λ own step. framed own.frame (step_text own.values.now step) };
+
+    fn push(&self, text: &mut Vec<u8>, step: &ReasonStep) -> Result<(), AllocError> {
+        let sentence = step_text(*text.allocator(), self.values, step)?;
+        push_sentence(text, self.frame, &sentence)
+    }
+}
+
+/// Adds a sentence with what stands around it, unless it is empty.
+fn push_sentence(text: &mut Vec<u8>, frame: Frame, sentence: &str) -> Result<(), AllocError>
+    ensures { OnOk result (text.new.items ≡ text.old.items ++ framed frame sentence.now) }
 {
     if sentence.is_empty() {
         return Ok(());
     }
-    text.extend_from_slice(b"    why    ")?;
-    text.extend_from_slice(sentence.as_bytes())?;
-    text.push(b'\n')?;
+    match frame {
+        Frame::Line => {
+            text.extend_from_slice(b"    why    ")?;
+            text.extend_from_slice(sentence.as_bytes())?;
+            text.push(b'\n')?;
+        }
+        Frame::Clause => {
+            text.extend_from_slice(sentence.as_bytes())?;
+            text.extend_from_slice(b"; ")?;
+        }
+    }
+    Ok(())
+}
+
+/// The number of the state at a place, behind a comma.
+#[derive(Drop)]
+struct StateNumber;
+
+impl ItemText<usize> for StateNumber {
+    ghost part = { λ own place. state_item place };
+
+    fn push(&self, text: &mut Vec<u8>, place: &usize) -> Result<(), AllocError> {
+        let number = *place as u128 + 1;
+        let item = format!(in *text.allocator(); ", state line {number}")?;
+        text.extend_from_slice(item.as_bytes())?;
+        Ok(())
+    }
+}
+
+/// Tells for which states a case is said.
+fn push_header(text: &mut Vec<u8>, frame: Frame, places: &[usize]) -> Result<(), AllocError>
+    ensures { OnOk result
+        (text.new.items ≡ text.old.items ++ framed frame (header_text places.now)) }
+{
+    let (opening, end) = match frame {
+        Frame::Line => ("    why    from", ":\n"),
+        Frame::Clause => ("from", ":; "),
+    };
+    text.extend_from_slice(opening.as_bytes())?;
+    push_list(text, &StateNumber, places)?;
+    text.extend_from_slice(end.as_bytes())?;
     Ok(())
 }
 
@@ -122,7 +224,115 @@ fn source_text(alloc: Global, values: &[u64], source: &ValueSource) -> Result<St
     let value = Value(values, source.value);
     let register = source.register.get();
     format!(in alloc;
-        "{reader} read {value} from register {register}, which {writer} left there{so}"
+        "{reader} read {value} from register {register}, which only {writer} can have left{so}"
+    )
+}
+
+/// Tells that the value does not come from this writer, which comes after the reader.
+fn too_late_text(alloc: Global, values: &[u64], source: &ValueSource) -> Result<String, AllocError>
+    ensures { IfOk result (λ text. string_bytes text
+        ≡ too_late_text values.now source.now source.now.writer) }
+{
+    let Some(writer) = source.writer else {
+        return Ok(String::new(alloc));
+    };
+    let (reader, writer) = (TransactionName(source.reader), TransactionName(writer));
+    let value = Value(values, source.value);
+    let register = source.register.get();
+    format!(in alloc;
+        "{reader} read {value} from register {register}, not from {writer}, which comes after it"
+    )
+}
+
+/// The transaction that left a value, or the start.
+fn writer_text(alloc: Global, writer: Option<usize>) -> Result<String, AllocError>
+    ensures { IfOk result (λ text. string_bytes text ≡ writer_text writer) }
+{
+    match writer {
+        Some(place) => {
+            let writer = TransactionName(place);
+            format!(in alloc; "{writer}")
+        }
+        None => format!(in alloc; "the start"),
+    }
+}
+
+/// Tells what a derivation assumes: that a value comes from there.
+fn assumption_text(alloc: Global, values: &[u64], step: &ReasonStep) -> Result<String, AllocError>
+    ensures { IfOk result (λ text. string_bytes text ≡ assumption_text values.now step.now) }
+{
+    let ReasonStep::From(source) = *step else {
+        return Ok(String::new(alloc));
+    };
+    let reader = TransactionName(source.reader);
+    let value = Value(values, source.value);
+    let register = source.register.get();
+    let writer = writer_text(alloc, source.writer)?;
+    format!(in alloc; "if {reader} read {value} from register {register} as {writer} left it:")
+}
+
+/// Tells that the value does not come from this source: the rival left this value in between.
+fn overwritten_text(
+    alloc: Global,
+    values: &[u64],
+    source: &ValueSource,
+    rival: usize,
+    left: u64,
+) -> Result<String, AllocError>
+    ensures { IfOk result (λ text. string_bytes text
+        ≡ overwritten_text values.now source.now rival left) }
+{
+    let (reader, rival) = (TransactionName(source.reader), TransactionName(rival));
+    let (value, left) = (Value(values, source.value), Value(values, left));
+    let register = source.register.get();
+    let writer = writer_text(alloc, source.writer)?;
+    format!(in alloc;
+        "{reader} read {value} from register {register}, not from {writer}: {rival} left {left} there in between"
+    )
+}
+
+/// Tells that the reader stands before the rival, which leaves another value.
+fn read_first_text(
+    alloc: Global,
+    values: &[u64],
+    source: &ValueSource,
+    rival: usize,
+    left: u64,
+) -> Result<String, AllocError>
+    ensures { IfOk result (λ text. string_bytes text
+        ≡ read_first_text values.now source.now rival left) }
+{
+    let so = so_text(alloc, source.reader, rival)?;
+    let (reader, rival) = (TransactionName(source.reader), TransactionName(rival));
+    let (value, left) = (Value(values, source.value), Value(values, left));
+    let register = source.register.get();
+    match source.writer {
+        None => format!(in alloc;
+            "{reader} read {value} from register {register}, which only the start can have left, and {rival} left {left} there{so}"
+        ),
+        Some(_writer) => format!(in alloc;
+            "{reader} read {value} from register {register}, where {rival} left {left}{so}"
+        ),
+    }
+}
+
+/// Tells that the rival, which leaves another value, stands before the source's writer.
+fn changed_first_text(
+    alloc: Global,
+    values: &[u64],
+    rival: usize,
+    left: u64,
+    source: &ValueSource,
+) -> Result<String, AllocError>
+    ensures { IfOk result (λ text. string_bytes text
+        ≡ changed_first_text values.now rival left source.now) }
+{
+    let later = later_text(alloc, rival, source.writer)?;
+    let (reader, rival) = (TransactionName(source.reader), TransactionName(rival));
+    let (value, left) = (Value(values, source.value), Value(values, left));
+    let register = source.register.get();
+    format!(in alloc;
+        "{rival} left {left} in register {register}, where {reader} read {value}{later}"
     )
 }
 
@@ -137,23 +347,15 @@ fn step_text(alloc: Global, values: &[u64], step: &ReasonStep) -> Result<String,
             format!(in alloc; "{one} ended before {other} began{so}")
         }
         ReasonStep::From(source) => source_text(alloc, values, &source),
+        ReasonStep::TooLate(source) => too_late_text(alloc, values, &source),
+        ReasonStep::Overwritten(source, rival, left) => {
+            overwritten_text(alloc, values, &source, rival, left)
+        }
         ReasonStep::ReadFirst(source, rival, left) => {
-            let so = so_text(alloc, source.reader, rival)?;
-            let (reader, rival) = (TransactionName(source.reader), TransactionName(rival));
-            let (value, left) = (Value(values, source.value), Value(values, left));
-            let register = source.register.get();
-            format!(in alloc;
-                "{reader} read {value} from register {register}, where {rival} left {left}{so}"
-            )
+            read_first_text(alloc, values, &source, rival, left)
         }
         ReasonStep::ChangedFirst(rival, left, source) => {
-            let later = later_text(alloc, rival, source.writer)?;
-            let (reader, rival) = (TransactionName(source.reader), TransactionName(rival));
-            let (value, left) = (Value(values, source.value), Value(values, left));
-            let register = source.register.get();
-            format!(in alloc;
-                "{rival} left {left} in register {register}, where {reader} read {value}{later}"
-            )
+            changed_first_text(alloc, values, rival, left, &source)
         }
         ReasonStep::Through(..) => Ok(String::new(alloc)),
     }
@@ -175,7 +377,7 @@ fn end_text(alloc: Global, values: &[u64], end: &Contradiction) -> Result<String
                 Value(values, value),
             );
             format!(in alloc;
-                "{reader} read {value} from register {register}, which neither the start nor another commit left"
+                "{reader} read {value} from register {register}: none of these states has it, and no other commit of this window left it"
             )
         }
         Contradiction::Unlike(reader, register, expected, read) => {

@@ -1,100 +1,40 @@
-;; Clojure's refs: a register is a ref.
+;; Clojure's refs by lines: each thread of the bench is one here. When dosync runs its block again, the block throws, and A answers the pending
+;; call: the next attempt is another dosync, which begins with its first call.
 ;;
-;;     clojure refs.clj deref|ensure REGISTERS ROUNDS SEED
-;;
-;; A transaction reads by deref or by ensure. Each attempt is a dosync of its own. If dosync runs its block again, the block throws before
-;; any event: so the A and the next attempt's first call are recorded outside, before the next snapshot.
-(import '(java.io PrintWriter) '(java.util SplittableRandom) '(java.util.concurrent CyclicBarrier)
-        '(java.util.concurrent.atomic AtomicInteger) '(java.util.concurrent.locks LockSupport))
+;;     refs.clj deref|ensure
+(import 'java.util.concurrent.LinkedBlockingQueue)
+(def refs (vec (repeatedly 8 #(ref 0))))
+(def calls (vec (repeatedly 8 #(LinkedBlockingQueue.))))
+(def read-ref (if (= (first *command-line-args*) "ensure") ensure deref))
 
-(def threads 4)
-(def steps 3)
-(def attempts 2)
-(def pause "Longest sleep between two calls, in microseconds." 150)
-(def pause-before "Longest sleep before an attempt." 600)
-(def aborts-one-in "One transaction in so many asks to abort." 8)
-(def room "Events of a round, at most." 1024)
+(defn answer [thread & words]
+  (locking calls (println (apply str thread " " (interpose " " words))) (flush)))
 
-(def reads-by (first *command-line-args*))
-(let [[registers-word rounds-word seed-word] (map parse-long (rest *command-line-args*))]
-  (def registers registers-word)
-  (def rounds rounds-word)
-  (def seed seed-word))
+(defn next-call [thread]
+  (.take ^LinkedBlockingQueue (calls thread)))
 
-(def refs (vec (repeatedly registers #(ref 0))))
+(defn make-calls
+  "Makes calls until one asks to commit; throws if one asks to abort."
+  [thread first-call]
+  (loop [[call register value] first-call]
+    (case call
+      "R" (answer thread "V" (read-ref (refs (parse-long register))))
+      "W" (do (ref-set (refs (parse-long register)) (parse-long value)) (answer thread "K"))
+      "T" nil
+      "X" (throw (ex-info "asked" {})))
+    (when (not= call "T") (recur (next-call thread)))))
 
-;; An event takes its place by one addition. Between rounds, while all threads wait, the lines are written.
-(def ^"[Ljava.lang.Object;" events (object-array room))
-(def ^AtomicInteger recorded (AtomicInteger.))
-(def ^PrintWriter output (PrintWriter. System/out false))
+(defn transaction [thread first-call]
+  (let [has-run (volatile! false)]
+    (try (dosync
+           (when @has-run (throw (ex-info "again" {})))
+           (vreset! has-run true)
+           (make-calls thread first-call))
+         "C"
+         (catch clojure.lang.ExceptionInfo _ "A"))))
 
-(defn record [& words] (aset events (.getAndIncrement recorded) words))
-
-(defn write-events []
-  (dotimes [place (.getAndSet recorded 0)]
-    (.println output (apply str (interpose " " (aget events place))))))
-
-(defn rest-at-most [^SplittableRandom random most]
-  (when (.nextBoolean random)
-    (LockSupport/parkNanos (* 1000 (.nextInt random most)))))
-
-(defn read-ref [variable]
-  (if (= reads-by "ensure") (ensure variable) @variable))
-
-(defn make-steps [random thread plan fresh]
-  (loop [[[register writes] & more] plan, is-first true]
-    (when-not is-first (record thread "R" register))
-    (record thread "V" (read-ref (refs register)))
-    (rest-at-most random pause)
-    (when writes
-      (record thread "W" register fresh)
-      (ref-set (refs register) fresh)
-      (record thread "K")
-      (rest-at-most random pause))
-    (when more (recur more false))))
-
-(defn attempt
-  "Makes an attempt, and returns whether it ended as was asked."
-  [random thread plan aborts fresh]
-  (record thread "R" (first (first plan)))
-  (let [has-begun (volatile! false)
-        ended (try
-                (dosync
-                  (when @has-begun (throw (ex-info "again" {:stop :again})))
-                  (vreset! has-begun true)
-                  (make-steps random thread plan fresh)
-                  (record thread (if aborts "X" "T"))
-                  (when aborts (throw (ex-info "cancel" {:stop :cancel})))
-                  :committed)
-                (catch clojure.lang.ExceptionInfo stopped (:stop (ex-data stopped))))]
-    (record thread (if (= ended :committed) "C" "A"))
-    (not= ended :again)))
-
-(defn transaction [^SplittableRandom random thread number]
-  (let [plan (vec (repeatedly steps #(vector (.nextInt random registers) (.nextBoolean random))))
-        aborts (zero? (.nextInt random aborts-one-in))]
-    (loop [count 0]
-      (when (< count attempts)
-        (rest-at-most random pause-before)
-        ;; no other attempt of the run writes this value
-        (when-not (attempt random thread plan aborts (+ 1 count (* attempts (+ thread (* threads number)))))
-          (recur (inc count)))))))
-
-(def barrier (CyclicBarrier. threads write-events))
-
-(defn work [thread]
-  (try
-    (let [random (SplittableRandom. (+ thread (* threads seed)))]
-      (dotimes [number rounds]
-        (transaction random thread number)
-        (.await ^CyclicBarrier barrier)))
-    (catch Throwable failure
-      (.printStackTrace failure)
-      (.halt (Runtime/getRuntime) 1))))
-
-(.println output (str "opacity-trace 1 " registers))
-(let [workers (mapv #(Thread. (fn [] (work %))) (range threads))]
-  (run! #(.start ^Thread %) workers)
-  (run! #(.join ^Thread %) workers))
-(.flush output)
-(shutdown-agents)
+(dotimes [thread 8]
+  (.start (Thread. #(while true (answer thread (transaction thread (next-call thread)))))))
+(doseq [line (line-seq (java.io.BufferedReader. *in*))]
+  (let [[thread & call] (.split ^String line " ")] (.add ^LinkedBlockingQueue (calls (parse-long thread)) call)))
+(System/exit 0)

@@ -1,14 +1,12 @@
-/*
-LMDB: a register is a key of one database, and each thread has a transaction of one environment.
-
-    lmdb FOLDER ROUNDS SEED
-*/
+/* LMDB: a register is a key of one database, in the folder that is named. A transaction has to say first whether it writes: it begins as a reader,
+   is refused at its first write, and its next attempt begins as a writer. */
 #include "store.h"
 #include <lmdb.h>
 
 static MDB_env *environment;
 static MDB_dbi database;
 static MDB_txn *transactions[THREADS];
+static bool writes[THREADS];
 
 static void must(int code, const char *what)
 {
@@ -16,31 +14,33 @@ static void must(int code, const char *what)
         fail(what, mdb_strerror(code));
 }
 
-/* LMDB refuses nothing: a writer waits here for the end of another. */
-static bool store_begin(unsigned thread, bool writes)
+static bool store_begin(unsigned thread)
 {
-    must(mdb_txn_begin(environment, NULL, writes ? 0 : MDB_RDONLY, &transactions[thread]), "begin");
+    must(mdb_txn_begin(environment, NULL, writes[thread] ? 0 : MDB_RDONLY, &transactions[thread]), "begin");
     return true;
 }
 
 static bool store_read(unsigned thread, unsigned reg, uint64_t *value)
 {
     MDB_val key = {sizeof reg, &reg}, data;
-    must(mdb_get(transactions[thread], database, &key, &data), "get");
-    memcpy(value, data.mv_data, sizeof *value);
+    *value = mdb_get(transactions[thread], database, &key, &data) == MDB_SUCCESS ? *(uint64_t *)data.mv_data : 0;
     return true;
 }
 
 static bool store_write(unsigned thread, unsigned reg, uint64_t value)
 {
     MDB_val key = {sizeof reg, &reg}, data = {sizeof value, &value};
-    must(mdb_put(transactions[thread], database, &key, &data, 0), "put");
-    return true;
+    bool is_writer = writes[thread];
+    writes[thread] = true;
+    if (is_writer)
+        must(mdb_put(transactions[thread], database, &key, &data, 0), "put");
+    return is_writer;
 }
 
 static bool store_commit(unsigned thread)
 {
     must(mdb_txn_commit(transactions[thread]), "commit");
+    writes[thread] = false;
     return true;
 }
 
@@ -51,14 +51,10 @@ static void store_abort(unsigned thread)
 
 int main(int count, char **words)
 {
-    if (count != 4)
-        return 2;
-    must(mdb_env_create(&environment), "create");
-    must(mdb_env_open(environment, words[1], MDB_NOSYNC, 0600), "open");
-    store_begin(0, true);
+    must(count != 2 ? MDB_INVALID : mdb_env_create(&environment), "environment");
+    must(mdb_env_open(environment, words[1], MDB_NOSYNC, 0600), words[1]);
+    store_begin(0);
     must(mdb_dbi_open(transactions[0], NULL, 0, &database), "open");
-    for (unsigned reg = 0; reg < REGISTERS; reg++)
-        store_write(0, reg, 0);
     store_commit(0);
-    run_store(words[2], words[3]);
+    serve_store();
 }

@@ -4,8 +4,8 @@ BAKERY (Lamport, CACM 1974), MUTEX (of pthread). By -DPLAIN the words are plain;
 -DHEAP each is a block of the heap, and another one after each write.
 
 WRONG: ticket: 1 the wait is relaxed, 2 the unlock. MCS: 3 the wait is relaxed, 4 the hand-over, 5 the unlock without a successor, 6 taking a
-free lock, 12 the link to the next. Bakery: 7 the number is stored by release and without a fence, 9 the unlock is relaxed, 11 no fence after
-the choice has begun; 8 numbers are loaded by acquire, 10 the choice is ended relaxed: both are right.
+free lock, 12 the link to the next. Bakery: 7 the number is stored by release and without a fence, 9 the unlock is relaxed, 10 the choice is
+ended relaxed, 11 no fence after it has begun; 8 numbers are loaded by acquire, which is right.
 */
 #include "ordered.h"
 #include <pthread.h>

@@ -37,7 +37,8 @@ static bool begin(void *memory UNUSED, void *tx)
     struct copy *copy, *now = LOAD(root, relaxed);
     do {
         copy = now;
-        STORE(mine->hazard, copy, relaxed);
+        /* (relaxed, it would end the release sequence of the store that has lowered it) */
+        STORE(mine->hazard, copy, memory_order_release);
         FENCE(1, seq_cst);
         now = LOAD(root, ORDER(2, acquire, relaxed));
     } while (now != copy);

@@ -1,17 +1,25 @@
 /* What these memories share. Each place where an order or a fence matters has a number: by -DWRONG=number that order is weakened, or that
-   fence left out. Without it the memory is right. */
+   fence left out. Without it the memory is right. By -DDEFAULTS each order that matters is the default, seq_cst, and all fences are left out:
+   then what is loaded and stored relaxed isn't ordered. */
 #include "tmwatch_bench.h"
 #include <stdatomic.h>
 
 #ifndef WRONG
 #define WRONG 0
 #endif
+#ifdef DEFAULTS
+#define ORDER(number, right, wrong) memory_order_seq_cst
+#define ALWAYS(order) memory_order_seq_cst
+#define FENCE(number, order) ((void)0)
+#else
 #define ORDER(number, right, wrong) (WRONG == (number) ? memory_order_##wrong : memory_order_##right)
+#define ALWAYS(order) memory_order_##order
 #define FENCE(number, order)                           \
     do {                                               \
         if (WRONG != (number))                         \
             atomic_thread_fence(memory_order_##order); \
     } while (0)
+#endif
 #define LOAD(place, order) atomic_load_explicit(&(place), order)
 #define STORE(place, value, order) atomic_store_explicit(&(place), value, order)
 #define SWAP(place, held, value, order) atomic_compare_exchange_strong_explicit(&(place), held, value, order, memory_order_relaxed)

@@ -3,13 +3,21 @@ TLRW's visible readers (Dice and Shavit, SPAA 2010) with the weakest orders that
 lock; a writer locks and looks at the flags. Each has a fence between.
 
 WRONG: 1 no fence of the reader; 2 its look at the lock is relaxed; 3 no fence of the writer; 4 its look at the flags is relaxed; 5 unlocked
-relaxed; 6 a flag is lowered relaxed. 4 and 6 take loads that are delayed past later stores.
+relaxed; 6 a flag is lowered relaxed. 4 and 6 take loads that are delayed past later stores. By -DDEPENDS a lowered flag has what was read:
+then C++20 lets no load be delayed past that either, unless values come out of thin air.
 */
 #include "ordered.h"
 
+#ifdef DEPENDS
+#define LOWERED(value) ((value) & ~UINT64_C(1))
+#else
+#define LOWERED(value) ((void)(value), 0)
+#endif
+
 struct word {
     _Atomic uint64_t value;
-    atomic_bool is_locked, is_read[MOST_THREADS];
+    atomic_bool is_locked;
+    _Atomic uint64_t flags[MOST_THREADS]; /* odd: the thread reads */
 };
 
 static struct word words[REGISTERS];
@@ -27,7 +35,7 @@ static bool commit(void *memory UNUSED, void *tx)
         if (it->holds[reg])
             STORE(words[reg].is_locked, false, ORDER(5, release, relaxed));
         if (it->has_read[reg])
-            STORE(words[reg].is_read[tmwatch_thread()], false, ORDER(6, release, relaxed));
+            STORE(words[reg].flags[tmwatch_thread()], LOWERED(it->read[reg]), ORDER(6, release, relaxed));
     }
     return true;
 }
@@ -53,7 +61,7 @@ static bool raise_flag(struct tx *tx, unsigned reg)
     if (tx->has_read[reg] || tx->holds[reg])
         return true;
     tx->has_read[reg] = true;
-    STORE(words[reg].is_read[tmwatch_thread()], true, relaxed);
+    STORE(words[reg].flags[tmwatch_thread()], 1, relaxed);
     FENCE(1, seq_cst);
     return !LOAD(words[reg].is_locked, ORDER(2, acquire, relaxed));
 }
@@ -62,14 +70,14 @@ static bool read(void *memory UNUSED, void *tx, unsigned reg, uint64_t *value)
 {
     if (!undo_unless(raise_flag(tx, reg), tx))
         return false;
-    *value = LOAD(words[reg].value, relaxed);
+    *value = ((struct tx *)tx)->read[reg] = LOAD(words[reg].value, relaxed);
     return true;
 }
 
 static bool has_readers(unsigned reg)
 {
     for (unsigned i = 0; i < MOST_THREADS; i++)
-        if (i != tmwatch_thread() && LOAD(words[reg].is_read[i], ORDER(4, acquire, relaxed)))
+        if (i != tmwatch_thread() && LOAD(words[reg].flags[i], ORDER(4, acquire, relaxed)) % 2 == 1)
             return true;
     return false;
 }

@@ -43,7 +43,7 @@ static bool commit(void *memory UNUSED, void *tx)
     uint64_t expected = it->snapshot;
     if (!it->has_written)
         return true;
-    if (!SWAP(sequence, &expected, expected + 1, memory_order_acq_rel))
+    if (!SWAP(sequence, &expected, expected + 1, ALWAYS(acq_rel)))
         return false;
     FENCE(3, release);
     for (unsigned reg = 0; reg < REGISTERS; reg++)

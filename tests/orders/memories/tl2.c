@@ -28,7 +28,7 @@ static _Atomic uint64_t ticks;
 #ifdef FREE
 #define TAKE relaxed
 #else
-#define TAKE memory_order_acquire
+#define TAKE ALWAYS(acquire)
 #endif
 
 static bool begin(void *memory UNUSED, void *tx)
@@ -63,7 +63,7 @@ static bool take_locks(struct tx *tx)
     for (unsigned reg = 0; reg < REGISTERS; reg++) {
         if (!tx->writes[reg])
             continue;
-        uint64_t lock = LOAD(words[reg].lock, relaxed);
+        uint64_t lock = LOAD(words[reg].lock, ALWAYS(relaxed));
         if (!is_good(tx, lock) || !SWAP(words[reg].lock, &lock, lock + 1, TAKE))
             return false;
         tx->holds[reg] = true;
@@ -75,7 +75,7 @@ static bool take_locks(struct tx *tx)
 static bool is_valid(const struct tx *tx)
 {
     for (unsigned reg = 0; reg < REGISTERS; reg++)
-        if (tx->has_read[reg] && !tx->holds[reg] && !is_good(tx, LOAD(words[reg].lock, relaxed)))
+        if (tx->has_read[reg] && !tx->holds[reg] && !is_good(tx, LOAD(words[reg].lock, ALWAYS(relaxed))))
             return false;
     return true;
 }

@@ -71,10 +71,10 @@ static bool read(void *memory UNUSED, void *tx, unsigned reg, uint64_t *value)
 
 static bool take_lock(struct tx *tx, unsigned reg)
 {
-    uint64_t lock = LOAD(words[reg].lock, relaxed);
+    uint64_t lock = LOAD(words[reg].lock, ALWAYS(relaxed));
     if (tx->holds[reg])
         return true;
-    if (!is_good(tx, lock) || !SWAP(words[reg].lock, &lock, lock + 1, memory_order_acquire))
+    if (!is_good(tx, lock) || !SWAP(words[reg].lock, &lock, lock + 1, ALWAYS(acquire)))
         return false;
     tx->holds[reg] = tx->has_written = true;
     tx->before[reg] = LOAD(words[reg].value, relaxed);
@@ -93,7 +93,7 @@ static bool write(void *memory UNUSED, void *tx, unsigned reg, uint64_t value)
 static bool is_valid(const struct tx *tx)
 {
     for (unsigned reg = 0; reg < REGISTERS; reg++)
-        if (tx->has_read[reg] && !tx->holds[reg] && !is_good(tx, LOAD(words[reg].lock, relaxed)))
+        if (tx->has_read[reg] && !tx->holds[reg] && !is_good(tx, LOAD(words[reg].lock, ALWAYS(relaxed))))
             return false;
     return true;
 }

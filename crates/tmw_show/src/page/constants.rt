@@ -13,15 +13,15 @@ pub const HEAD: &[u8] = br##"<!DOCTYPE html>
 :root {
   --paper: #fff; --ink: #1c2430; --soft: #5d6878; --line: #e3e7ed; --band: #f7f8fa; --bar: #fff; --edge: #b9c1cc;
   --wrong: #c4232b; --wrong-fill: #fdeceb; --pick: #5b3fc4; --pick-fill: #ece8fb;
-  --committed: #2f8465; --committed-fill: #e3f2eb; --aborted: #7c8491; --aborted-fill: #eceef1;
-  --pending: #a87409; --pending-fill: #fbf0d6; --live: #2f6cb3; --live-fill: #e2edf9;
+  --committed: #226b50; --committed-fill: #e3f2eb; --aborted: #5f6774; --aborted-fill: #eceef1;
+  --pending: #815805; --pending-fill: #fbf0d6; --live: #28609f; --live-fill: #e2edf9;
   --mono: ui-monospace, "SF Mono", Menlo, Consolas, "DejaVu Sans Mono", monospace;
 }
 @media screen and (prefers-color-scheme: dark) {
   :root {
     --paper: #14181e; --ink: #e4e8ee; --soft: #98a3b3; --line: #2a313b; --band: #191e25; --bar: #1b2129; --edge: #4a5463;
     --wrong: #ff7a76; --wrong-fill: #3b1d20; --pick: #b3a1ff; --pick-fill: #302a52;
-    --committed: #5cb894; --committed-fill: #17322a; --aborted: #8d97a5; --aborted-fill: #272d36;
+    --committed: #5cb894; --committed-fill: #17322a; --aborted: #99a3b1; --aborted-fill: #272d36;
     --pending: #dcaa45; --pending-fill: #382c14; --live: #74aaea; --live-fill: #1a2c43;
   }
 }
@@ -59,7 +59,6 @@ text { font: 11px var(--mono); fill: var(--ink); }
 .number.mark { fill: var(--wrong); font-weight: 700; }
 .column { fill: var(--wrong-fill); }
 .tx > rect { stroke-width: 1.25; }
-.tx > text { font-size: 10px; }
 .tail { stroke-width: 1.25; stroke-dasharray: 1 4; stroke-linecap: round; }
 .committed > rect, i.committed { fill: var(--committed-fill); stroke: var(--committed); background: var(--committed-fill); border-color: var(--committed); }
 .aborted > rect, i.aborted { fill: var(--aborted-fill); stroke: var(--aborted); background: var(--aborted-fill); border-color: var(--aborted); stroke-dasharray: 4 2; }
@@ -79,21 +78,32 @@ i.marked { background: var(--wrong-fill); border-color: var(--wrong); }
 .arrow { outline: none; }
 .arrow .line { fill: none; stroke: var(--wrong); stroke-width: 1.75; marker-end: url(#tip); }
 .arrow .near { fill: none; stroke: transparent; stroke-width: 14; }
-.arrow:hover .line, .arrow:focus-visible .line { stroke-width: 3; }
+.arrow:focus-visible .line, .arrow.lit .line { stroke-width: 3.5; }
+#why li { outline: none; }
+#why li:focus-visible, #why li.lit { background: var(--wrong-fill); }
 #tip path { fill: var(--wrong); }
 .op.picked rect, .op.source rect { fill: var(--pick-fill); stroke: var(--pick); stroke-width: 2; stroke-dasharray: none; }
 .op.picked text, .op.source text { fill: var(--pick); font-weight: 700; }
-.related .tx { opacity: .28; }
-.related .tx.self, .related .tx.before, .related .tx.after { opacity: 1; }
+.related .tx:not(.self, .before, .after) rect, .reading .op:not(.picked, .source) rect, .spare rect { fill-opacity: .3; stroke-opacity: .3; }
+.related .tx:not(.self, .before, .after) text, .reading .op:not(.picked, .source) text, .spare text { fill: var(--soft); font-weight: 400; }
 .tx.self > rect { stroke-width: 2.5; }
 .tx.before > text, .tx.after > text { font-weight: 700; }
-.reading .op:not(.picked):not(.source) { opacity: .35; }
-.why .tx.spare, .why .tx:not(.spare) .op.spare { opacity: .25; }
-.why .op.spare text { display: none; }
+.fold { cursor: pointer; outline: none; }
+.fold rect { fill: var(--line); }
+.fold text { text-anchor: middle; text-decoration: underline; }
+.fold:hover rect, .fold:focus-visible rect { fill: var(--pick-fill); }
 button { font: inherit; color: inherit; background: var(--band); border: 1px solid var(--edge); border-radius: 4px; padding: 0 8px; cursor: pointer; }
 .tx, .op { outline: none; }
 .tx:focus-visible > rect, .op:focus-visible rect { stroke: var(--ink); stroke-width: 2.5; }
-#print { display: none; }
+#tips { position: absolute; width: 0; height: 0; }
+#print, .rows #board, #rows { display: none; }
+.rows #rows { display: block; }
+#rows > svg { max-width: 100%; height: auto; border-top: 1px solid var(--line); border-bottom: 1px solid var(--line); }
+@media (max-width: 600px) {
+  body { padding: 16px 12px; }
+  #names { width: 62px; }
+  #told { flex-basis: 100%; }
+}
 @page { size: A4 landscape; margin: 10mm; }
 @media print {
   html, body { height: 188mm; }
@@ -103,13 +113,12 @@ button { font: inherit; color: inherit; background: var(--band); border: 1px sol
   h1 { font-size: 17px; }
   #legend { margin: 8px 0 4px; font-size: 11px; }
   h2 { font-size: 11px; }
-  #board, #told, #letters, button { display: none; }
+  #board, .rows #rows, #told, #letters, button { display: none; }
   #print { display: block; flex: 1 1 0; min-height: 0; }
   #print > svg { width: 100%; height: 100%; }
   #below { margin-top: 8px; }
   table { font-size: 9px; line-height: 1.25; }
   th, td { padding: 0 6px; }
-  .related .tx, .reading .op:not(.picked):not(.source) { opacity: 1; }
 }
 </style>
 </head>
@@ -124,6 +133,7 @@ button { font: inherit; color: inherit; background: var(--band); border: 1px sol
 <div id="legend"></div>
 <p id="letters" class="soft"></p>
 <div id="board"><div id="names"></div><div id="scroll"></div></div>
+<div id="rows"></div>
 <div id="print"></div>
 <div id="below">
 <section id="told" aria-live="polite"></section>
@@ -153,19 +163,20 @@ const events = run.events.map(line => {
   return event;
 });
 const first = earlier + 1, last = earlier + events.length;
-// The sentences of the reason. Between the lanes is room for its arrows.
-const sentences = run.why === undefined ? [] : run.why.split('; '), LANE = BOX + (sentences.length > 1 ? 26 : 4);
-// Where it is asked why the window is violated: which events are violated by themselves. The others take no room, unless the page is
-// loaded again to show all.
-const needed = events.length > SEARCHED ? undefined : run.needed, showsAll = location.hash === '#all';
-const from = Math.max(first, last - MOST + 1);
+// The sentences of the reason, each with a semicolon behind it. Between the lanes is room for its arrows.
+const sentences = run.why === undefined ? [] : run.why.split('; ').slice(0, -1), LANE = BOX + (sentences.length > 1 ? 26 : 4);
+// Where it is asked why the window is violated: which events are violated by themselves. Others that follow each other fold into one column,
+// unless the page is loaded again to show all, or those from an event on.
+const needed = events.length > SEARCHED ? undefined : run.needed, showsAll = location.hash === '#all', unfolded = location.hash.slice(1).split(',').map(Number);
+const isSpare = n => needed !== undefined && needed[n - first] === '0';
+const from = needed === undefined ? Math.max(first, last - MOST + 1) : first;
 const byId = id => document.getElementById(id);
 const group = n => String(n).replace(/\B(?=(\d{3})+$)/g, ',');
 const plural = (n, word) => `${group(n)} ${word}${n === 1 ? '' : 's'}`;
 const list = words => words.length < 2 ? words.join('') : `${words.slice(0, -1).join(', ')} and ${words.at(-1)}`;
 
 function make(tag, attributes, parent, text) {
-  const node = ['svg', 'g', 'rect', 'line', 'path', 'text', 'use', 'title', 'defs', 'marker'].includes(tag) ? document.createElementNS('http://www.w3.org/2000/svg', tag) : document.createElement(tag);
+  const node = ['svg', 'g', 'rect', 'line', 'path', 'text', 'use', 'title', 'marker'].includes(tag) ? document.createElementNS('http://www.w3.org/2000/svg', tag) : document.createElement(tag);
   for (const [name, value] of Object.entries(attributes)) node.setAttribute(name, value);
   if (text !== undefined) node.textContent = text;
   if (parent) parent.append(node);
@@ -213,7 +224,7 @@ for (const op of ops) {
   op.where = op.first === op.last ? `event ${op.first}` : `events ${op.first} and ${op.last}`;
   op.isMarked = mark !== undefined && (op.first === mark || op.last === mark);
   if (op.isMarked) op.where += `, ${wrong}`;
-  op.isSpare = needed !== undefined && needed[op.first - first] === '0';
+  op.isSpare = isSpare(op.first);
   if (call && (call.k === 'R' || isAdd) && has) op.read = answer.v;
   if (call && call.k === 'W') op.wrote = call.v;
   if (isAdd && has) op.wrote = String(BigInt.asUintN(64, BigInt(answer.v) + BigInt(call.v)));
@@ -238,25 +249,36 @@ byId('verdict').classList.toggle('wrong', ['violated', 'malformed'].includes(rep
 const extent = events.length === 0 ? 'It has no events.'
   : from > first ? `No transaction was open before event ${first}. Of the ${plural(events.length, 'event')} from there to event ${last} the last ${MOST} are drawn, ${from} to ${last}.`
   : `Drawn: events ${first} to ${last}. No transaction was open before event ${first}.`;
-const why = needed === undefined ? '' : ` ${[...needed].filter(mark => mark === '1').length} of these events are violated by themselves.${needed.includes('0') ? ' The others are faint.' : ''}`;
+const why = needed === undefined ? '' : ` ${[...needed].filter(mark => mark === '1').length} of these events are violated by themselves.${needed.includes('0') ? ` The others are ${showsAll ? 'faint' : 'folded: a click on their number opens them'}.` : ''}`;
 byId('about').textContent = `By ${strict ? 'strict serializability' : 'opacity'}, of a trace of ${plural(report.events, 'event')} over ${plural(registers, 'register')}. ${extent}${why}`;
 
-// Columns: one for each event, as wide as the texts that end there need. A transaction that is still open is drawn, if only as a heading.
-const shown = txs.filter(tx => tx.last >= from || !isEnded(tx)), bars = ops.filter(op => op.last >= from);
+// Columns: one for each event or fold, as wide as the texts that end there need. A transaction that is still open is drawn, if only as a
+// heading, but none whose events are all folded.
+const columns = [], columnOf = [];
+for (let n = from; n <= last; n++) {
+  const column = columns.at(-1), opens = showsAll || unfolded.includes(n) || (column && !column.isFold && isSpare(n) && isSpare(n - 1));
+  if (column && column.isFold && isSpare(n)) column.last = n;
+  else columns.push({ first: n, last: n, isFold: isSpare(n) && !opens });
+  columnOf[n - from] = columns.length - 1;
+}
+const placeOf = n => columnOf[Math.max(n, from) - from], isFolded = n => n >= from && columns[placeOf(n)].isFold;
+const bars = ops.filter(op => op.last >= from && !(isFolded(op.first) && isFolded(op.last)));
+const shown = txs.filter(tx => needed === undefined ? tx.last >= from || !isEnded(tx) : bars.some(op => op.tx === tx));
 const threads = [...new Set(shown.map(tx => tx.thread))].sort();
-const ends = new Map();
-const need = (part, width, end = Math.max(part.last, from)) => ends.set(end, [...(ends.get(end) || []), [Math.max(part.first, from), width]]);
-bars.filter(op => showsAll || !op.isSpare).forEach(op => need(op, op.drawn.length * CHAR + 14));
-shown.forEach(tx => need(tx, heading(tx, tx.status).length * 6.05 + 16));
-function columns(least) {
+const ends = columns.map(() => []);
+const need = (part, width) => ends[placeOf(part.last)].push([placeOf(part.first), width]);
+bars.forEach(op => need(op, op.drawn.length * CHAR + 14));
+shown.forEach(tx => need(tx, heading(tx, tx.status).length * CHAR + 16));
+const folded = column => `..${column.last - column.first + 1}`;
+function lefts(least) {
   const left = [0];
-  for (let n = from; n <= last; n++)
-    left.push(Math.max(left.at(-1) + least, ...(ends.get(n) || []).map(([start, width]) => left[start - from] + width)));
+  columns.forEach((column, place) => left.push(Math.max(left[place] + (column.isFold ? folded(column).length * CHAR + 4 : least),
+    ...ends[place].map(([start, width]) => left[start] + width))));
   return left;
 }
 const room = byId('scroll').clientWidth, digits = Math.ceil(String(last).length * CHAR + 6);
-const left = [44, 36, 30, 26, 22, 18, 15].filter(least => least > digits).map(columns).find(c => c.at(-1) <= room - 1) || columns(digits);
-const xOf = n => left[Math.max(n, from) - from], endOf = n => left[Math.max(n, from) - from + 1];
+const left = [44, 36, 30, 26, 22, 18, 15].filter(least => least > digits).map(lefts).find(c => c.at(-1) <= room - 1) || lefts(digits);
+const xOf = n => left[placeOf(n)], endOf = n => left[placeOf(n) + 1];
 const width = Math.ceil(left.at(-1)), height = TOP + LANE * threads.length + 4;
 const yOf = thread => TOP + LANE * threads.indexOf(thread);
 
@@ -270,27 +292,41 @@ threads.forEach((thread, i) => {
 });
 if (mark >= from) make('title', {}, make('rect', { class: 'column', x: xOf(mark), y: TOP - 2, width: endOf(mark) - xOf(mark), height: height - TOP }, chart), `event ${mark}: ${wrong}`);
 const middle = n => (xOf(n) + endOf(n)) / 2;
-for (let n = from; n <= last; n++) {
-  make('text', { class: n === mark ? 'number mark' : 'number', x: middle(n), y: 14, 'data-event': n }, chart, n);
+for (const column of columns) {
+  const n = column.first;
   extents.push([middle(n) - digits / 2 + 3, middle(n) + digits / 2 - 3]);
+  if (column.isFold) {
+    drawFold(column);
+    continue;
+  }
+  make('text', { class: n === mark ? 'number mark' : 'number', x: middle(n), y: 14, 'data-event': n }, chart, n);
   make('line', { class: 'tick', x1: middle(n), x2: middle(n), y1: 19, y2: n === mark ? 19 : height - 4 }, chart);
 }
-function label(parent, text, char, x, y, right) {
-  const node = make('text', { x, y }, parent, text), wide = text.length * char;
+// A click on a fold loads the page again, with those events.
+function drawFold({ first: n, last: end }) {
+  const told = `${plural(end - n + 1, 'event')} that the part lacks, ${n} to ${end}: show them`;
+  const node = make('g', { class: 'fold', tabindex: 0, role: 'button', 'aria-label': told, 'data-first': n, 'data-last': end }, chart);
+  make('rect', { x: xOf(n) + 1, y: 0, width: endOf(n) - xOf(n) - 2, height }, node);
+  make('text', { x: middle(n), y: 14 }, node, folded({ first: n, last: end }));
+  make('title', {}, node, told);
+  node.addEventListener('click', () => { location.hash = [...unfolded.filter(Boolean), n].join(); location.reload(); });
+}
+function label(parent, text, x, y, right) {
+  const node = make('text', { x, y }, parent, text), wide = text.length * CHAR;
   floats.push([node, x, right - wide]);
   extents.push([x, x + wide]);
   return node;
 }
 for (const tx of shown) {
   const y = yOf(tx.thread), x = tx.first < from ? -9 : xOf(tx.first) + 1, right = endOf(tx.last) - 1;
-  const isSpare = ops.every(op => op.tx !== tx || op.isSpare);
-  tx.node = make('g', { class: `tx ${tx.status === 'commit-pending' ? 'pending' : tx.status}${isSpare ? ' spare' : ''}`, tabindex: 0, role: 'group',
+  const isLeftOut = ops.every(op => op.tx !== tx || op.isSpare);
+  tx.node = make('g', { class: `tx ${tx.status === 'commit-pending' ? 'pending' : tx.status}${isLeftOut ? ' spare' : ''}`, tabindex: 0, role: 'group',
     'aria-label': `${tx.name}, thread ${tx.thread}, ${tx.status}, events ${tx.first} to ${tx.last}`,
     'data-first': tx.first, 'data-last': tx.last, 'data-thread': tx.thread, 'data-status': tx.status }, chart);
   if (!isEnded(tx)) make('line', { class: 'tail', x1: right + 4, x2: width - 2, y1: y + 28, y2: y + 28 }, tx.node);
   make('rect', { x, y: y + 2, width: right - x, height: BOX, rx: 5 }, tx.node);
   Object.assign(tx, { x: Math.max(x, 0), right });
-  tx.label = label(tx.node, heading(tx, tx.status), 6.05, x + 6, y + 13, right - 6);
+  tx.label = label(tx.node, heading(tx, tx.status), x + 6, y + 13, right - 6);
   for (const kind of ['mouseenter', 'focusin']) tx.node.addEventListener(kind, () => relate(tx));
   for (const kind of ['mouseleave', 'focusout']) tx.node.addEventListener(kind, () => relate(null));
 }
@@ -301,31 +337,41 @@ for (const op of bars) {
     'aria-label': `${op.text}, ${op.where}`, 'data-first': op.first, 'data-last': op.last }, op.tx.node);
   make('rect', { x, y, width: Math.max(right - x, 2), height: 21, rx: 3 }, op.node);
   if (op.isMarked) make('line', { class: 'cap', x1: op.last === mark ? right : x, x2: op.last === mark ? right : x, y1: y, y2: y + 21 }, op.node);
-  label(op.node, op.drawn, CHAR, x + 4, y + 14.5, right - 4);
+  label(op.node, op.drawn, x + 4, y + 14.5, right - 4);
   make('title', {}, op.node, `${op.text}, ${op.where}`);
   op.node.addEventListener('click', click => { click.stopPropagation(); pick(op.read === undefined ? null : op); if (!picked) relate(op.tx); });
 }
 // What a sentence of the reason comes to: an arrow from one transaction to another, where both are above one another if they can be.
-make('path', { d: 'M0,0 L7,3.5 L0,7 z' }, make('marker', { id: 'tip', viewBox: '0 0 7 7', refX: 7, refY: 3.5, markerWidth: 7, markerHeight: 7, orient: 'auto' }, make('defs', {}, svg)));
-for (const sentence of sentences) {
+// (The tip is of a drawing of its own, since the first is hidden while rows are shown.)
+make('path', { d: 'M0,0 L7,3.5 L0,7 z' }, make('marker', { id: 'tip', viewBox: '0 0 7 7', refX: 7, refY: 3.5, markerWidth: 7, markerHeight: 7, orient: 'auto' },
+  make('svg', { id: 'tips', 'aria-hidden': true }, document.body)));
+const items = sentences.map(sentence => make('li', {}, byId('why').querySelector('ul'), sentence));
+byId('why').hidden = run.why === undefined;
+sentences.forEach((sentence, place) => {
   const [one, other] = (sentence.match(/: (T\d+) before (T\d+)$/) || []).slice(1).map(name => shown.find(tx => tx.name === name));
-  if (!one || !other) continue;
+  if (!one || !other) return;
   const lo = Math.max(one.x, other.x), hi = Math.min(one.right, other.right), down = threads.indexOf(other.thread) - threads.indexOf(one.thread);
   const aside = Math.min(16, (hi - lo) / 4) * (txs.indexOf(one) < txs.indexOf(other) ? -1 : 1);
   const [x, to] = lo < hi ? [(lo + hi) / 2 + aside, (lo + hi) / 2 + aside] : one.right < other.x ? [one.right - 8, other.x + 8] : [one.x + 8, other.right - 8];
   const y = yOf(one.thread) + 2 + (down < 0 ? 0 : BOX), below = yOf(other.thread) + 2 + (down > 0 ? 0 : BOX);
   const path = down ? `M${x},${y} L${to},${below}` : `M${x},${y} C${x},${y + 26} ${to},${y + 26} ${to},${below}`;
+  extents.push([Math.min(x, to) - 6, Math.max(x, to) + 6]);
   const node = make('g', { class: 'arrow', tabindex: 0, role: 'img', 'aria-label': sentence }, chart);
   for (const kind of ['near', 'line']) make('path', { class: kind, d: path }, node);
   make('title', {}, node, sentence);
-  for (const kind of ['mouseenter', 'focusin']) node.addEventListener(kind, () => picked || tell(sentence, []));
-  for (const kind of ['mouseleave', 'focusout']) node.addEventListener(kind, () => picked || rest());
-}
+  const both = [node, items[place]], light = isLit => both.forEach(it => it.classList.toggle('lit', isLit));
+  items[place].setAttribute('tabindex', 0);
+  for (const it of both) {
+    for (const kind of ['mouseenter', 'focusin']) it.addEventListener(kind, () => light(true));
+    for (const kind of ['mouseleave', 'focusout']) it.addEventListener(kind, () => light(false));
+  }
+});
 // A text stays in sight as long as its box does.
 const settle = edge => floats.forEach(([text, x, most]) => text.setAttribute('x', Math.max(x, Math.min(edge + 6, most))));
 byId('scroll').addEventListener('scroll', () => settle(byId('scroll').scrollLeft));
 for (const kind of ['beforeprint', 'afterprint']) addEventListener(kind, () => settle(kind === 'beforeprint' ? 0 : byId('scroll').scrollLeft));
-if (mark !== undefined) byId('scroll').scrollLeft = width;
+if (unfolded[0]) byId('scroll').scrollLeft = xOf(unfolded.at(-1)) - left[1];
+else if (mark !== undefined) byId('scroll').scrollLeft = width;
 settle(byId('scroll').scrollLeft);
 
 // What is told of a transaction or a read.
@@ -401,13 +447,8 @@ for (const [name, word] of [['committed', 'committed'], ['aborted', 'aborted'], 
   if (name === 'marked' ? mark === undefined : !shown.some(tx => tx.status === word)) continue;
   make('i', { class: name }, make('span', {}, byId('legend'))).after(word);
 }
-if (run.why !== undefined) {
-  byId('why').hidden = false;
-  for (const sentence of sentences) make('li', {}, byId('why').querySelector('ul'), sentence);
-}
 if (needed !== undefined && needed.includes('0')) {
   const button = make('button', { type: 'button' }, byId('legend'), showsAll ? 'Show the part' : 'Show all events');
-  chart.classList.toggle('why', !showsAll);
   button.addEventListener('click', () => { location.hash = showsAll ? '' : 'all'; location.reload(); });
 }
 byId('held').textContent = states.length === 1 ? 'The registers at the start of the window' : `The ${states.length} states from which the window may begin`;
@@ -427,19 +468,27 @@ rest();
 const atFirst = bars.find(op => op.isMarked && op.read !== undefined);
 if (atFirst && run.why === undefined) tellOf(atFirst);
 
-// On paper: the drawing in as many rows as make it largest on one sheet.
-const fit = n => Math.min(1030 / (width / n + 70), (560 - 13 * rows) / (n * (height + 10)));
-const parts = [...Array(12).keys()].map(i => i + 1).sort((a, b) => fit(b) - fit(a))[0];
-const cuts = left.slice(1, -1), crossed = x => extents.filter(([start, end]) => start < x && x < end).length;
-const stops = [0, ...[...Array(parts - 1).keys()].map(i => (i + 1) * width / parts).map(goal => cuts.filter(x => Math.abs(x - goal) < width / parts / 8)
-  .sort((a, b) => crossed(a) - crossed(b) || Math.abs(a - goal) - Math.abs(b - goal))[0] || goal), width + 1];
-const widest = Math.max(...stops.slice(1).map((x, i) => x - stops[i]));
-const paper = make('svg', { viewBox: `0 0 ${widest + 70} ${parts * (height + 10)}`, preserveAspectRatio: 'xMinYMin', 'aria-hidden': true }, byId('print'));
-stops.slice(1).forEach((x, i) => {
-  const row = make('svg', { x: 70, y: i * (height + 10), width: x - stops[i], height, viewBox: `${stops[i]} 0 ${x - stops[i]} ${height}` }, paper);
-  make('use', { href: '#chart' }, row);
-  threads.forEach(thread => make('text', { x: 0, y: i * (height + 10) + yOf(thread) + 26 }, paper, `thread ${thread}`));
-});
+// The drawing in so many rows, which are cut where they cross few texts.
+function drawRows(parent, count, names) {
+  const cuts = left.slice(1, -1), crossed = x => extents.filter(([start, end]) => start < x && x < end).length;
+  const stops = [0, ...[...Array(count - 1).keys()].map(i => (i + 1) * width / count).map(goal => cuts.filter(x => Math.abs(x - goal) < width / count / 4)
+    .sort((a, b) => crossed(a) - crossed(b) || Math.abs(a - goal) - Math.abs(b - goal))[0] || goal), width + 1];
+  const widest = Math.max(...stops.slice(1).map((x, i) => x - stops[i]));
+  const paper = make('svg', { viewBox: `0 0 ${widest + names} ${count * (height + 10)}`, width: widest + names, preserveAspectRatio: 'xMinYMin', 'aria-hidden': true }, parent);
+  stops.slice(1).forEach((x, i) => {
+    const row = make('svg', { x: names, y: i * (height + 10), width: x - stops[i], height, viewBox: `${stops[i]} 0 ${x - stops[i]} ${height}` }, paper);
+    make('use', { href: '#chart' }, row);
+    threads.forEach(thread => make('text', { x: 0, y: i * (height + 10) + yOf(thread) + 26 }, paper, `thread ${thread}`));
+  });
+}
+// On paper: as many as make it largest on one sheet. On a screen on which it is too wide, a button shows as many as fit.
+const NAMES = 62, fit = n => Math.min(1030 / (width / n + NAMES), (560 - 13 * rows) / (n * (height + 10)));
+drawRows(byId('print'), [...Array(12).keys()].map(i => i + 1).sort((a, b) => fit(b) - fit(a))[0], NAMES);
+if (width > room) {
+  const button = make('button', { type: 'button' }, byId('legend'), 'Show it whole, in rows');
+  drawRows(byId('rows'), Math.ceil(width / (room * 0.8)), NAMES);
+  button.addEventListener('click', () => { button.textContent = document.body.classList.toggle('rows') ? 'Show it in one line' : 'Show it whole, in rows'; });
+}
 })();
 </script>
 </body>

@@ -1,15 +1,14 @@
 ghost use Rattle.std.specs.Prelude.{◌≡◌, ◌+◌, ◌<◌, ◌^◌, [], ◌∷◌, ◌++◌, IfOk, OnOk, length, string_bytes};
 ghost use Rattle.tmw_show.specs.NeededEvents.{reason_of};
-ghost use Rattle.tmw_show.specs.Sentences.{told_sentence};
 ghost use Rattle.tmw_show.specs.Page.{about_json, criterion_name, digit, event_json, json_text, mark_json, needed_json, state_json, why_json, window_json};
 
 use crate::event_text::push_event;
+use crate::frame::Frame;
 use crate::item_text::{ItemText, push_each, push_list};
 use crate::needed_events::NeededEvents;
 use crate::numbers::push_values;
-use crate::origin_sentence::told_by;
 use crate::run_verdict::{RunVerdict, marked_at, wrong_of};
-use crate::sentences::push_clauses;
+use crate::sentences::push_reason;
 use crate::shown_trace::ShownTrace;
 use std::alloc::{AllocError, Global};
 use tmw_cuts::State;
@@ -162,18 +161,16 @@ fn push_why(
     needed: &NeededEvents,
 ) -> Result<(), AllocError>
     requires { before + length events.now < 2 ^ 128 }
-    ensures { let reason = reason_of needed.now in
-        let told = told_sentence [] before events.now reason in
-        OnOk result (text.new.items ≡ text.old.items ++ why_json told reason) }
+    ensures { OnOk result (text.new.items
+        ≡ text.old.items ++ why_json before events.now (reason_of needed.now)) }
 {
     if let NeededEvents::Part {
         reason: Some(reason),
         ..
     } = needed
     {
-        let told = told_by(*text.allocator(), &[], before, events, &reason.end)?;
         text.extend_from_slice(b",\"why\":\"")?;
-        push_clauses(text, &told, reason)?;
+        push_reason(text, Frame::Clause, &[], before, events, reason)?;
         text.push(b'"')?;
     }
     Ok(())

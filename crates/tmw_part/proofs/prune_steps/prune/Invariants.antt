@@ -1,10 +1,11 @@
-use Rattle.tmw_part.proofs.Shared.{IsFalse, IsNeededEachIn, IsReasonIn, if◌then◌else◌, length, ◌+◌}
+use Rattle.tmw_part.proofs.Shared.{AreAmong, IsContradictedIn, IsFalse, IsNeededEachIn, if◌then◌else◌, length, ◌+◌}
 use Rattle.tmw_part.proofs.prune_steps.prune.Given as goal
 
 abbrev pub invariant-loop-more : goal.invariant-loop-more
 invariant-loop-more l = record {
-  reason : IsReasonIn l.judged l.end l.kept.items;
-  needed : IsFalse l.more → IsNeededEachIn l.judged l.end l.kept.items;
+  is : IsContradictedIn l.judged l.assumed l.end l.kept.items;
+  among : AreAmong l.steps l.kept.items;
+  needed : IsFalse l.more → IsNeededEachIn l.judged l.assumed l.end l.kept.items;
 }
 
 abbrev pub decreases-loop-more : goal.decreases-loop-more

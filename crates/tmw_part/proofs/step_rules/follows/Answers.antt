@@ -19,3 +19,13 @@ returns-else-is_known_rival-2 c =
     let rival = c.in-ChangedFirst.rival in
     rw c.in-ChangedFirst.is (c.if-is_known_rival-2.false
     ∙ ap (λ x. x && (has_writer source && is_before c.args.steps.now rival source.reader)) c.if-is_known_rival-2.ensures)
+
+pub returns-in-Overwritten : goal.returns-in-Overwritten
+returns-in-Overwritten c = rw c.in-Overwritten.is c.is_overwritten.ensures
+
+pub returns-then-is_known_rival-2 : goal.returns-then-is_known_rival-2
+returns-then-is_known_rival-2 c =
+    let source = c.in-ChangedFirst.source in
+    let rival = c.in-ChangedFirst.rival in
+    rw c.in-ChangedFirst.is (c.is_late.ensures
+    ∙ ap (λ x. x && (has_writer source && is_before c.args.steps.now rival source.reader)) c.if-is_known_rival-2.ensures)

@@ -1,0 +1,132 @@
+/* Loads that are delayed past later stores, by the orders of C++20 (instrumented/orders/delayed.c). If a run is opaque so far, second runs
+   make what its first leg has found, each up to the store. The load's answer then comes after that, with what its thread has recorded since.
+
+   A memory can't be put back to its beginning. So a process is split off before the run, and waits; each second run is a child of it. */
+
+/* All second runs take so many seconds at most. */
+enum { MOST_TRACE = 1 << 19, SECOND_RUNS_SECONDS = 10 };
+
+/* What these processes share. */
+struct second_runs {
+    sem_t goes;
+    pid_t process; /* that waits */
+    tmwatch_delays delays;
+    bool is_violated;
+    char trace[MOST_TRACE];
+};
+
+/* Judges the record up to the store, with the load's answer after that, by this value; and writes it as a trace. */
+static uint32_t judge_moved(struct bench *b, struct second_runs *runs, uint64_t value)
+{
+    const tmwatch_delays *delays = &runs->delays;
+    uint64_t from = first_of_trace(b, delays->stored, b->steps.recorded, true), place;
+    tmwatch_settings settings = TMWATCH_SETTINGS(b->plan.registers);
+    tmwatch_told told = {0, 0, TMWATCH_UNDECIDED, 0};
+    for (unsigned reg = 0; reg < b->plan.registers; reg++)
+        settings.start[reg] = start_of_trace(b, from, delays->stored, reg);
+    b->plan.trace = fmemopen(runs->trace, sizeof runs->trace, "w");
+    if (!b->plan.trace || tmwatch_open(&b->watch, b->recorders, b->plan.threads, &settings) != TMWATCH_DONE)
+        return told.verdict;
+    write_header(b, from, delays->stored);
+    b->kept[delays->answered % KEPT].value = value;
+    for (unsigned is_late = 0; is_late < 2; is_late++)
+        for (uint64_t i = from; i < delays->stored; i++) {
+            const struct kept *it = &b->kept[i % KEPT];
+            if ((i >= delays->answered && it->thread == delays->made->loader) != is_late)
+                continue;
+            write_event(b->plan.trace, it);
+            if (tmwatch_record(&b->recorders[it->thread], (uint32_t)it->letter, it->reg, it->value, &place) != TMWATCH_DONE ||
+                tmwatch_pump(&b->watch, 1, &place) != TMWATCH_DONE)
+                return told.verdict;
+        }
+    bool is_written = fclose(b->plan.trace) == 0;
+    return tmwatch_close(&b->watch, b->recorders, b->plan.threads, &told) == TMWATCH_DONE && is_written ? told.verdict : TMWATCH_UNDECIDED;
+}
+
+/* Whether the record is violated by what the load has returned, and not by what it has returned in the first run: else the violation is that
+   others have read what the load's thread stored later. */
+static bool is_violated_by_load(struct bench *b, struct second_runs *it)
+{
+    const tmwatch_delay *made = it->delays.made;
+    return judge_moved(b, it, made->before) == TMWATCH_OPAQUE_SO_FAR && judge_moved(b, it, made->value) == TMWATCH_VIOLATED;
+}
+
+static tmwatch_plan next_plan(const struct session *session, uint64_t leg, uint64_t *draws);
+
+/* Makes a second run in this process, whose session is as before the run: whether the record that would be is violated. */
+static bool make_second_run(struct session *session)
+{
+    struct second_runs *it = session->second_runs;
+    struct bench *b = calloc(1, sizeof *b);
+    uint64_t draws = 0;
+    tmwatch_benched out;
+    if (!b)
+        return false;
+    tmwatch_plan plan = next_plan(session, 0, &draws);
+    plan.rounds = it->delays.made->round - 1;
+    plan.seconds = SECOND_RUNS_SECONDS;
+    plan.patience = 1;
+    plan.progress = NULL;
+    it->delays.answered = it->delays.stored = 0;
+    b->delays = &it->delays;
+    bool is_whole = run_leg(b, session, &plan, &out) == TMWATCH_DONE && !session->is_stuck && !out.unseen && !out.race[0];
+    return is_whole && it->delays.answered > 0 && it->delays.answered < it->delays.stored && is_violated_by_load(b, it);
+}
+
+/* Waits until the run is over, and makes second runs until the record of one would be violated. */
+static void make_second_runs(struct session *session)
+{
+    struct second_runs *it = session->second_runs;
+    int none = open("/dev/null", O_WRONLY);
+    prctl(PR_SET_PDEATHSIG, SIGKILL);
+    dup2(none, STDOUT_FILENO);
+    dup2(none, STDERR_FILENO);
+    await(&it->goes);
+    session->began = microseconds_of(CLOCK_MONOTONIC);
+    for (unsigned i = 0; i < it->delays.count && !it->is_violated && !is_interrupted; i++) {
+        it->delays.made = &it->delays.found[i];
+        pid_t child = fork();
+        if (child == 0) {
+            it->is_violated = make_second_run(session);
+            _exit(0);
+        }
+        waitpid(child, NULL, 0);
+    }
+    _exit(0);
+}
+
+/* Splits off the process of the second runs, if the first leg has the orders of C++20. */
+static void start_second_runs(struct session *session)
+{
+    uint64_t draws = 0;
+    const tmwatch_plan plan = next_plan(session, 0, &draws);
+    if (plan.orders != TMWATCH_CXX || plan.crashes > 0)
+        return;
+    struct second_runs *it = mmap(NULL, sizeof *it, PROT_READ | PROT_WRITE, MAP_SHARED | MAP_ANONYMOUS, -1, 0);
+    if (it == MAP_FAILED)
+        return;
+    session->second_runs = it;
+    pid_t process = sem_init(&it->goes, 1, 0) == 0 ? fork() : -1;
+    if (process == 0)
+        make_second_runs(session);
+    it->process = process;
+}
+
+/* Has the second runs made if nothing is wrong and all is seen, and tells what they have shown. */
+static void end_second_runs(struct session *session, uint32_t status)
+{
+    struct second_runs *it = session->second_runs;
+    tmwatch_benched *all = &session->all;
+    if (!it)
+        return;
+    if (status != TMWATCH_DONE || is_wrong(session->plan, all) || all->unseen || all->race[0] || all->waits || session->asks || is_interrupted)
+        it->delays.count = 0;
+    post(&it->goes);
+    while (it->process > 0 && waitpid(it->process, NULL, 0) < 0 && errno == EINTR)
+        ;
+    if (it->is_violated)
+        tmwatch_orders_tell_delay(it->delays.made, all->delayed, sizeof all->delayed);
+    if (it->is_violated && session->plan->listing)
+        fputs(it->trace, session->plan->listing);
+    munmap(it, sizeof *it);
+}

@@ -1,0 +1,89 @@
+/* What the files of the bench by lines share. Times are nanoseconds of CLOCK_MONOTONIC. */
+#ifndef LINES_H
+#define LINES_H
+
+#define _GNU_SOURCE
+#include "tmwatch_bench.h"
+#include <stdatomic.h>
+#include <sys/types.h>
+
+enum {
+    MOST_THREADS = 8,
+    MOST_REGISTERS = 8,
+    MOST_LINE = 64, /* of a line, with its end */
+    FAULT = 4       /* the exit status */
+};
+#define SECOND UINT64_C(1000000000)
+#define MILLISECOND UINT64_C(1000000)
+#define FOREVER UINT64_MAX
+
+/* What the words say, besides those of the bench. */
+struct options {
+    bool has_one, has_wide, has_add; /* one program for all threads; values of 64 bits; the program adds */
+    bool by_all;                     /* the schedule */
+    const char *setup, *teardown;    /* commands, or null */
+    const char *crash;               /* the same: kills the store and starts it again */
+    uint64_t seed;
+    const char *whole;               /* the file of the whole run, or null */
+    uint64_t start, wait;            /* seconds until a program is ready; milliseconds until a call waits, or 0 if that is found out */
+    unsigned threads, registers;     /* how many at most */
+    char **program;                  /* its words, up to a null */
+};
+extern struct options options;
+
+/* A program, and what it has written that is no whole line yet. */
+struct program {
+    pid_t pid;
+    int to, from;
+    atomic_bool is_read; /* by one thread at a time */
+    size_t have;
+    char text[4096];
+};
+
+/* main.c */
+uint64_t now(void);
+
+/* supervisor.c: makes a run in processes that end all that they have started, and returns the exit status; notes a program to be ended. */
+int supervise_run(int (*run)(void));
+void note_program(unsigned number, pid_t pid);
+bool run_command(const char *name, const char *command);
+
+/* programs.c */
+void start_programs(void);
+struct program *program_of(unsigned thread);
+void kill_programs(void);
+
+/* failures.c: each says in one line what is wrong, and doesn't return. The call of that thread stays without an answer. */
+extern atomic_bool is_running;
+_Noreturn void fail(unsigned thread, const char *format, ...) __attribute__((format(printf, 2, 3)));
+_Noreturn void fail_ended(unsigned thread);
+const char *shown(const char *line, size_t length);
+
+/* conversation.c: a thread's call and its answer, or null after a crash. */
+const char *ask(unsigned thread, const char *format, ...) __attribute__((format(printf, 2, 3)));
+bool is_answered(unsigned thread, uint64_t until);
+void end_call(unsigned thread);
+const char *call_of(unsigned thread, bool *is_pending);
+void begin_conversation(uint64_t until);
+void end_conversation(void);
+
+/* crash.c: whether the store crashes at this call, and what comes of it. */
+extern atomic_bool has_crashed;
+void begin_crashes(void);
+bool crashes_now(void);
+void crash(unsigned thread);
+
+/* record.c: the file of the whole run, if one is asked for. */
+void open_record(void);
+void record(unsigned thread, const char *event);
+
+/* waits.c */
+extern atomic_bool have_met;
+void await_answer(unsigned thread);
+
+/* memory.c */
+tmwatch_memory lines_memory(void);
+void check_abort(unsigned thread, const char *answer);
+void tell_left_open(void);
+
+#endif

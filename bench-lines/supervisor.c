@@ -1,0 +1,204 @@
+/*
+The processes of a run. Each ends what it has started, and so nothing is left behind, whichever of them is killed.
+
+The first one is what the user starts and signals. The second runs the setup, starts the bench, and at the end ends all programs, runs the
+teardown, and ends what the setup has left. The third is the bench, which starts the programs. Processes that have lost their parent come to
+the second, or else to the first.
+*/
+#include "lines.h"
+#include <errno.h>
+#include <fcntl.h>
+#include <signal.h>
+#include <stdlib.h>
+#include <string.h>
+#include <sys/mman.h>
+#include <sys/prctl.h>
+#include <sys/wait.h>
+#include <unistd.h>
+
+/* How long a program has to end by itself once its input has ended, and then by SIGTERM; a signal that comes twice within TWICE, as
+   timeout(1) sends it, is one. */
+#define OWN_END (300 * MILLISECOND)
+#define END (SECOND / 2)
+#define TWICE (SECOND / 2)
+enum { TRIES = 100, TRIES_BY_TERM = 25, EACH_TRY = 20000 /* microseconds */ };
+
+/* The leaders of the programs' groups: the bench writes them, and another process ends them. */
+static pid_t *programs;
+
+void note_program(unsigned number, pid_t pid)
+{
+    programs[number] = pid;
+}
+
+/* Who gets the signals that come: a process, or by a negative number a group. */
+static volatile pid_t signalled;
+static volatile sig_atomic_t is_interrupted;
+
+static void hand_on(int signal)
+{
+    static uint64_t last;
+    int error = errno;
+    uint64_t at = now();
+    is_interrupted = 1;
+    if (signalled != 0 && at - last > TWICE)
+        kill(signalled, signal == SIGHUP ? SIGTERM : signal);
+    last = at;
+    errno = error;
+}
+
+/* What was ignored stays so. */
+static void catch_signals(void (*by)(int))
+{
+    static const int signals[] = {SIGINT, SIGTERM, SIGHUP};
+    const struct sigaction action = {.sa_handler = by, .sa_flags = SA_RESTART};
+    struct sigaction before;
+    for (size_t i = 0; i < sizeof signals / sizeof signals[0]; i++)
+        if (sigaction(signals[i], NULL, &before) == 0 && before.sa_handler != SIG_IGN)
+            sigaction(signals[i], &action, NULL);
+}
+
+/* Waits for a child, to which signals are handed on meanwhile, or to its group: the status of waitpid. */
+static int wait_for(pid_t pid, bool has_group)
+{
+    int status = 0;
+    signalled = has_group ? -pid : pid;
+    if (is_interrupted)
+        kill(signalled, SIGTERM);
+    while (waitpid(pid, &status, 0) < 0 && errno == EINTR)
+        ;
+    signalled = 0;
+    return status;
+}
+
+/* Starts a process that makes this, and that ends as by SIGTERM when its parent has. It is in a group of its own. */
+static pid_t start_own(int (*make)(int (*)(void)), int (*run)(void))
+{
+    pid_t parent = getpid(), pid = fork();
+    if (pid != 0)
+        return pid;
+    setpgid(0, 0);
+    prctl(PR_SET_PDEATHSIG, SIGTERM);
+    _exit(getppid() == parent ? make(run) : FAULT);
+}
+
+/* Runs a command of the shell: whether all went well, else a line says what didn't. What it prints goes to standard error. */
+bool run_command(const char *name, const char *command)
+{
+    pid_t pid = fork();
+    if (pid == 0) {
+        int none = open("/dev/null", O_RDONLY);
+        setpgid(0, 0);
+        catch_signals(SIG_DFL);
+        dup2(none, STDIN_FILENO);
+        dup2(STDERR_FILENO, STDOUT_FILENO);
+        execl("/bin/sh", "sh", "-c", command, (char *)NULL);
+        _exit(FAULT);
+    }
+    int status = wait_for(pid, true);
+    if (WIFSIGNALED(status))
+        fprintf(stderr, "%s was ended by signal %d (%s): %s\n", name, WTERMSIG(status), strsignal(WTERMSIG(status)), command);
+    else if (status != 0)
+        fprintf(stderr, "%s has ended with status %d: %s\n", name, WEXITSTATUS(status), command);
+    return status == 0;
+}
+
+/* Whether all groups of programs are gone by then. */
+static bool are_gone(uint64_t until)
+{
+    for (;; usleep(EACH_TRY / 4)) {
+        bool is_left = false;
+        while (waitpid(-1, NULL, WNOHANG) > 0)
+            ;
+        for (unsigned i = 0; i < MOST_THREADS; i++)
+            is_left = is_left || (programs[i] > 0 && kill(-programs[i], 0) == 0);
+        if (!is_left || now() >= until)
+            return !is_left;
+    }
+}
+
+/* Ends the programs' groups. */
+static void end_programs(void)
+{
+    static const int signals[] = {SIGTERM, SIGKILL};
+    for (unsigned i = 0; !are_gone(now() + (i == 0 ? OWN_END : END)) && i < 2; i++)
+        for (unsigned j = 0; j < MOST_THREADS; j++)
+            if (programs[j] > 0)
+                kill(-programs[j], signals[i]);
+}
+
+/* Signals each child: whether there was any. */
+static bool signal_children(int signal)
+{
+    char name[64], pids[4096];
+    snprintf(name, sizeof name, "/proc/self/task/%d/children", (int)getpid());
+    int file = open(name, O_RDONLY);
+    ssize_t count = file < 0 ? 0 : read(file, pids, sizeof pids - 1);
+    close(file);
+    pids[count > 0 ? count : 0] = '\0';
+    char *at = pids, *end = pids;
+    for (long pid = strtol(at, &end, 10); end != at; pid = strtol(at, &end, 10)) {
+        kill((pid_t)pid, signal);
+        at = end;
+    }
+    return count > 0;
+}
+
+/* Ends all children, and those that come from them. */
+static void end_children(void)
+{
+    for (int tries = 0; tries < TRIES && signal_children(tries < TRIES_BY_TERM ? SIGTERM : SIGKILL); tries++) {
+        usleep(EACH_TRY);
+        while (waitpid(-1, NULL, WNOHANG) > 0)
+            ;
+    }
+}
+
+/* Ends all but this process. */
+static void end_run(void)
+{
+    end_programs();
+    is_interrupted = 0;
+    if (options.teardown)
+        run_command("the teardown", options.teardown);
+    end_children();
+}
+
+static int run_bench(int (*run)(void))
+{
+    catch_signals(SIG_DFL);
+    return run();
+}
+
+/* What the second process does. */
+static int make_run(int (*run)(void))
+{
+    int status = 0, result = FAULT;
+    prctl(PR_SET_CHILD_SUBREAPER, 1);
+    bool is_set_up = !options.setup || run_command("the setup", options.setup);
+    if (is_set_up && !is_interrupted) {
+        status = wait_for(start_own(run_bench, run), false);
+        result = WIFSIGNALED(status) ? 128 + WTERMSIG(status) : WEXITSTATUS(status);
+    } else
+        puts("{\"fault\":\"program\"}");
+    if (WIFSIGNALED(status))
+        fprintf(stderr, "the bench was ended by signal %d (%s)\n", WTERMSIG(status), strsignal(WTERMSIG(status)));
+    fflush(stdout);
+    end_run();
+    return result;
+}
+
+int supervise_run(int (*run)(void))
+{
+    programs = mmap(NULL, MOST_THREADS * sizeof *programs, PROT_READ | PROT_WRITE, MAP_SHARED | MAP_ANONYMOUS, -1, 0);
+    if (programs == MAP_FAILED)
+        return FAULT;
+    prctl(PR_SET_CHILD_SUBREAPER, 1);
+    catch_signals(hand_on);
+    int status = wait_for(start_own(make_run, run), false);
+    if (!WIFSIGNALED(status))
+        return WEXITSTATUS(status);
+    fprintf(stderr, "the supervisor was ended by signal %d (%s)\n", WTERMSIG(status), strsignal(WTERMSIG(status)));
+    end_run();
+    return 128 + WTERMSIG(status);
+}

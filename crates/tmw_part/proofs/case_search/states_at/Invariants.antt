@@ -1,0 +1,7 @@
+use Rattle.tmw_part.proofs.Shared.{flat_map, slice_get, take, ◌≡◌}
+use Rattle.std.specs.Option.{option_to_list}
+use Rattle.tmw_part.proofs.case_search.states_at.Given as goal
+
+abbrev pub invariant-loop-place : goal.invariant-loop-place
+invariant-loop-place l =
+    l.chosen.items ≡ flat_map (λ place. option_to_list (slice_get l.states place)) (take l.place-index l.places)

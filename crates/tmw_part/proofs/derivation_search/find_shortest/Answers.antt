@@ -1,0 +1,40 @@
+-- Each contradiction to which the steps come has a derivation, and the shorter of two is one of them.
+use Rattle.tmw_part.proofs.Shared.{IsFalse, contradicts_in, inl, inr, refl, sym, ◌∙◌}
+use Rattle.tmw_part.proofs.ListFacts.{none-more, none-whole}
+use Rattle.tmw_part.proofs.derivation_search.find_shortest.Goals.{then-contradicts+in_ok-kept, else-contradicts}
+use Rattle.tmw_part.proofs.derivation_search.find_shortest.Goals as goal
+
+pub loop-end-preserved : goal.loop-end-preserved
+loop-end-preserved c =
+    let so_far = c.loop-end.invariant in
+    let ends = c.args.candidates.now.ends.items in
+    let place = c.loop-end.end-index in
+    let low = rw c.deref-end-items.ensures.value at c.loop-end-test.true in
+    let at = rw c.deref-end-items.ensures.value at c.end-item.is in
+    elim c.if-contradicts.branch [
+      | then-contradicts+in_ok-kept w ↦
+          record {
+            made = rw w.best-is (elim w.shorter.ensures [
+              | inl first ↦ rw first at so_far.made
+              | inr second ↦ rw second (
+                record {
+                  is = record { is = w.in_ok-kept.ensures.is; needed = w.in_ok-kept.ensures.needed };
+                  among = record { steps = w.in_ok-kept.ensures.among c.args.candidates.now.steps.items c.requires.are; end = (place, low, sym at) };
+                },
+                refl,
+              )
+            ]);
+            none = rw w.best-is tt;
+          }
+      | else-contradicts w ↦
+          record {
+            made = rw w.best-is so_far.made;
+            none = rw w.best-is (none-more c.loop-end.best (λ end. IsFalse (contradicts_in c.args.judged.now c.args.steps.now end)) ends place
+                c.end-item.result low so_far.none (rw at at (sym c.contradicts.ensures ∙ w.if-contradicts.false)));
+          }
+    ]
+
+pub returns-clause-none : goal.returns-clause-none
+returns-clause-none c =
+    none-whole c.loop-end.best (λ end. IsFalse (contradicts_in c.args.judged.now c.args.steps.now end)) c.args.candidates.now.ends.items
+    c.loop-end.end-index (rw c.deref-end-items.ensures.value at c.loop-end-test.false) c.loop-end.invariant.none

@@ -1,0 +1,140 @@
+/*
+A memory whose lock is elsewhere, as that of a server, so that the bench doesn't see who waits for it. One answer takes longer than a rescue.
+FAULT: UNASKED, the bench isn't told that the memory asks and waits; FAILS, a call gets no answer; READS, nothing is locked; CRAWLS, each
+read takes long; CRASHES, it crashes, and then holds what is on its disk; LOSES, that lacks the last commits.
+*/
+#define _POSIX_C_SOURCE 200809L
+#include "tmwatch_bench.h"
+#include <errno.h>
+#include <semaphore.h>
+#include <string.h>
+#include <time.h>
+
+enum { NONE, UNASKED, FAILS, READS, CRAWLS, CRASHES, LOSES, CRASH_EACH = 300, SYNC_EACH = 64, SLOW_CALL = 20, FAILED_CALL = 40, LONG = 120 * 1000 * 1000, CRAWL = LONG / 100 /* nanoseconds */ };
+#ifndef FAULT
+#define FAULT NONE
+#endif
+
+struct tx {
+    bool is_open;
+    unsigned starts;
+    uint64_t before[8];
+};
+
+static uint64_t words[8], disk[8];
+static sem_t lock;
+static unsigned calls, commits, starts;
+static bool has_crashed;
+
+static bool begin(void *memory, void *tx)
+{
+    (void)memory, (void)tx;
+    return true;
+}
+
+/* Takes the lock, unless the transaction has it, since the memory was started last. */
+static void open_it(struct tx *tx)
+{
+    tx->is_open = tx->is_open && tx->starts == starts;
+    tx->starts = starts;
+    if (FAULT != UNASKED)
+        tmwatch_asks();
+    if (tx->is_open || FAULT == READS)
+        return;
+    if (sem_trywait(&lock) != 0) {
+        if (FAULT != UNASKED)
+            tmwatch_waits();
+        while (sem_wait(&lock) != 0)
+            ;
+    }
+    if (has_crashed)
+        return;
+    tx->is_open = true;
+    memcpy(tx->before, words, sizeof words);
+}
+
+static void restart(void *memory)
+{
+    (void)memory;
+    memcpy(words, disk, sizeof words);
+    sem_destroy(&lock);
+    sem_init(&lock, 0, 1);
+    has_crashed = false;
+    starts++;
+}
+
+/* Whoever waits goes on: nothing is recorded of it. */
+static void crash(void)
+{
+    has_crashed = true;
+    tmwatch_bench_crash(restart);
+    for (int i = 0; i < 8; i++)
+        sem_post(&lock);
+}
+
+/* What a read may do besides. */
+static void be_slow_or_fail(void)
+{
+    const struct timespec time = {0, FAULT == CRAWLS ? CRAWL : LONG};
+    calls++;
+    if (calls == SLOW_CALL || FAULT == CRAWLS)
+        nanosleep(&time, NULL);
+    if (FAULT == FAILS && calls == FAILED_CALL)
+        tmwatch_bench_fail("the disk is gone");
+    if ((FAULT == CRASHES || FAULT == LOSES) && calls % CRASH_EACH == 0 && !has_crashed)
+        crash();
+}
+
+static bool read(void *memory, void *tx, unsigned reg, uint64_t *value)
+{
+    (void)memory;
+    open_it(tx);
+    be_slow_or_fail();
+    *value = words[reg];
+    return true;
+}
+
+static bool write(void *memory, void *tx, unsigned reg, uint64_t value)
+{
+    (void)memory;
+    open_it(tx);
+    words[reg] = value;
+    return true;
+}
+
+static bool add(void *memory, void *tx, unsigned reg, uint64_t addend, uint64_t *before)
+{
+    return read(memory, tx, reg, before) && write(memory, tx, reg, *before + addend);
+}
+
+static bool close_it(struct tx *tx)
+{
+    if (tx->is_open && !has_crashed)
+        sem_post(&lock);
+    tx->is_open = false;
+    return true;
+}
+
+static bool commit(void *memory, void *tx)
+{
+    (void)memory;
+    commits++;
+    if (FAULT != LOSES || commits % SYNC_EACH == 0)
+        memcpy(disk, words, sizeof disk);
+    return close_it(tx);
+}
+
+static void cancel(void *memory, void *tx)
+{
+    struct tx *it = tx;
+    (void)memory;
+    if (it->is_open && !has_crashed)
+        memcpy(words, it->before, sizeof words);
+    close_it(it);
+}
+
+int main(int count, char **given)
+{
+    static const tmwatch_memory memory = {NULL, sizeof(struct tx), begin, read, write, add, commit, cancel, NULL};
+    return sem_init(&lock, 0, 1) != 0 ? 4 : tmwatch_bench_main(&memory, count, given);
+}

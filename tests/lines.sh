@@ -1,0 +1,338 @@
+#!/usr/bin/env bash
+# Runs little stores by tmwatch-bench, by every schedule: right ones, wrong ones, and ones that fail; and looks that no process is left, however
+# a run ends.
+#
+#   tests/lines.sh
+#
+# A line for each row. The last one is 'N passed, M failed', and the exit status is 1 if a row failed. Without a C compiler nothing is
+# tested: a line says so, and the status is 0.
+# Environment: CC (cc), BUILT (tests/common.sh), FLAGS (further flags of the compiler), KILLS (20).
+set -eu
+# shellcheck source=tests/common.sh
+. "$(dirname "${BASH_SOURCE[0]}")/common.sh"
+cc=${CC:-cc}
+has "$cc" tests/lines.sh || exit 0
+use_library
+read -r -a flags <<<"${FLAGS:-}"
+strict=(-Wall -Wextra -pedantic -Werror -g -O2 -pthread "-I$top/include" "${flags[@]}")
+ends 'the bench compiles' 0 build_bench "$cc" -std=c11 "${strict[@]}"
+ends 'the bench by lines compiles' 0 "$cc" -std=gnu11 "${strict[@]}" -o "$folder/tmwatch-bench" "$top"/bench-lines/*.c \
+    "$folder/lib/libtmwatch_bench.a" "$built/lib/libtmwatch.a"
+ends 'a little store compiles' 0 "$cc" -std=c11 "${strict[@]}" -o "$folder/little" "$top/tests/lines/little.c"
+cd "$folder"
+one=(--one -- ./little one)
+file=(--setup 'rm -f registers' -- ./little lock registers)
+
+# What is started by the bench is known by this.
+marked=(env "TMWATCH_TESTED=$folder")
+
+# Runs the bench by these words: what it prints is in `printed`, what it says in `said`.
+bench() {
+    timeout 60 "${marked[@]}" ./tmwatch-bench "$@" >printed 2>said
+}
+
+# Runs a row of the bench: its name, its status, and its words; then lines that `printed` or `said` has to have.
+runs() {
+    local name=$1 wanted=$2
+    shift 2
+    ends "$name" "$wanted" bench "$@"
+}
+prints() {
+    ends "$1: $2" 0 grep -q -- "$2" printed
+}
+says() {
+    ends "$1: what is said" 0 grep -qxF -- "$2" said
+}
+
+# Whether no process of the bench is left, within five seconds. (A zombie has no environment.)
+is_clean() {
+    local tries
+    for tries in $(seq 50); do
+        # (its status says too that a process has ended meanwhile)
+        grep -lsz "^TMWATCH_TESTED=$folder" /proc/[0-9]*/environ >left || true
+        [ -s left ] || return 0
+        sleep 0.1
+    done
+    echo "left, after $tries looks: $(sed 's|environ|comm|' left | xargs cat | xargs)"
+    return 1
+}
+
+# Right stores, and wrong ones, by each schedule; in one process, and in one for each thread.
+for schedule in steps rounds permits all; do
+    runs "one program, $schedule" 0 --schedule "$schedule" --rounds 300 "${one[@]}" right
+    runs "a program for each thread, $schedule" 0 --schedule "$schedule" --rounds 100 "${file[@]}" right
+    runs "a wrong store, $schedule" 1 --schedule "$schedule" "${one[@]}" reads
+    prints "a wrong store, $schedule" '"verdict":"violated"'
+done
+alone='no two calls ran at once: run it by --schedule rounds or permits too'
+runs 'all, by steps alone' 0 --rounds 20 "${one[@]}" right
+says 'all, by steps alone' "$alone"
+runs 'all, steps and rounds' 0 --seconds 8 --threads 2 --calls 1 --one -- \
+    sh -c './little one right | while read -r answer; do sleep 0.002; echo "$answer"; done'
+ends 'all, steps and rounds: what is said' 1 grep -qF "$alone" said
+runs 'another wrong store' 1 --trace once "${one[@]}" commit
+prints 'another wrong store' '"certain":true'
+ends 'another wrong store: no debugger' 1 grep -q gdb said
+read -r -a again < <(sed -n 's/.*"again":"\(.*\)","certain":true}$/\1/p' printed)
+ends 'the words that make it again' 0 test "${#again[@]}" -ge 4
+ends 'what stands beside its trace' 0 diff printed once.run
+runs 'again' 1 "${again[@]}" --trace twice "${one[@]}" commit
+ends 'the same trace' 0 cmp once twice
+if [ -x "$program" ]; then
+    ends 'judge says so' 1 "$program" judge <once
+fi
+runs 'a run that shows nothing' 0 --schedule steps --threads 1 --rounds 10 "${one[@]}" right
+prints 'a run that shows nothing' '"lacks":\["threads"'
+runs JUnit 1 --junit junit.xml "${one[@]}" commit
+ends 'JUnit: the program' 0 grep -q 'name="./little one commit"' junit.xml
+
+# What passes is the record: the program's lines, but for the first one, are those of the trace.
+printf '%s\n' '#!/bin/sh' 'tee calls | ./little one right | tee answers' >taped
+chmod +x taped
+runs 'a taped run' 0 --one --schedule steps --threads 1 --rounds 20 --trace trace -- ./taped
+ends 'the calls are those of the trace' 0 diff <(sed 1d calls) <(grep '^0 [RWNTX]' trace)
+ends 'the answers are those of the trace' 0 diff <(sed 1d answers) <(grep '^0 [VKCA]' trace)
+ends 'values are small' 0 awk '$2 == "W" && $4 > 10000 { exit 1 }' calls
+ends 'nothing adds' 1 grep -q ' N ' calls
+runs 'a program that adds' 0 --one --schedule steps --threads 1 --rounds 20 --add -- ./taped
+refused='each N was answered by A: does the program add?'
+ends 'a program that adds: what is said' 1 grep -qF "$refused" said
+ends 'addends are small' 0 awk '$2 == "N" { adds++ } $2 == "N" && $4 >= 65536 { exit 1 } END { exit !adds }' calls
+runs 'a program that does not add' 0 --schedule steps --rounds 20 --add "${one[@]}" adds
+says 'a program that does not add' "$refused"
+runs 'wide values' 0 --one --schedule steps --threads 1 --rounds 20 --wide -- ./taped
+ends 'values are wide' 0 awk '$2 == "W" { wide += length($4) > 17 } END { exit wide < 10 }' calls
+
+# The whole run goes on after a violation.
+runs 'a whole run' 1 --schedule steps --rounds 100 --whole whole "${one[@]}" reads
+ends 'a whole run: all events' 0 test "$(($(wc -l <whole) - 1))" = "$(sed -n 's/.*"events":\([0-9]*\),"verdict.*/\1/p' printed)"
+ends 'a whole run: after the violation' 0 test "$(wc -l <whole)" -gt 4000
+if has python3 'a whole run, by the plain definitions'; then
+    for criterion in opacity strict; do python3 "$top/tests/long/whole.py" $criterion <whole; done >lengths
+    ends 'a whole run, by the plain definitions' 0 grep -Pzqx '[0-9]+\nnone\n' lengths
+fi
+runs 'a whole run that cannot be written' 4 --whole none/whole "${one[@]}" right
+says 'a whole run that cannot be written' "thread 0, between calls: none/whole can't be written: No such file or directory"
+
+# Locks of the store: a call that waits lets others go on.
+runs 'a store that locks' 0 --schedule steps --rounds 200 "${file[@]}" right
+prints 'a store that locks' '"rescues":0,.*"waits":[1-9]'
+runs 'a store that locks, by time' 0 --schedule steps --rounds 50 --wait 5 "${file[@]}" right
+prints 'a store that locks, by time' '"rescues":0,.*"waits":[1-9]'
+runs 'a store that is slow once' 0 --schedule steps --rounds 20 "${one[@]}" slow
+prints 'a store that is slow once' '"rescues":0,'
+WHEN=100 runs 'a store that locks, and ends' 4 --schedule steps --setup 'rm -f registers' -- ./little lock registers ends
+prints 'a store that locks, and ends' '"certain":false'
+
+# A store that crashes, at calls that the seed draws: it holds what was committed, or it has lost that.
+crashes=(--setup 'rm -f registers crashed' --patience 30 --rounds 500 --seed 5 -- ./little lock registers right)
+for schedule in steps rounds; do
+    runs "a store that crashes, $schedule" 0 --schedule "$schedule" --crash 'echo >>crashed' "${crashes[@]}"
+    prints "a store that crashes, $schedule" '"crashes":[1-9]'
+    ends "a store that crashes, $schedule: how often" 0 grep -q "\"crashes\":$(wc -l <crashed)," printed
+done
+runs 'a store that loses what was committed' 1 --crash 'head -c 64 /dev/zero >registers' --schedule rounds "${crashes[@]}"
+prints 'a store that loses what was committed' '"crashes":1,'
+prints 'a store that loses what was committed' '"certain":false'
+runs 'a crash that fails' 4 --crash 'exit 3' --schedule rounds "${crashes[@]}"
+says 'a crash that fails' 'the crash has ended with status 3: exit 3'
+ends 'a crash that fails: which call' 0 grep -q '^thread [0-3], call "[RWTX].*": the crash has failed$' said
+runs 'a crash and a whole run' 4 --crash true --whole whole "${crashes[@]}"
+
+# What the program and the commands get.
+printf '%s\n' '#!/bin/sh' 'env | grep "^TMWATCH_[TR]" | grep -v TESTED | sort | xargs >>"$1"; exec ./little lock registers right' >environment
+chmod +x environment
+rm -f registers
+runs 'a program for each thread' 0 --schedule rounds --threads 2 --registers 2 --rounds 1 -- ./environment each
+ends 'a program for each thread: its environment' 0 diff <(sort each) - <<'END'
+TMWATCH_REGISTERS=2 TMWATCH_THREAD=0 TMWATCH_THREADS=2
+TMWATCH_REGISTERS=2 TMWATCH_THREAD=1 TMWATCH_THREADS=2
+END
+runs 'setup and teardown' 0 --setup 'rm registers; echo up $TMWATCH_REGISTERS >order' --teardown 'echo down >>order' --one --rounds 1 -- ./environment all
+ends 'setup and teardown: their order' 0 diff order <(printf '%s\n' 'up 8' down)
+ends 'one program: its environment' 0 grep -qx 'TMWATCH_REGISTERS=8 TMWATCH_THREADS=8' all
+runs 'a setup that fails' 4 --setup 'exit 3' --teardown 'echo down >failed' "${one[@]}" right
+says 'a setup that fails' 'the setup has ended with status 3: exit 3'
+prints 'a setup that fails' '{"fault":"program"}'
+ends 'a setup that fails: the teardown' 0 grep -qx down failed
+runs 'a teardown that fails' 0 --teardown 'exit 3' --rounds 1 "${one[@]}" right
+says 'a teardown that fails' 'the teardown has ended with status 3: exit 3'
+
+# What goes wrong in a program has a line that says which thread, which call and what came; and the trace is kept.
+ours='standard output is the bench'\''s: print to standard error'
+fails() {
+    local what=$1 wanted=$2
+    rm -f trace
+    runs "$what" 4 --schedule steps --patience 3 --trace trace "${@:4}" "$what"
+    says "$what" "$wanted"
+    prints "$what" "$3"
+    ends "$what: its trace" 0 grep -q '^[0-3] [RW] ' trace
+}
+fails ends 'thread 3, call "R 2": the program has ended with status 3' '{"fault":"program"}' "${one[@]}"
+fails killed 'thread 3, call "R 2": the program was ended by signal 9 (Killed)' '{"fault":"program"}' "${one[@]}"
+fails closes 'thread 3, call "R 2": the program has closed its standard input or output, and goes on' '{"fault":"program"}' "${one[@]}"
+fails text "thread 3, call \"R 2\": \"hello from the store\" is no answer; $ours" '{"fault":"program"}' "${one[@]}"
+fails blank "thread 3, call \"R 2\": \"\" is no answer; $ours" '{"fault":"program"}' "${one[@]}"
+fails register "thread 3, call \"R 2\": \"9 C\" is no answer; $ours" '{"fault":"program"}' "${one[@]}"
+fails kind 'thread 3, call "R 2": "3 K" is no answer to it: "3 V NUMBER" is, or "3 A"' '{"fault":"program"}' "${one[@]}"
+fails huge 'thread 3, call "R 2": "3 V 18446744073709551616": the number has more than 64 bits' '{"fault":"program"}' "${one[@]}"
+fails negative 'thread 3, call "R 2": "3 V -1" is no answer to it: "3 V NUMBER" is, or "3 A"' '{"fault":"program"}' "${one[@]}"
+fails control 'thread 3, call "R 2": "3 \x01" is no answer to it: "3 V NUMBER" is, or "3 A"' '{"fault":"program"}' "${one[@]}"
+fails long "thread 3, call \"R 2\": \"3 V 000000000000000000000000000000000000000000000000000000000000..\" is no answer; $ours" '{"fault":"program"}' \
+    "${one[@]}"
+fails empty 'thread 3, call "R 2": "3 V " is no answer to it: "3 V NUMBER" is, or "3 A"; no --setup has put 0 there' '{"fault":"program"}' \
+    "${one[@]}"
+runs 'empty, after a setup' 4 --schedule steps --setup true "${one[@]}" empty
+says 'empty, after a setup' 'thread 3, call "R 2": "3 V " is no answer to it: "3 V NUMBER" is, or "3 A"'
+fails twice "thread 3, call \"R 2\": \"3 V 0\" answers no call; $ours" '{"fault":"program"}' "${one[@]}"
+fails more "thread 3, between calls: \"3 V 0\" answers no call; $ours" '{"fault":"program"}' "${one[@]}"
+fails silent 'thread 3: `read` of register 2 has not returned' '{"fault":"stuck"}' "${one[@]}"
+export WHEN=20
+for what in half half_end other; do
+    rm -f registers trace
+    runs "$what" 4 --schedule steps --patience 3 --trace trace "${file[@]}" "$what"
+    prints "$what" '{"fault":"program"}'
+    ends "$what: its trace" 0 grep -q '^[0-3] [RW] ' trace
+    mv said "$what"
+done
+ends 'half: what is said' 0 grep -q '^thread [0-3], call "[RWT].*": half a line has come, "[0-3] V", and nothing more$' half
+ends 'half_end: what is said' 0 grep -q '^thread [0-3], call "[RWT].*": the program has ended after half a line, "0 V"$' half_end
+ends 'other: what is said' 0 grep -q \
+    '^thread \([0-3]\), call "[RWT].*": ".*" is an answer of thread [1-4], whose calls another process gets$' other
+unset WHEN
+runs 'lines that end as those of Windows' 0 --schedule steps --rounds 20 "${one[@]}" return
+runs 'registers that hold no 0' 1 --schedule steps "${one[@]}" first
+says 'registers that hold no 0' 'thread 0, call "R 0": "0 V 7" before anything was written: the setup has to leave 0'
+runs 'no such program' 4 --one -- ./none
+says 'no such program' "thread 0, between calls: ./none can't be started: No such file or directory"
+prints 'no such program' '{"fault":"program"}'
+runs 'no such program, by a shell' 4 --one -- sh -c ./none
+says 'no such program, by a shell' 'thread 0, call "X": the program has ended with status 127'
+runs 'a banner' 4 "${one[@]}" banner
+says 'a banner' "thread 0, call \"X\": \"a store, version 1\" is no answer; $ours"
+runs 'a program that is never ready' 4 --start 1 "${one[@]}" unready
+says 'a program that is never ready' 'thread 0, call "X": no answer to the first line within 1 seconds'
+
+# Stores in Python.
+if has python3 'stores in Python'; then
+    export PYTHONDONTWRITEBYTECODE=1 PYTHONPATH=$top/examples/python
+    memory=(--one -- python3 "$top/examples/python/memory.py")
+    sqlite=(--setup "python3 '$top/examples/python/sqlite.py' setup registers.db WAL" -- python3 "$top/examples/python/sqlite.py" registers.db)
+    runs 'a memory in Python' 0 --schedule rounds --rounds 100 --threads 8 "${memory[@]}"
+    runs 'a memory in Python, by steps' 0 --schedule steps --rounds 100 "${memory[@]}"
+    for part in reads commit; do
+        runs "a memory in Python, without validation: $part" 1 --schedule steps "${memory[@]}" $part
+    done
+    runs 'SQLite' 0 --schedule steps --rounds 100 "${sqlite[@]}" BEGIN
+    runs 'SQLite, by Python'\''s defaults' 1 --schedule steps "${sqlite[@]}"
+    prints 'SQLite, by Python'\''s defaults' '"certain":true'
+    cat >failing.py <<'END'
+from tmwatch_store import Refused, Store, serve
+
+class Failing(Store):
+    calls = 0
+
+    def begin(self):
+        print("the store prints")
+
+    def read(self, register):
+        self.calls += 1
+        if self.calls == 9:
+            raise OSError("the store fails")
+        if self.calls % 4 == 0:
+            raise Refused
+        return 0
+
+    def write(self, register, value):
+        raise Refused
+
+    def commit(self):
+        pass
+
+    def abort(self):
+        pass
+
+serve(Failing())
+END
+    runs 'a store in Python that fails' 4 --schedule steps -- python3 failing.py
+    says 'a store in Python that fails' 'OSError: the store fails'
+    ends 'a store in Python that fails: which call' 0 grep -q '^thread [0-3], call "R .": the program has ended with status 1$' said
+    says 'a store in Python that prints' 'the store prints'
+fi
+
+# Words.
+ends 'help' 0 ./tmwatch-bench --help
+has_told 'help: options of its own' '^  --setup  *COMMAND '
+ends 'help: options of the bench' 0 grep -q '^  --schedule  *WORD ' told
+ends 'help: none of memories in C' 1 grep -qE '^  --(event|orders|plain|races) ' told
+runs 'no program' 4 --one
+says 'no program' 'no program: it comes after --'
+runs 'a word that is none' 4 --ones -- ./little one right
+says 'a word that is none' 'wrong, or without its value: --ones'
+for words in '--start' '--start 0' '--wait x' '--setup'; do
+    # shellcheck disable=SC2086
+    runs "$words" 4 $words
+    ends "$words: what is said" 0 grep -q "^wrong, or without its value: ${words%% *}" said
+done
+
+# No process is left, whatever ended the run: programs that ignore SIGTERM, with children in sessions of their own, and what the setup has left.
+stays=(--setup 'setsid sleep 1000 & echo up >up' --teardown 'echo down >down' --one -- ./little one stays)
+left_by() {
+    ends "$1: nothing is left" 0 is_clean
+    ends "$1: the teardown" 0 rm down
+}
+runs 'an end' 0 --schedule steps --threads 2 --rounds 5 "${stays[@]}"
+left_by 'an end'
+runs 'a fault' 4 --schedule steps --threads 2 --patience 1 "${stays[@]:0:5}" -- sh -c 'setsid sleep 1000 & exec ./little one silent'
+left_by 'a fault'
+runs 'a violation' 1 --schedule steps --threads 2 "${stays[@]:0:5}" -- sh -c './little one first; sleep 1000'
+left_by 'a violation'
+# A process of the bench that this one has started, if there is any. (`pgrep` isn't on each machine.)
+started_by() {
+    local child
+    for child in $(grep -lsx "PPid:[[:space:]]$1" /proc/[0-9]*/status | cut -d / -f 3); do
+        ! grep -qsx tmwatch-bench "/proc/$child/comm" || { echo "$child" && return; }
+    done
+}
+interrupted() {
+    local status=0
+    rm -f up
+    timeout 60 "${marked[@]}" --default-signal=INT,TERM,HUP ./tmwatch-bench --seconds 50 "${@:2}" "${stays[@]}" >printed 2>said &
+    until [ -e up ]; do sleep 0.1; done
+    sleep 0.5
+    kill "-$1" "$(started_by $!)"
+    wait $! || status=$?
+    return "$status"
+}
+for signal in INT TERM HUP; do
+    ends "SIG$signal" 0 interrupted "$signal" --schedule rounds --threads 2
+    prints "SIG$signal" '"opaque so far"'
+    left_by "SIG$signal"
+done
+# (timeout signals the process, and then its group)
+ends 'timeout' 124 timeout 2 "${marked[@]}" --default-signal=TERM ./tmwatch-bench --threads 2 --trace trace "${stays[@]}"
+has_told 'timeout: the verdict' '"opaque so far"'
+left_by timeout
+
+# A process of a run: the one that was started, or below it the one that ends all, or the bench, as far as they have begun.
+process() {
+    local pid=$1 depth below
+    for ((depth = 0; depth < $2; depth++)); do
+        below=$(started_by "$pid")
+        pid=${below:-$pid}
+    done
+    echo "$pid"
+}
+# Kills one of them at some moment.
+killed() {
+    rm -f up down
+    "${marked[@]}" ./tmwatch-bench --threads 2 --schedule rounds "${stays[@]}" >printed 2>said &
+    sleep "0.$((RANDOM % 4))$((RANDOM % 10))"
+    kill -9 "$(process $! "$1")"
+    ! wait $!
+    is_clean && { [ ! -e up ] || [ -e down ]; }
+}
+for kill in $(seq "${KILLS:-20}"); do
+    ends "kill -9, number $kill" 0 killed $((kill % 3))
+done
+end_rows

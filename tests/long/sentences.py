@@ -1,0 +1,106 @@
+"""The sentences of `show --why`: one table of their forms, and a reader of the text. For enough.py.
+
+A form is a sentence with letters for what it names: A, B and C are transactions, V and W values, R a register, E an event. Its meaning is
+told by some of these words, each with the letters that it is about:
+
+    ended    A B        A ended before B began
+    read     A R V      before its own changes A was answered V from register R
+    left     B R W      if the completion holds B, B leaves W in register R
+    source   B          where that read's value comes from: a transaction, START or NOBODY. By this word no undrawn transaction left it.
+    not_from B          where it does not come from, as the sentence concludes
+    unlike   A R W V    A was answered V, where its own earlier calls make the register W
+    put      A R V E    event E is A's, and puts V into register R
+    fate     STATUS     what became of that transaction, or `then`: it leaves another value or none
+    unput    R V        no event before the read of V that the next sentence names puts V into register R
+    cycle    A          nothing more: the orders that the sentences end in contradict each other
+
+A sentence that ends in `: A before B` concludes that. A context is a line by itself, and holds for those after it until another does. The
+contexts of one read are all the sources that its value may have.
+"""
+import re
+from types import SimpleNamespace
+
+START, NOBODY = "the start", "nobody"
+READ = "A read V from register R"
+FORMS = {
+    "A ended before B began: A before B": {"ended": "A B"},
+    READ + ", which only B can have left: B before A": {"read": "A R V", "left": "B R V", "source": "B"},
+    READ + ", which only the start can have left, and B left W there: A before B": {"read": "A R V", "left": "B R W", "source": START},
+    READ + ", where B left W: A before B": {"read": "A R V", "left": "B R W"},
+    "B left W in register R, where A read V: B before C": {"read": "A R V", "left": "B R W"},
+    READ + ", not from B, which comes after it": {"read": "A R V", "not_from": "B"},
+    READ + ", not from B: C left W there in between": {"read": "A R V", "left": "C R W", "not_from": "B"},
+    READ + ", not from the start: C left W there in between": {"read": "A R V", "left": "C R W", "not_from": START},
+    READ + ": none of these states has it, and no other commit of this window left it": {"read": "A R V", "source": NOBODY},
+    READ + ", where its own earlier calls make it W": {"unlike": "A R W V"},
+    "A put V into register R at event E": {"put": "A R V E", "fate": "stays"},
+    "A put V into register R at event E, and aborted": {"put": "A R V E", "fate": "aborted"},
+    "A put V into register R at event E, and had not asked to commit": {"put": "A R V E", "fate": "live"},
+    "A put V into register R at event E, then another value": {"put": "A R V E", "fate": "then"},
+    "no earlier event of this window puts V into register R": {"unput": "R V"},
+    "A would come before itself": {"cycle": "A"},
+}
+CONTEXTS = {
+    r"from (?P<states>state line \d+(?:, state line \d+)*):": "states",
+    r"if (?P<reader>T\d+) read (?P<value>\d+) from register (?P<register>\d+) as (?P<source>T\d+|the start) left it:": "source",
+}
+LETTERS = {**dict.fromkeys("ABC", r"T\d+"), **dict.fromkeys("VWRE", r"\d+")}
+
+
+def pattern_of(form):
+    """The regular expression of a form, with a group for each letter. A letter that comes again is what it was."""
+    found = set()
+
+    def group(letter):
+        again = letter[0] in found
+        found.add(letter[0])
+        return f"(?P={letter[0]})" if again else f"(?P<{letter[0]}>{LETTERS[letter[0]]})"
+
+    return re.compile(re.sub(r"\b[ABCVWRE]\b", group, form))
+
+
+PATTERNS = [(pattern_of(form), meaning) for form, meaning in FORMS.items()]
+
+
+def read_sentence(text):
+    """What a sentence of one of the forms says, or None."""
+    for pattern, meaning in PATTERNS:
+        if found := pattern.fullmatch(text):
+            letters = {letter: word if word[0] == "T" else int(word) for letter, word in found.groupdict().items()}
+            said = {
+                word: tuple(letters[it] for it in about.split()) if word not in ("source", "not_from", "fate") else letters.get(about, about)
+                for word, about in meaning.items()
+            }
+            before = tuple(re.findall(r": (T\d+) before (T\d+)$", text)[0]) if " before T" in text and ": " in text else None
+            words = dict.fromkeys(["ended", "read", "left", "source", "not_from", "unlike", "put", "fate", "unput", "cycle"])
+            return SimpleNamespace(**{**words, **said}, before=before, text=text)
+    return None
+
+
+def read_reason(lines):
+    """The sentences, each with its contexts: the numbers of the states for which it is said, or None, and a case, or None: a reader, a
+    register, the value that it read, and the source of it that is assumed."""
+    sentences, states, case = [], None, None
+    for line in lines:
+        found = {kind: re.fullmatch(pattern, line) for pattern, kind in CONTEXTS.items()}
+        if it := found["states"]:
+            states, case = frozenset(map(int, re.findall(r"\d+", it["states"]))), None
+        elif it := found["source"]:
+            case = it["reader"], int(it["register"]), int(it["value"]), it["source"]
+        else:
+            sentence = read_sentence(line)
+            if sentence is None:
+                raise ValueError(f"a sentence of no known form: {line}")
+            sentence.states, sentence.case = states, case
+            sentences.append(sentence)
+    return sentences
+
+
+def read_text(text):
+    """What `show --why` has written: its report line, the states, the numbers of the events drawn, and the sentences, each value in digits."""
+    report, *lines = text.splitlines()
+    named = dict(re.fullmatch(r"    value  (v\d+) is (\d+)", line).groups() for line in lines if line.startswith("    value"))
+    states = [tuple(map(int, line.split()[1:])) for line in lines if line.startswith("    state")]
+    drawn = [int(found[1]) for line in lines if (found := re.match(r" *(\d+) ", line))]
+    why = [line.removeprefix("    why    ") for line in lines if line.startswith("    why")]
+    return report, states, drawn, [re.sub(r"\bv\d+\b", lambda name: named[name[0]], line) for line in why]

@@ -1,0 +1,163 @@
+/*
+What bench-c/instrumented/orders.c tells of a run, whole: which loads were stale and stores late, by their lines, from one event to another;
+the first race; and what isn't simulated. It needs to be compiled with -g, and addr2line.
+*/
+#define draw_below(draws, below) ((void)(draws), (void)(below), 0u) /* of those that are older than the newest, the oldest */
+#include "../../bench-c/instrumented/orders.c"
+#include "../c/check.h"
+
+enum word { X, Y, Z, WORDS };
+enum { EARLY = 1, FIRST = 2, LAST = 9, MOST_TEXT = 4096 };
+static tmwatch_simulation *orders;
+static atomic_uint_least64_t event = EARLY;
+static _Atomic uint64_t words[WORDS];
+static uint64_t plain;
+
+/* Places in the program, each in a line of its own: where a call returns to is in the next one. */
+enum mark { NEWER, LATER, LATEST, READS_LATER, READS_LATEST, MISSES, STORES_LATE, UNSEEN, MARKS };
+static const void *places[MARKS];
+static unsigned first_line;
+
+__attribute__((noinline)) static void keep(enum mark mark)
+{
+    places[mark] = __builtin_return_address(0);
+}
+
+__attribute__((noinline)) static void keep_all(void)
+{
+    first_line = __LINE__ + 1;
+    keep(NEWER);
+    keep(LATER);
+    keep(LATEST);
+    keep(READS_LATER);
+    keep(READS_LATEST);
+    keep(MISSES);
+    keep(STORES_LATE);
+    keep(UNSEEN);
+    __asm__ volatile("");
+}
+
+/* An access there: of the newest store, or of the oldest that may be. */
+static tmwatch_access access_at(unsigned thread, enum mark mark, enum word word, bool is_newest)
+{
+    orders->stale = orders->late = is_newest ? 0 : ODDS;
+    return (tmwatch_access){orders, thread, places[mark], &words[word], sizeof words[word], RELAXED};
+}
+
+static void loads(unsigned thread, enum mark mark, enum word word, bool is_newest)
+{
+    tmwatch_access access = access_at(thread, mark, word, is_newest);
+    tmwatch_orders_load(&access);
+}
+
+static void stores(unsigned thread, enum mark mark, enum word word, uint64_t value, bool is_newest)
+{
+    tmwatch_access access = access_at(thread, mark, word, is_newest);
+    if (tmwatch_orders_store(&access, value))
+        words[word] = value;
+}
+
+static void meets_all(void)
+{
+    stores(0, NEWER, X, 1, true);
+    stores(0, LATER, Y, 1, true);
+    stores(0, LATEST, Z, 1, true);
+    loads(2, MISSES, X, false);
+    event = FIRST;
+    loads(4, READS_LATER, X, true);
+    loads(4, MISSES, Y, false);
+    loads(1, READS_LATER, Y, true);
+    loads(1, READS_LATEST, Z, true);
+    loads(1, MISSES, X, false);
+    loads(1, READS_LATER, Y, true);
+    loads(1, MISSES, X, false);
+    stores(3, STORES_LATE, Y, 2, false);
+    stores(0, LATER, X, 3, true);
+    loads(2, MISSES, X, false);
+    event = LAST;
+    loads(2, MISSES, Z, false);
+    tmwatch_access stored = {orders, 0, places[NEWER], &plain, sizeof plain, 0}, loaded = {orders, 1, places[LATER], &plain, sizeof plain, 0};
+    tmwatch_orders_plain_store(&stored, sizeof plain, false);
+    tmwatch_orders_plain_load(&loaded, sizeof plain);
+    tmwatch_orders_plain_store(&loaded, sizeof plain, false);
+    words[X] = 4;
+    loads(1, UNSEEN, X, true);
+    tmwatch_orders_futex(orders, words, places[UNSEEN]);
+}
+
+/* Writes out a format in which %0 to %7 are these places. */
+static void place_lines(const char *format, char *to)
+{
+    for (; *format; format++)
+        if (*format == '%')
+            to += snprintf(to, MOST_LINE, "told.c:%u (keep_all)", first_line + (unsigned)(*++format - '0'));
+        else
+            *to++ = *format;
+    *to = '\0';
+}
+
+/* Whether a text is the wanted one. Else both are printed. */
+static bool is_text(char *text, const char *format)
+{
+    char wanted[MOST_TEXT];
+    place_lines(format, wanted);
+    bool is_wanted = strcmp(text, wanted) == 0;
+    if (!is_wanted)
+        fprintf(stderr, "%s--- and not\n%s", text, wanted);
+    free(text);
+    return is_wanted;
+}
+
+static char *told(uint64_t from, uint64_t to)
+{
+    char *text = NULL;
+    size_t size;
+    FILE *file = open_memstream(&text, &size);
+    tmwatch_orders_tell(orders, file, from, to);
+    fclose(file);
+    return text;
+}
+
+static char *told_race(void)
+{
+    char *text = calloc(1, MOST_TEXT);
+    tmwatch_orders_tell_race(orders, text, MOST_TEXT);
+    return text;
+}
+
+/* What is told of these kinds, which the call answers with as bits. */
+static char *told_unseen(bool is_wrong, uint64_t kinds)
+{
+    char *text = NULL;
+    size_t size;
+    FILE *file = open_memstream(&text, &size);
+    CHECK(tmwatch_orders_tell_unseen(orders, file, is_wrong) == kinds);
+    fclose(file);
+    return text;
+}
+
+int main(void)
+{
+    static const uint64_t all_kinds = 1 << UNMARKED_STORE | 1 << UNMARKED_LOCK;
+    orders = tmwatch_orders_new(1, &event, NULL);
+    keep_all();
+    CHECK(is_text(told_unseen(true, 0), "") && is_text(told_race(), ""));
+    meets_all();
+    CHECK(is_text(told(FIRST, LAST), "the orders of C++20 allow this, in this round before what went wrong:\n"
+                                     "  stale load: thread 4 at %5 does not see the store of thread 0 at %1\n"
+                                     "  stale load: thread 1 at %5 does not see the store of thread 0 at %0 (and 1 like this)\n"
+                                     "    though it has read, at %4, what that thread stored later, at %2\n"
+                                     "  late store: thread 3 at %6 comes before the store of thread 0 at %1\n"
+                                     "  stale load: thread 2 at %5 does not see the store of thread 0 at %0, nor 1 after it\n"));
+    CHECK(is_text(told(EARLY, FIRST), "the orders of C++20 allow this, in this round before what went wrong:\n"
+                                      "  stale load: thread 2 at %5 does not see the store of thread 0 at %0\n"));
+    CHECK(is_text(told(0, EARLY), "") && is_text(told(LAST + 1, LAST + 2), ""));
+    CHECK(is_text(told_race(), "thread 1 loads plainly at %1, thread 0 stores plainly at %0"));
+    CHECK(is_text(told_unseen(false, all_kinds), ""));
+    CHECK(is_text(told_unseen(true, all_kinds),
+                  "code that the compiler has not marked, or a thread of the memory's own, stores to what is loaded at %7: what that orders is "
+                  "not seen, so a violation may be false\n"
+                  "a lock or a wait of code that the compiler has not marked, in %7: what that orders is not seen, so a violation may be false\n"));
+    tmwatch_orders_discard(orders);
+    return 0;
+}
