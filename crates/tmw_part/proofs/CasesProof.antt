@@ -1,14 +1,16 @@
 -- Cases that are made of candidates for each state are a reason; candidates that end nowhere from a state come to no contradiction.
-use Rattle.tmw_part.proofs.Shared.{All-contains, Asked, Contains, EndsNowhere, Err, IfOk, IsFalse, IsTrue, List, None, Ok, Option, Result, Some, [], arith, cases_Bool, cases_order, contradicts_in, eq-eqb, false, get_or, inl, inr, is_among, is_news, is_said_for, length, refl, states_at, suc, sym, tells, zero, ℕ, ◌++◌, ◌+◌, ◌==◌, ◌∷◌, ◌≡◌}
-use Rattle.std.proofs.lemmas.List.Elements.{All-from_recursion, All-push}
+use Rattle.tmw_part.proofs.Shared.{All, All-contains, AllByRecursion, Asked, Contains, EndsNowhere, Err, IfOk, IsFalse, IsTrue, List, None, Ok, Option, Result, Some, [], arith, cases_Bool, cases_order, contradicts_in, eq-eqb, eqb-true, false, get_or, inl, inr, is_among, is_news, is_said_for, length, refl, states_at, suc, sym, tells, zero, ℕ, ◌++◌, ◌+◌, ◌<◌, ◌==◌, ◌∷◌, ◌≡◌}
+use Rattle.std.proofs.lemmas.List.Elements.{All-from_recursion, All-push, recursion_from_All}
+use Rattle.std.proofs.Common.{append-nil}
 use Rattle.tmw_part.specs.declared.candidates.Candidates.{Candidates}
 use Rattle.tmw_part.specs.declared.reason_case.Reason.{Reason}
 use Rattle.tmw_part.specs.declared.reason_case.ReasonCase.{ReasonCase}
-use Rattle.tmw_part.specs.CaseSearch.{AreSaid, FindsCases, HasFirst, IsMadeCase, asked_at}
+use Rattle.tmw_part.specs.CaseSearch.{AreFirst, AreSaid, FindsCases, Grows, IsMadeCase, asked_at}
 use Rattle.tmw_part.specs.DerivationSearch.{AreCandidates}
 use Rattle.tmw_part.specs.DrawnSteps.{Drawn}
 use Rattle.tmw_part.specs.FindReason.{ComesToNone, FindsAmong, IsDrawnCase}
-use Rattle.tmw_part.specs.Reasons.{IsCase}
+use Rattle.tmw_part.specs.Reasons.{AreOnce, IsCase, said_places}
+use Rattle.tmw_part.proofs.PlacesProof.{once-push, once-said, said-more}
 use Rattle.tmw_part.proofs.ListFacts.{any-last, any-more, find-none, get_some}
 use Rattle.std.proofs.lemmas.Bool.{or_left, or_right}
 use Rattle.tmw_part.proofs.StatesAt.{contains-get}
@@ -18,10 +20,17 @@ among-contains [] place (k, low, at) = absurd (omega (arith, low))
 among-contains (p ∷ places) place (zero, low, at) = or_left (p == place) _ (eq-eqb p place at)
 among-contains (p ∷ places) place (suc k, low, at) = or_right (p == place) _ (among-contains places place (k, omega (arith, low), at))
 
-pub said-push : (w : Asked) (candidates : Candidates) (count : ℕ) (cases : List ReasonCase) (case : ReasonCase) → AreSaid w candidates count cases
-    → IsMadeCase w candidates case → Contains case.states.items count → AreSaid w candidates (count + 1) (cases ++ case ∷ [])
-said-push w candidates count cases case said made has = record {
-  are = All-push (IsMadeCase w candidates) cases case said.are made;
+-- a case that has grown from one for the state at the next place
+pub said-push : (w : Asked) (candidates : Candidates) (count : ℕ) (cases : List ReasonCase) (old case : ReasonCase)
+    → AreSaid w candidates count cases → count < length w.states → is_said_for count cases ≡ false → old.states.items ≡ count ∷ []
+    → Grows w candidates cases old case → AreSaid w candidates (count + 1) (cases ++ case ∷ [])
+said-push w candidates count cases old case said low none one grows =
+  let has : Contains case.states.items count = grows.said count (rw one (0, omega arith, refl)) in
+  let alone : AreOnce (length w.states) (said_places cases ++ []) = rw (append-nil (said_places cases)) said.once in
+  record {
+  are = All-push (IsMadeCase w candidates) cases case said.are grows.made;
+  some = All-push (λ c. 0 < length c.states.items) cases case said.some (omega (arith, has.1));
+  once = rw (said-more cases case) (grows.once (rw one (once-said (length w.states) count cases [] low refl none alone)));
   each = λ place low. elim (cases_order place count) [
     | inl same ↦
         any-last (λ c. is_among place c.states.items) cases case (rw same (among-contains case.states.items count has))
@@ -36,6 +45,8 @@ pub said-same : (w : Asked) (candidates : Candidates) (count : ℕ) (cases : Lis
     → IsTrue (is_said_for count cases) → AreSaid w candidates (count + 1) cases
 said-same w candidates count cases said has = record {
   are = said.are;
+  some = said.some;
+  once = said.once;
   each = λ place low. elim (cases_order place count) [
     | inl same ↦ rw same has
     | inr differ ↦ elim differ [
@@ -45,26 +56,52 @@ said-same w candidates count cases said has = record {
   ];
 }
 
--- places with one more
-pub first-push : (count : ℕ) (places : List ℕ) → HasFirst count places → HasFirst (count + 1) (places ++ count ∷ [])
-first-push count places has = λ place low. elim (cases_order place count) [
-  | inl same ↦ any-last (λ p. p == place) places count (eq-eqb count place (sym same))
-  | inr differ ↦ elim differ [
-    | inl before ↦ any-more (λ p. p == place) places count (has place before)
-    | inr beyond ↦ absurd (omega (arith, low, beyond))
-  ]
-]
+among-some : (place : ℕ) (places : List ℕ) → IsTrue (is_among place places) → 0 < length places
+among-some place [] among = absurd (cc)
+among-some place (p ∷ places) among = omega arith
 
--- one case for all
-pub said-whole : (w : Asked) (candidates : Candidates) (case : ReasonCase) → HasFirst (length w.states) case.states.items
-    → IsMadeCase w candidates case → AreSaid w candidates (length w.states) (case ∷ [])
-said-whole w candidates case all made = record {
-  are = All-push (IsMadeCase w candidates) [] case (All-from_recursion (IsMadeCase w candidates) [] tt) made;
-  each = λ place low. or_left (is_among place case.states.items) _ (all place low);
+-- none of the places below is this one
+beyond-each : (count : ℕ) (places : List ℕ) → AllByRecursion (λ p. p < count) places → is_among count places ≡ false
+beyond-each count [] all = refl
+beyond-each count (p ∷ places) all =
+    elim (cases_Bool (p == count)) [
+      | inl is ↦ let same = eqb-true p count is in absurd (omega (arith, same, all.0))
+      | inr other ↦ rw other (beyond-each count places all.1)
+    ]
+
+beyond-all : (count : ℕ) (places : List ℕ) → All (λ p. p < count) places → is_among count places ≡ false
+beyond-all count places all = beyond-each count places (recursion_from_All (λ p. p < count) places all)
+
+-- places with one more
+pub first-push : (count : ℕ) (places : List ℕ) → AreFirst count places → AreFirst (count + 1) (places ++ count ∷ [])
+first-push count places first = record {
+  each = λ place low. elim (cases_order place count) [
+    | inl same ↦ any-last (λ p. p == place) places count (eq-eqb count place (sym same))
+    | inr differ ↦ elim differ [
+      | inl before ↦ any-more (λ p. p == place) places count (first.each place before)
+      | inr beyond ↦ absurd (omega (arith, low, beyond))
+    ]
+  ];
+  once = once-push (count + 1) count places (record {
+    apart = first.once.apart;
+    within = λ k d low. let below = first.once.within k d low in omega (arith, below);
+  }) (omega arith) (beyond-all count places first.once.within);
 }
 
-is_case : (w : Asked) (candidates : Candidates) (case : ReasonCase) → IsMadeCase w candidates case → IsCase w.criterion w.states w.transactions case
-is_case w candidates case made = record { are = λ k d low. (made.are k d low).is; refute = made.refute }
+-- one case for all
+pub said-whole : (w : Asked) (candidates : Candidates) (case : ReasonCase) → 0 < length w.states → AreFirst (length w.states) case.states.items
+    → IsMadeCase w candidates case → AreSaid w candidates (length w.states) (case ∷ [])
+said-whole w candidates case low first made = record {
+  are = All-push (IsMadeCase w candidates) [] case (All-from_recursion (IsMadeCase w candidates) [] tt) made;
+  some = All-push (λ c. 0 < length c.states.items) [] case (All-from_recursion (λ c. 0 < length c.states.items) [] tt)
+      (among-some 0 case.states.items (first.each 0 low));
+  each = λ place low. or_left (is_among place case.states.items) _ (first.each place low);
+  once = rw (append-nil case.states.items) first.once;
+}
+
+is_case : (w : Asked) (candidates : Candidates) (case : ReasonCase) → 0 < length case.states.items → IsMadeCase w candidates case
+    → IsCase w.criterion w.states w.transactions case
+is_case w candidates case some made = record { some = some; are = λ k d low. (made.are k d low).is; refute = made.refute }
 
 is_drawn : (w : Asked) (drawn : List Drawn) (candidates : Candidates) → AreCandidates drawn candidates → (case : ReasonCase)
     → IsMadeCase w candidates case → IsDrawnCase drawn case
@@ -94,7 +131,11 @@ finds w drawn candidates of None (place, low, ends) =
     let one : states_at w.states (place ∷ []) ≡ s ∷ [] = rw at refl in
     (s, contains-get w.states place s at, rw one at (nowhere (asked_at w (place ∷ [])) drawn candidates of ends))
 finds w drawn candidates of (Some reason) said = record {
-  is = record { are = λ k d low. is_case w candidates (get_or reason.cases.items k d) (said.are k d low); each = said.each };
+  is = record {
+    are = λ k d low. is_case w candidates (get_or reason.cases.items k d) (said.some k d low) (said.are k d low);
+    each = said.each;
+    once = said.once;
+  };
   drawn_cases = λ k d low. is_drawn w drawn candidates of (get_or reason.cases.items k d) (said.are k d low);
 }
 

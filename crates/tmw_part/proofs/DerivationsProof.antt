@@ -13,16 +13,16 @@ none-any p xs none any =
 
 pub ends-nowhere : {A E : Type 0} (w : Asked) (candidates : Candidates) (assumed : ℕ) (steps : List ReasonStep) (result : Result (Option A) E)
     → Closes w candidates assumed steps
-    → IfOk result (λ found. IfNone found (All (λ end. IsFalse (contradicts_in w steps end)) candidates.ends.items))
+    → (assumed ≡ 0 → IfOk result (λ found. IfNone found (All (λ end. IsFalse (contradicts_in w steps end)) candidates.ends.items)))
     → IfOk result (λ found. assumed ≡ 0 → IfNone found (EndsNowhere w candidates))
 ends-nowhere w candidates assumed steps (Err error) closes none = tt
 ends-nowhere w candidates assumed steps (Ok (Some one)) closes none = λ zero_assumed. tt
 ends-nowhere w candidates assumed steps (Ok None) closes none = λ zero_assumed.
     elim closes.ends [
-      | inl any ↦ absurd (none-any (contradicts_in w steps) candidates.ends.items none any)
+      | inl any ↦ absurd (none-any (contradicts_in w steps) candidates.ends.items (none zero_assumed) any)
       | inr closed ↦
           let derives : DerivesIn w 0 steps = rw zero_assumed at closes.derives in
-          record { steps = steps; derives = derives; closed = closed; none = none }
+          record { steps = steps; derives = derives; closed = closed; none = none zero_assumed }
     ]
 
 -- what is made of candidates is so from other states, from which it is a derivation too

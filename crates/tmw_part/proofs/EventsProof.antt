@@ -1,14 +1,15 @@
 -- The transactions of a history begin apart, so that a reason tells of it.
-use Rattle.tmw_part.proofs.Shared.{All, All-from_recursion, AllByRecursion, Bool, Contains, Criterion, Event, ExplainsBy, HoldsIn, IsTrue, List, Placed, ReasonStep, ReasonTells, State, Txn, [], add_event, add_event_here, add_event_past, and_from, and_parts, arith, begin_apart, begun, cases_Bool, eqb-true, from_else, inl, inr, is_among, is_asked, joins, length, list_all, may_come_from, ne_eqb, not, not-true, or_cases, refl, slice_get, states_at, sym, take, transactions, transactions_from, true, ℕ, ◌+◌, ◌<◌, ◌==◌, ◌∙◌, ◌∷◌, ◌≡◌}
-use Rattle.std.proofs.lemmas.List.Elements.{recursion_from_All}
+use Rattle.tmw_part.proofs.Shared.{All, All-from_recursion, AllByRecursion, Bool, Contains, Criterion, Event, ExplainsBy, HoldsIn, IsTrue, List, None, Option, Placed, ReasonStep, ReasonTells, Some, State, Txn, [], add_event, add_event_here, add_event_past, and_from, and_parts, arith, begin_apart, begun, cases_Bool, eqb-true, filter, from_else, inl, inr, is_among, is_asked, joins, length, list_all, list_any, map, may_come_from, nat_lt, ne_eqb, not, range_with_len, refl, slice_get, states_at, suc, take, transactions, transactions_from, true, zero, ℕ, ◌+◌, ◌<◌, ◌==◌, ◌∷◌, ◌≡◌}
+use Rattle.std.proofs.lemmas.List.Elements.{Contains-append_right, recursion_from_All}
+use Rattle.std.proofs.lemmas.Bool.{or_left, or_right}
 use Rattle.tmw_defs.proofs.Places.{Lies, lies-add}
 use Rattle.tmw_part.specs.declared.reason_case.Derivation.{Derivation}
 use Rattle.tmw_part.specs.declared.reason_step.ReasonStep.TheVariants.{From}
 use Rattle.tmw_part.specs.declared.reason_step.ValueSource.{ValueSource}
-use Rattle.tmw_part.specs.Reasons.{IsCase, IsDerivation, RefuteEach, assumes, assumes_none, is_given_by, is_refuted}
-use Rattle.tmw_part.proofs.ListFacts.{find_any, none_all}
+use Rattle.tmw_part.specs.Reasons.{IsCase, IsDerivation, RefuteEach, assume_each, assumes, assumes_none, is_given_by, is_one, origins_of, start_of}
+use Rattle.tmw_part.proofs.ListFacts.{Found, find_any, none_all}
 use Rattle.tmw_part.proofs.StatesAt.{all-at, contains-at, get-contains}
-use Rattle.tmw_part.proofs.StepsProof.{actual, case_at, reason_law, same_source, writer_passes}
+use Rattle.tmw_part.proofs.StepsProof.{IsWithin, actual, case_at, reason_law, same_source}
 
 abbrev elsewhere : Txn → Txn → Bool
 elsewhere t u = not (u.first == t.first)
@@ -53,6 +54,48 @@ first_holds ts order s [] holds is = absurd (cc)
 first_holds ts order s (From t ∷ steps) holds is = (rw (← same_source s t is) holds, none_all (HoldsIn ts order) steps)
 first_holds ts order s (step ∷ steps) holds is = absurd (cc)
 
+-- a place that passes a test is among those that do
+contains-passing : (test : ℕ → Bool) (from n a : ℕ) → a < n → IsTrue (test (from + a))
+    → Contains (map (λ b. Some b) (filter test (range_with_len from n))) (Some (from + a))
+contains-passing test from zero a low is = absurd (omega (arith, low))
+contains-passing test from (suc n) zero low is =
+    let same : from + 0 ≡ from = omega arith in
+    let here : test from ≡ true = rw same at is in
+    rw (same, here) (0, omega arith, refl)
+contains-passing test from (suc n) (suc a) low is =
+    let same : from + suc a ≡ from + 1 + a = omega arith in
+    let (k, within, at) = contains-passing test (from + 1) n a (omega (arith, low)) (rw same at is) in
+    elim (cases_Bool (test from)) [
+      | inl here ↦ rw (same, here) (suc k, omega (arith, within), at)
+      | inr other ↦ rw (same, other) (k, within, at)
+    ]
+
+-- what a value may come from is one of its origins
+is_origin : (states : List State) (ts : List Txn) (s : ValueSource) (w : Option ℕ) → IsWithin ts w → IsTrue (may_come_from states ts s w)
+    → Contains (origins_of states ts s) w
+is_origin states ts s None within may = rw may (0, omega arith, refl)
+is_origin states ts s (Some a) within may =
+    Contains-append_right (start_of states ts s) _ (Some a)
+    (let same : 0 + a ≡ a = omega arith in
+    rw same at (contains-passing (λ b. may_come_from states ts s (Some b)) 0 (length ts) a within (rw same may)))
+
+-- one of the origins is assumed by one of the derivations
+assumed_by : (s : ValueSource) (origins : List (Option ℕ)) (ds : List Derivation) (w : Option ℕ) → length ds ≡ length origins
+    → IsTrue (assume_each s origins ds) → Contains origins w → IsTrue (list_any (assumes (from_else s w)) ds)
+assumed_by s [] ds w same each (k, low, at) = absurd (omega (arith, low))
+assumed_by s (o ∷ origins) [] w same each has = absurd (omega (arith, same))
+assumed_by s (o ∷ origins) (d ∷ ds) w same each (zero, low, at) =
+    or_left (assumes (from_else s w) d) _ (rw at at (and_parts (assumes (from_else s o) d) _ each).0)
+assumed_by s (o ∷ origins) (d ∷ ds) w same each (suc k, low, at) =
+    or_right (assumes (from_else s w) d) _
+    (assumed_by s origins ds w (omega (arith, same)) (and_parts (assumes (from_else s o) d) _ each).1 (k, omega (arith, low), at))
+
+-- the only one
+only : (P : Derivation → Type 0) (ds : List Derivation) → AllByRecursion P ds → IsTrue (is_one ds) → Found P assumes_none
+only P [] all is = absurd (cc)
+only P (d ∷ []) all is = record { one = d; has = all.0; passes = is }
+only P (d ∷ e ∷ ds) all is = absurd (cc)
+
 module _ (criterion : Criterion) (states : List State) (ts : List Txn) (begin : IsTrue (begin_apart ts)) (long : All (λ s. length s ≡ 8) states)
     (ds : List Derivation) (are : AllByRecursion (IsDerivation criterion states ts) ds) (s : State) (start : Contains states s) (order : List Placed)
     (explains : ExplainsBy criterion s ts order) where
@@ -63,26 +106,24 @@ module _ (criterion : Criterion) (states : List State) (ts : List Txn) (begin : 
       (All-from_recursion (HoldsIn ts order) _ given)
 
   refuted_each : RefuteEach criterion states ts ds → ⊥
-  refuted_each (inl none) =
-      let found = find_any (IsDerivation criterion states ts) assumes_none ds are none in
+  refuted_each (inl one) =
+      let found = only (IsDerivation criterion states ts) ds are one in
       let same : found.one.assumed ≡ 0 = eqb-true found.one.assumed 0 found.passes in
       refuted found.one found.has (rw same (none_all (HoldsIn ts order) found.one.steps.items))
   refuted_each (inr (source, split)) =
-      let (asked, each) = and_parts (is_asked criterion ts [] source) _ split in
+      let (several, counted) = and_parts (nat_lt 1 (length ds)) _ split in
+      let (same, rest) = and_parts (length ds == length (origins_of states ts source)) _ counted in
+      let (asked, each) = and_parts (is_asked criterion ts [] source) _ rest in
       let case = case_at criterion states ts begin long s order start explains [] tt in
       let from = actual criterion states ts s order [] case source asked in
-      let test = is_refuted states ts ds source in
-      let passes = writer_passes criterion states ts s order [] case test from.writer from.within each in
-      elim (or_cases (not (may_come_from states ts source from.writer)) _ passes) [
-        | inl not_so ↦ let e = sym (not-true _ not_so) ∙ from.may in absurd (cc)
-        | inr assumed ↦
-            let other = from_else source from.writer in
-            let found = find_any (IsDerivation criterion states ts) (assumes other) ds are assumed in
-            let (one, first) = and_parts (found.one.assumed == 1) _ found.passes in
-            let holds : HoldsIn ts order (From other) = (from.place, from.stands, from.comes) in
-            refuted found.one found.has
-            (rw (eqb-true found.one.assumed 1 one) (first_holds ts order other found.one.steps.items holds first))
-      ]
+      let other = from_else source from.writer in
+      let origin = is_origin states ts source from.writer from.within from.may in
+      let assumed = assumed_by source (origins_of states ts source) ds from.writer (eqb-true _ _ same) each origin in
+      let found = find_any (IsDerivation criterion states ts) (assumes other) ds are assumed in
+      let (one, first) = and_parts (found.one.assumed == 1) _ found.passes in
+      let holds : HoldsIn ts order (From other) = (from.place, from.stands, from.comes) in
+      refuted found.one found.has
+      (rw (eqb-true found.one.assumed 1 one) (first_holds ts order other found.one.steps.items holds first))
 
 pub reason_tells : ReasonTells
 reason_tells criterion states events cases long reason (s, start, order) =

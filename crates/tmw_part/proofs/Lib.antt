@@ -8,6 +8,7 @@ mod MoreEvents
 mod OrderFacts
 mod OrderValues
 mod Parts
+mod PlacesProof
 mod Shared
 mod StatesAt
 mod StepsProof

@@ -1,5 +1,6 @@
 -- What the registers hold along a serial order: what the last that is held and changes them left, or what the start has.
-use Rattle.tmw_part.proofs.Shared.{Add, Changes, IsTrue, IsUnchanged, List, None, Op, Option, Placed, Read, Some, State, Write, [], after, after_writes, and_parts, ap, arith, cases_Bool, end_state, eq-eqb, eqb-false, eqb-true, false, first_unlike, get_or-set_other, get_or-set_same, if◌then◌else◌, inl, inr, is_legal, left_by, length, length-set, needs, not, not-true, operations, or_cases, or_parts, reads_hold, refl, slice_get, slice_index, slice_set, suc, sym, take, unlike_or, writes, zero, ℕ, ◌%◌, ◌&&◌, ◌+◌, ◌<◌, ◌==◌, ◌^◌, ◌||◌, ◌∙◌, ◌∷◌, ◌≡◌, ◌⊎◌}
+use Rattle.tmw_part.proofs.Shared.{Add, Changes, IsTrue, IsUnchanged, List, None, Op, Option, Placed, Read, Some, State, Write, [], after, after_writes, and_parts, ap, arith, cases_Bool, end_state, eq-eqb, eqb-false, eqb-true, false, first_unlike, get_or-set_other, get_or-set_same, if◌then◌else◌, inl, inr, is_legal, is_some_of, left_by, length, length-set, needs, not, not-true, operations, or_cases, or_parts, reads_hold, refl, slice_get, slice_index, slice_set, suc, sym, take, unlike_or, writes, zero, ℕ, ◌%◌, ◌&&◌, ◌+◌, ◌<◌, ◌==◌, ◌^◌, ◌||◌, ◌∙◌, ◌∷◌, ◌≡◌, ◌⊎◌}
+use Rattle.std.specs.Prelude.{replicate}
 use Rattle.tmw_events.specs.declared.ix.Ix.{Ix}
 
 -- a register that is set, and another
@@ -62,6 +63,15 @@ left-after s r (Write q v ∷ ops) before long =
 left-after s r (Add q d v ∷ ops) before long =
     let sum = (v + d) % 2 ^ 64 in
     left-set s q r sum ops before long (λ b. left-after (slice_set s q.number sum) r ops b (length-set s q.number sum ∙ long))
+
+-- operations that leave a value write it
+pub left-writes : (r left : ℕ) (ops : List Op) → IsTrue (is_some_of left (left_by r None ops)) → IsTrue (writes r ops)
+left-writes r left ops leaves =
+    let is = left-after (replicate 8 0) r ops None refl in
+    elim (cases_Bool (writes r ops)) [
+      | inl any ↦ any
+      | inr none ↦ let bad = rw (is, none) at leaves in absurd (cc)
+    ]
 
 -- an answer that the register holds
 found : (s : State) (q : Ix) (r w v : ℕ) → IsTrue (q.number == r) → IsTrue (w == v) → IsTrue (slice_index s q.number == w) → slice_index s r ≡ v

@@ -11,7 +11,7 @@ use Rattle.tmw_events.specs.declared.ix.Ix.{Ix}
 use Rattle.tmw_events.proofs.Same.{same_ix}
 use Rattle.tmw_part.proofs.ListFacts.{find_any, each_place, all-more, get_some}
 use Rattle.tmw_part.proofs.OrderFacts.{IsIn, IsSerial, apart, serial}
-use Rattle.tmw_part.proofs.OrderValues.{state_at, reads_at, length-state_at, value_at, needs_holds, reads_alike}
+use Rattle.tmw_part.proofs.OrderValues.{left-writes, state_at, reads_at, length-state_at, value_at, needs_holds, reads_alike}
 
 -- what is used of transactions that begin apart, of an order of them, of the state that it begins in and of the steps that are known
 pub record Case (criterion : Criterion) (states : List State) (ts : List Txn) (s : State) (order : List Placed) (steps : List ReasonStep) : Type 0 where
@@ -168,18 +168,18 @@ module _ (criterion : Criterion) (states : List State) (ts : List Txn) (start : 
       (found.place, record { placed = found.placed; there = found.there; is = at ∙ ap (λ (t : Txn). Some t) (sym found.is) })
   has_stands Strict same a is = let at = held_stands a is in (at.place, at.stands)
 
-  rival_at : (s : ValueSource) (a : ℕ) → IsTrue (is_rival ts steps s a) → RivalAt ts order s a
-  rival_at s a is =
+  rival_at : (s : ValueSource) (a left : ℕ) → IsTrue (is_rival ts steps s a left) → RivalAt ts order s a
+  rival_at s a left is =
       let (other, rest) = and_parts (not (a == s.reader)) _ is in
       let (else', both) = and_parts (not (is_some_of a s.writer)) _ rest in
-      let (held, writes) = and_parts (is_held ts steps a) _ both in
+      let (held, leaves) = and_parts (is_held ts steps a) _ both in
       let at = held_stands a held in
       record {
         other = λ same. let e = sym (not-true (a == s.reader) other) ∙ eq-eqb a s.reader same in absurd (cc);
         else = λ same. let e : not (is_some_of a (Some a)) ≡ true = rw same at else' in absurd (let f = rw (eq-eqb a a refl) at e in cc);
         place = at.place;
         stands = at.stands;
-        changes = changes_of ts order a s.register.number at writes;
+        changes = changes_of ts order a s.register.number at (left-writes s.register.number left (ops_at ts a) leaves);
       }
 
   -- a value does not come from a writer that stands behind the reader
@@ -191,16 +191,16 @@ module _ (criterion : Criterion) (states : List State) (ts : List Txn) (start : 
 
   -- and not past a rival that stands between the two
   not_between : (s : ValueSource) (w : Option ℕ) → s.writer ≡ w → (j : ℕ) → StandsAt ts order s.reader j
-      → ComesFrom ts order s.register.number j w → (a : ℕ) → IsTrue (stands_between ts steps s a) → ⊥
-  not_between s None is j at comes a between =
-      let (rival, stands) = and_parts (is_rival ts steps s a) _ between in
+      → ComesFrom ts order s.register.number j w → (a left : ℕ) → IsTrue (stands_between ts steps s a left) → ⊥
+  not_between s None is j at comes a left between =
+      let (rival, stands) = and_parts (is_rival ts steps s a left) _ between in
       let before = (and_parts (begins_before steps s.writer a) _ stands).1 in
-      let r = rival_at s a rival in
+      let r = rival_at s a left rival in
       comes r.place (omega arith) (before_holds a s.reader before r.place j r.stands at) r.changes
-  not_between s (Some b) is j at (i, first, low, changes, last) a between =
-      let (rival, stands) = and_parts (is_rival ts steps s a) _ between in
+  not_between s (Some b) is j at (i, first, low, changes, last) a left between =
+      let (rival, stands) = and_parts (is_rival ts steps s a left) _ between in
       let (begins, before) = and_parts (begins_before steps s.writer a) _ stands in
-      let r = rival_at s a rival in
+      let r = rival_at s a left rival in
       let behind = before_holds b a (subst (λ (o : Option ℕ). IsTrue (begins_before steps o a)) is begins) i r.place first r.stands in
       last r.place (omega (arith, behind)) (before_holds a s.reader before r.place j r.stands at) r.changes
 
@@ -358,15 +358,13 @@ module _ (criterion : Criterion) (states : List State) (ts : List Txn) (start : 
       ]
   step_holds (TooLate s) is = λ j at comes. not_late s s.writer refl j at comes (and_parts (may_come_from states ts s s.writer) _ is).1
   step_holds (Overwritten s a left) is = λ j at comes.
-      let rest = (and_parts (may_come_from states ts s s.writer) _ is).1 in
-      let between = (and_parts (is_some_of left (left_by s.register.number None (ops_at ts a))) _ rest).1 in
-      not_between s s.writer refl j at comes a between
+      not_between s s.writer refl j at comes a left (and_parts (may_come_from states ts s s.writer) _ is).1
   step_holds (ReadFirst s w left) is = λ i j at there.
       let (known, begins) = and_parts (is_known_rival ts steps s w left) _ is in
       let (has, both) = and_parts (list_any (gives s) steps) _ known in
-      let rival = (and_parts (is_rival ts steps s w) _ both).0 in
+      let rival = (and_parts (is_rival ts steps s w left) _ both).0 in
       let (k, stands, comes) = source_holds s has in
-      let r = rival_at s w rival in
+      let r = rival_at s w left rival in
       let low = behind_reader s s.writer refl k stands comes w r begins in
       let one : i ≡ k = stands_once s.reader i k at stands in
       let two : j ≡ r.place = stands_once w j r.place there r.stands in
@@ -375,9 +373,9 @@ module _ (criterion : Criterion) (states : List State) (ts : List Txn) (start : 
       let (known, more) = and_parts (is_known_rival ts steps s w left) _ is in
       let before = (and_parts (has_writer s) _ more).1 in
       let (has, both) = and_parts (list_any (gives s) steps) _ known in
-      let rival = (and_parts (is_rival ts steps s w) _ both).0 in
+      let rival = (and_parts (is_rival ts steps s w left) _ both).0 in
       let (k, stands, comes) = source_holds s has in
-      let r = rival_at s w rival in
+      let r = rival_at s w left rival in
       before_writer s s.writer refl k comes w r (before_holds w s.reader before r.place k r.stands stands)
   step_holds (Through one between other) is = λ i j at there.
       let (has, rest) = and_parts (has_place criterion ts steps between) _ is in

@@ -1,5 +1,5 @@
 -- What a search for the cases of a reason finds.
-use Rattle.std.specs.Prelude.{◌≡◌, ◌<◌, ℕ, List, [], ◌∷◌, length, Option, Some, None, All, IsTrue}
+use Rattle.std.specs.Prelude.{◌≡◌, ◌<◌, ◌++◌, ℕ, List, [], ◌∷◌, length, Option, Some, None, All, IsTrue}
 use Rattle.std.specs.List.{Contains}
 use Rattle.tmw_part.specs.declared.candidates.Candidates.{Candidates}
 use Rattle.tmw_part.specs.declared.reason_case.Derivation.{Derivation}
@@ -7,7 +7,7 @@ use Rattle.tmw_part.specs.declared.reason_case.Reason.{Reason}
 use Rattle.tmw_part.specs.declared.reason_case.ReasonCase.{ReasonCase}
 use Rattle.tmw_part.specs.DerivationSearch.{AreMade, EndsNowhere}
 use Rattle.tmw_part.specs.PartTest.{is_among}
-use Rattle.tmw_part.specs.Reasons.{IsDerivationIn, RefuteEachIn, is_said_for, states_at}
+use Rattle.tmw_part.specs.Reasons.{AreOnce, IsDerivationIn, RefuteEachIn, is_said_for, said_places, states_at}
 use Rattle.tmw_part.specs.ReasonSteps.{Asked}
 
 -- The same, asked of the states at these places alone.
@@ -23,24 +23,29 @@ pub record RefuteFrom (w : Asked) (derivations : List Derivation) : Type 0 where
 abbrev pub IsMadeCase : Asked → Candidates → ReasonCase → Type 0
 IsMadeCase w candidates case = AreMade (asked_at w case.states.items) candidates case.derivations.items
 
--- The case is so, and is said for each state for which it was.
-pub record Grows (w : Asked) (candidates : Candidates) (old new : ReasonCase) : Type 0 where
+-- The case is so, and is said for each state for which it was. For none it is said again where some of the others are.
+pub record Grows (w : Asked) (candidates : Candidates) (others : List ReasonCase) (old new : ReasonCase) : Type 0 where
   pub made : IsMadeCase w candidates new
   pub said : (place : ℕ) → Contains old.states.items place → Contains new.states.items place
+  pub once : AreOnce (length w.states) (said_places others ++ old.states.items)
+      → AreOnce (length w.states) (said_places others ++ new.states.items)
 
 -- Such a case of the states at these places, or candidates from these states end nowhere.
 abbrev pub FindsCase : Asked → Candidates → List ℕ → Option ReasonCase → Type 0
 FindsCase w candidates places None = EndsNowhere (asked_at w places) candidates
 FindsCase w candidates places (Some case) = (case.states.items ≡ places) × IsMadeCase w candidates case
 
--- Each of the first so many places is one of these.
-abbrev pub HasFirst : ℕ → List ℕ → Type 0
-HasFirst count places = (place : ℕ) → place < count → IsTrue (is_among place places)
+-- These are the first so many places.
+pub record AreFirst (count : ℕ) (places : List ℕ) : Type 0 where
+  pub each : (place : ℕ) → place < count → IsTrue (is_among place places)
+  pub once : AreOnce count places
 
--- Such cases are said for the states at the first so many places.
+-- Such cases are said for the states at the first so many places, and for none twice.
 pub record AreSaid (w : Asked) (candidates : Candidates) (count : ℕ) (cases : List ReasonCase) : Type 0 where
   pub are : All (IsMadeCase w candidates) cases
+  pub some : All (λ case. 0 < length case.states.items) cases
   pub each : (place : ℕ) → place < count → IsTrue (is_said_for place cases)
+  pub once : AreOnce (length w.states) (said_places cases)
 
 -- Such cases for each state, or from one of them candidates end nowhere.
 abbrev pub FindsCases : Asked → Candidates → Option Reason → Type 0

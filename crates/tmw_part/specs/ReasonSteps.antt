@@ -11,7 +11,7 @@ use Rattle.tmw_defs.specs.declared.status.Status.{Status}
 use Rattle.tmw_defs.specs.declared.status.Status.TheVariants.{Committed}
 use Rattle.tmw_defs.specs.History.{Txn, status_of, operations}
 use Rattle.tmw_defs.specs.Opaque.{State, precedes, may_hold}
-use Rattle.tmw_cuts.specs.RegisterUse.{writes, left_by}
+use Rattle.tmw_cuts.specs.RegisterUse.{left_by}
 use Rattle.tmw_part.specs.declared.reason_step.ValueSource.{ValueSource}
 use Rattle.tmw_part.specs.declared.reason_step.ReasonStep.{ReasonStep}
 use Rattle.tmw_part.specs.declared.reason_step.ReasonStep.TheVariants.{RealTime, From, TooLate, Overwritten, ReadFirst, ChangedFirst, Through}
@@ -113,15 +113,15 @@ may_come_from states ts s (Some a) =
     not (a == s.reader)
     && (may_hold (status_of (txn_at ts a).text) true && is_some_of s.value (left_by s.register.number None (ops_at ts a)))
 
--- The transaction is held, changes the source's register and is neither the reader nor the writer.
-abbrev pub is_rival : List Txn → List ReasonStep → ValueSource → ℕ → Bool
-is_rival ts steps s a =
+-- The transaction is held, leaves this value in the source's register and is neither the reader nor the writer.
+abbrev pub is_rival : List Txn → List ReasonStep → ValueSource → ℕ → ℕ → Bool
+is_rival ts steps s a left =
     not (a == s.reader)
-    && (not (is_some_of a s.writer) && (is_held ts steps a && writes s.register.number (ops_at ts a)))
+    && (not (is_some_of a s.writer) && (is_held ts steps a && is_some_of left (left_by s.register.number None (ops_at ts a))))
 
 -- The transaction is a rival that by these steps stands between the writer and the reader.
-abbrev pub stands_between : List Txn → List ReasonStep → ValueSource → ℕ → Bool
-stands_between ts steps s a = is_rival ts steps s a && (begins_before steps s.writer a && is_before steps a s.reader)
+abbrev pub stands_between : List Txn → List ReasonStep → ValueSource → ℕ → ℕ → Bool
+stands_between ts steps s a left = is_rival ts steps s a left && (begins_before steps s.writer a && is_before steps a s.reader)
 
 -- The same value from another source.
 abbrev pub from_else : ValueSource → Option ℕ → ValueSource
@@ -151,8 +151,7 @@ is_asked criterion ts steps s =
 -- The source is known, and the transaction is a rival that leaves this value, which is another.
 abbrev pub is_known_rival : List Txn → List ReasonStep → ValueSource → ℕ → ℕ → Bool
 is_known_rival ts steps s a left =
-    list_any (gives s) steps
-    && (is_rival ts steps s a && (is_some_of left (left_by s.register.number None (ops_at ts a)) && not (left == s.value)))
+    list_any (gives s) steps && (is_rival ts steps s a left && not (left == s.value))
 
 -- The value comes from a transaction, not from the start.
 abbrev pub has_writer : ValueSource → Bool
@@ -160,9 +159,7 @@ has_writer s = is_some s.writer
 
 -- The value may come from there, and the transaction is a rival that leaves this value and by these steps stands between the two.
 abbrev pub is_overwritten : List State → List Txn → List ReasonStep → ValueSource → ℕ → ℕ → Bool
-is_overwritten states ts steps s a left =
-    may_come_from states ts s s.writer
-    && (is_some_of left (left_by s.register.number None (ops_at ts a)) && stands_between ts steps s a)
+is_overwritten states ts steps s a left = may_come_from states ts s s.writer && stands_between ts steps s a left
 
 -- Whether a step follows from these: by real time; because the value can come from nowhere else; because a source that it may have comes
 -- too late or is overwritten; because the reader and the writer would else have a rival between them; or by a third transaction.

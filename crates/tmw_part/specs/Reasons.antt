@@ -1,5 +1,5 @@
 -- What the steps of a reason say of a serial order, what a reason is, and the law that its steps hold in each order.
-use Rattle.std.specs.Prelude.{◌≡◌, ◌⊎◌, ◌<◌, ◌≤◌, ◌==◌, ◌&&◌, ◌||◌, ℕ, suc, Bool, true, false, not, List, [], ◌∷◌, length, remove, slice_get, take, Option, Some, None, All, IsTrue}
+use Rattle.std.specs.Prelude.{◌≡◌, ◌⊎◌, ◌<◌, ◌≤◌, ◌==◌, ◌&&◌, ◌++◌, ℕ, suc, pred, nat_lt, Bool, true, false, not, List, [], ◌∷◌, filter, length, map, remove, slice_get, take, zip, if◌then◌else◌, Option, Some, None, All, IsTrue}
 use Rattle.std.specs.Option.{option_to_list}
 use Rattle.std.specs.List.{Contains, flat_map, list_all, list_any, range_with_len}
 use Rattle.tmw_defs.specs.declared.criterion.Criterion.{Criterion}
@@ -75,10 +75,16 @@ abbrev pub IsNeededEach : Criterion → List State → List Txn → ℕ → List
 IsNeededEach criterion states ts assumed steps end =
     (i : ℕ) → assumed ≤ i → i < length steps → IsContradicted criterion states ts assumed (remove steps i) end → ⊥
 
+-- Nor can one that is assumed.
+abbrev pub AssumesNeeded : Criterion → List State → List Txn → ℕ → List ReasonStep → Contradiction → Type 0
+AssumesNeeded criterion states ts assumed steps end =
+    (i : ℕ) → i < assumed → IsContradicted criterion states ts (pred assumed) (remove steps i) end → ⊥
+
 -- A derivation of a contradiction: steps that come to it, none of which can be left out.
 pub record IsDerivation (criterion : Criterion) (states : List State) (ts : List Txn) (derivation : Derivation) : Type 0 where
   pub is : IsContradicted criterion states ts derivation.assumed derivation.steps.items derivation.end
   pub needed : IsNeededEach criterion states ts derivation.assumed derivation.steps.items derivation.end
+  pub assumes_needed : AssumesNeeded criterion states ts derivation.assumed derivation.steps.items derivation.end
 
 -- So it is of what is judged.
 abbrev pub IsContradictedIn : Asked → ℕ → Contradiction → List ReasonStep → Type 0
@@ -86,6 +92,9 @@ IsContradictedIn w assumed end steps = IsContradicted w.criterion w.states w.tra
 
 abbrev pub IsNeededEachIn : Asked → ℕ → Contradiction → List ReasonStep → Type 0
 IsNeededEachIn w assumed end steps = IsNeededEach w.criterion w.states w.transactions assumed steps end
+
+abbrev pub AssumesNeededIn : Asked → ℕ → Contradiction → List ReasonStep → Type 0
+AssumesNeededIn w assumed end steps = AssumesNeeded w.criterion w.states w.transactions assumed steps end
 
 abbrev pub IsDerivationIn : Asked → Derivation → Type 0
 IsDerivationIn w = IsDerivation w.criterion w.states w.transactions
@@ -101,21 +110,36 @@ is_given_by s (Some step) = gives s step
 abbrev pub assumes : ValueSource → Derivation → Bool
 assumes s derivation = (derivation.assumed == 1) && is_given_by s (slice_get derivation.steps.items 0)
 
--- The value can't come from this writer, or a derivation assumes that it does.
-abbrev pub is_refuted : List State → List Txn → List Derivation → ValueSource → Option ℕ → Bool
-is_refuted states ts derivations s w = not (may_come_from states ts s w) || list_any (assumes (from_else s w)) derivations
+-- All that the value may come from: the start, and transactions in their order.
+abbrev pub start_of : List State → List Txn → ValueSource → List (Option ℕ)
+start_of states ts s = if may_come_from states ts s None then None ∷ [] else []
 
--- Each order has the reader, which needs the value, and wherever this may come from a derivation refutes that it does.
+abbrev pub writers_of : List State → List Txn → ValueSource → List ℕ
+writers_of states ts s = filter (λ a. may_come_from states ts s (Some a)) (range_with_len 0 (length ts))
+
+abbrev pub origins_of : List State → List Txn → ValueSource → List (Option ℕ)
+origins_of states ts s = start_of states ts s ++ map (λ a. Some a) (writers_of states ts s)
+
+-- Each derivation assumes that the value comes from one of these, in their order.
+abbrev pub assume_each : ValueSource → List (Option ℕ) → List Derivation → Bool
+assume_each s origins derivations = list_all (λ pair. assumes (from_else s pair.0) pair.1) (zip origins derivations)
+
+-- Each order has the reader, which needs the value. This may come from several, and there is a derivation for each of them.
 abbrev pub is_split : Criterion → List State → List Txn → List Derivation → ValueSource → Bool
 is_split criterion states ts derivations s =
-    is_asked criterion ts [] s
-    && (is_refuted states ts derivations s None
-    && list_all (λ a. is_refuted states ts derivations s (Some a)) (range_with_len 0 (length ts)))
+    nat_lt 1 (length derivations)
+    && ((length derivations == length (origins_of states ts s))
+    && (is_asked criterion ts [] s && assume_each s (origins_of states ts s) derivations))
 
--- Together the derivations refute each order: one assumes nothing, or they are the cases of where a value comes from.
+-- The only derivation assumes nothing.
+abbrev pub is_one : List Derivation → Bool
+is_one (d ∷ []) = assumes_none d
+is_one _ = false
+
+-- Together the derivations refute each order: the only one assumes nothing, or they are the cases of where a value comes from.
 abbrev pub RefuteEach : Criterion → List State → List Txn → List Derivation → Type 0
 RefuteEach criterion states ts derivations =
-    IsTrue (list_any assumes_none derivations) ⊎ ((s : ValueSource) × IsTrue (is_split criterion states ts derivations s))
+    IsTrue (is_one derivations) ⊎ ((s : ValueSource) × IsTrue (is_split criterion states ts derivations s))
 
 abbrev pub RefuteEachIn : Asked → List Derivation → Type 0
 RefuteEachIn w = RefuteEach w.criterion w.states w.transactions
@@ -124,8 +148,9 @@ RefuteEachIn w = RefuteEach w.criterion w.states w.transactions
 abbrev pub states_at : List State → List ℕ → List State
 states_at states places = flat_map (λ place. option_to_list (slice_get states place)) places
 
--- A case of a reason: derivations that refute each order from those states for which it is said.
+-- A case of a reason: derivations that refute each order from those states for which it is said, of which there is one at least.
 pub record IsCase (criterion : Criterion) (states : List State) (ts : List Txn) (case : ReasonCase) : Type 0 where
+  pub some : 0 < length case.states.items
   pub are : All (IsDerivation criterion (states_at states case.states.items) ts) case.derivations.items
   pub refute : RefuteEach criterion (states_at states case.states.items) ts case.derivations.items
 
@@ -133,10 +158,25 @@ pub record IsCase (criterion : Criterion) (states : List State) (ts : List Txn) 
 abbrev pub is_said_for : ℕ → List ReasonCase → Bool
 is_said_for place cases = list_any (λ case. is_among place case.states.items) cases
 
--- The cases are a reason: each is one, and one is said for each state.
+-- The places of all the states for which a case is said.
+abbrev pub said_places : List ReasonCase → List ℕ
+said_places cases = flat_map (λ case. case.states.items) cases
+
+-- No two of the places are the same.
+abbrev pub are_apart : List ℕ → Bool
+are_apart [] = true
+are_apart (place ∷ places) = not (is_among place places) && are_apart places
+
+-- They are so, and below this number.
+pub record AreOnce (count : ℕ) (places : List ℕ) : Type 0 where
+  pub apart : IsTrue (are_apart places)
+  pub within : All (λ place. place < count) places
+
+-- The cases are a reason: each is one, and just one is said for each state.
 pub record IsReason (criterion : Criterion) (states : List State) (ts : List Txn) (cases : List ReasonCase) : Type 0 where
   pub are : All (IsCase criterion states ts) cases
   pub each : (place : ℕ) → place < length states → IsTrue (is_said_for place cases)
+  pub once : AreOnce (length states) (said_places cases)
 
 -- No two of the transactions begin at the same place of the history.
 abbrev pub begin_apart : List Txn → Bool

@@ -1,15 +1,7 @@
 -- What a transaction's answers say of a register: what it needs before its own operations, and which are unlike what those make known.
 use Rattle.std.specs.Prelude.{◌==◌, ◌+◌, ◌%◌, ◌^◌, ℕ, List, [], ◌∷◌, Option, Some, None, if◌then◌else◌}
-use Rattle.tmw_events.specs.declared.ix.Ix.{Ix}
 use Rattle.tmw_defs.specs.declared.op.Op.{Op}
 use Rattle.tmw_defs.specs.declared.op.Op.TheVariants.{Read, Write, Add}
-
--- The registers of which the operations were answered a value, in order.
-abbrev pub uses : List Op → List Ix
-uses [] = []
-uses (Read q v ∷ ops) = q ∷ uses ops
-uses (Write q v ∷ ops) = uses ops
-uses (Add q d v ∷ ops) = q ∷ uses ops
 
 -- The value that the first operation on the register was answered: the operations need the register to hold it before them.
 abbrev pub needed_of : ℕ → List Op → Option ℕ

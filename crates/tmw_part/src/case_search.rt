@@ -1,13 +1,13 @@
-ghost use Rattle.std.specs.Prelude.{◌≡◌, ◌++◌, ◌+◌, [], ◌∷◌, All, IfOk, IsTrue, IsFalse, OnOk, slice_get};
+ghost use Rattle.std.specs.Prelude.{◌≡◌, ◌++◌, ◌+◌, ◌<◌, length, [], ◌∷◌, All, IfOk, IsTrue, IsFalse, OnOk, slice_get};
 ghost use Rattle.std.specs.Option.{option_to_list};
-ghost use Rattle.tmw_part.specs.CaseSearch.{AreSaid, FindsCase, FindsCases, Grows, HasFirst, IsMadeCase, RefuteFrom, asked_at};
+ghost use Rattle.tmw_part.specs.CaseSearch.{AreFirst, AreSaid, FindsCase, FindsCases, Grows, IsMadeCase, RefuteFrom, asked_at};
 ghost use Rattle.tmw_part.specs.DerivationSearch.{EndsNowhere};
 ghost use Rattle.tmw_part.specs.Reasons.{IsDerivationIn, is_said_for, states_at};
 
 use crate::candidates::Candidates;
 use crate::derivation_search::{find_derivations, refute_each};
 use crate::part_test::is_among;
-use crate::prune_steps::{is_contradicted, leave_out_each};
+use crate::prune_steps::{is_contradicted, leave_out_each, needs_assumed};
 use crate::question::Question;
 use crate::reason_case::{Derivation, Reason, ReasonCase};
 use std::alloc::{AllocError, Global};
@@ -55,7 +55,8 @@ fn is_derivation(
         steps,
         end,
     } = derivation;
-    if !is_contradicted(judged, *assumed, steps, end) {
+    if !is_contradicted(judged, *assumed, steps, end) || !needs_assumed(judged, *assumed, steps, end)
+    {
         return Ok(false);
     }
     let mut kept = steps.to_vec(alloc)?;
@@ -99,7 +100,8 @@ fn refute_at(
     if !are_derivations(alloc, &judged, derivations)? {
         return Ok(false);
     }
-    Ok(refute_each(&judged, &candidates.sources, derivations))
+    let refute = refute_each(alloc, &judged, &candidates.sources, derivations)?;
+    Ok(refute)
 }
 
 /// Adds the place to those for whose states the case is said, if none of these others is said for it, and the derivations
@@ -112,8 +114,9 @@ fn add_state(
     others: &[ReasonCase],
     place: usize,
 ) -> Result<(), AllocError>
-    requires { IsMadeCase all.now candidates.now case.old }
-    ensures { OnOk result (Grows all.now candidates.now case.old case.new) }
+    requires made { IsMadeCase all.now candidates.now case.old }
+    requires within { place < length all.now.states }
+    ensures { OnOk result (Grows all.now candidates.now others.now case.old case.new) }
 {
     if is_among(place, &case.states) || is_said_for(place, others) {
         return Ok(());
@@ -135,7 +138,7 @@ fn add_states(
     others: &[ReasonCase],
 ) -> Result<(), AllocError>
     requires { IsMadeCase all.now candidates.now case.old }
-    ensures { OnOk result (Grows all.now candidates.now case.old case.new) }
+    ensures { OnOk result (Grows all.now candidates.now others.now case.old case.new) }
 {
     for place in 0..all.states.len() {
         add_state(alloc, all, candidates, case, others, place)?;
@@ -176,7 +179,8 @@ fn add_case(
     cases: &mut Vec<ReasonCase>,
     place: usize,
 ) -> Result<bool, AllocError>
-    requires { AreSaid all.now candidates.now place cases.old.items }
+    requires said { AreSaid all.now candidates.now place cases.old.items }
+    requires within { place < length all.now.states }
     ensures said { IfOk result (λ found. IsTrue found
         → AreSaid all.now candidates.now (place + 1) cases.new.items) }
     ensures none { IfOk result (λ found. IsFalse found
@@ -213,7 +217,7 @@ fn find_each(
 
 /// Returns the first so many places.
 fn first_places(alloc: Global, count: usize) -> Result<Vec<usize>, AllocError>
-    ensures { IfOk result (λ places. HasFirst count places.items) }
+    ensures { IfOk result (λ places. AreFirst count places.items) }
 {
     let mut places = Vec::new(alloc);
     for place in 0..count {
@@ -230,11 +234,13 @@ pub(crate) fn find_cases(
 ) -> Result<Option<Reason>, AllocError>
     ensures { IfOk result (FindsCases all.now candidates.now) }
 {
-    let places = first_places(alloc, all.states.len())?;
-    let Some(case) = find_case(alloc, all, candidates, places)? else {
-        return find_each(alloc, all, candidates);
-    };
-    let mut cases = Vec::new(alloc);
-    cases.push(case)?;
-    Ok(Some(Reason { cases }))
+    if all.states.len() > 1 {
+        let places = first_places(alloc, all.states.len())?;
+        if let Some(case) = find_case(alloc, all, candidates, places)? {
+            let mut cases = Vec::new(alloc);
+            cases.push(case)?;
+            return Ok(Some(Reason { cases }));
+        }
+    }
+    find_each(alloc, all, candidates)
 }

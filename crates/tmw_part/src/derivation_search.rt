@@ -1,10 +1,11 @@
-ghost use Rattle.std.specs.Prelude.{◌≡◌, ◌⊎◌, All, IfNone, IfOk, IfSome, IsFalse, IsTrue, Some, length};
-ghost use Rattle.std.specs.List.{Contains, list_all, list_any, range_with_len};
+ghost use Rattle.std.specs.Prelude.{◌≡◌, ◌⊎◌, All, IfNone, IfOk, IfSome, IsFalse, IsTrue, Some, length, map};
+ghost use Rattle.std.specs.List.{Contains};
 ghost use Rattle.tmw_part.specs.DerivationSearch.{AreMade, DerivesIn, EndsNowhere, IsMade, IsMadeFrom, contradicts_in};
-ghost use Rattle.tmw_part.specs.Reasons.{RefuteEachIn, assumes, assumes_none, is_refuted, is_split};
+ghost use Rattle.tmw_part.specs.ReasonSteps.{from_else};
+ghost use Rattle.tmw_part.specs.Reasons.{RefuteEachIn, assume_each, assumes, is_one, is_split, start_of, writers_of};
 
 use crate::candidates::Candidates;
-use crate::prune_steps::prune;
+use crate::prune_steps::{needs_assumed, prune};
 use crate::question::Question;
 use crate::reason_case::Derivation;
 use crate::reason_step::{ReasonStep, ValueSource};
@@ -35,19 +36,21 @@ fn find_shortest(
     requires derives { DerivesIn judged.now assumed steps.now }
     ensures made { IfOk result (λ found. IfSome found
         (IsMadeFrom judged.now candidates.now assumed)) }
-    ensures none { IfOk result (λ found. IfNone found
+    ensures none { assumed ≡ 0 → IfOk result (λ found. IfNone found
         (All (λ end. IsFalse (contradicts_in judged.now steps.now end)) candidates.now.ends.items)) }
 {
     let mut best = None;
     for end in &candidates.ends {
         if contradicts(judged, steps, end) {
             let kept = prune(alloc, judged, assumed, steps, end)?;
-            let other = Derivation {
-                assumed,
-                steps: kept,
-                end: *end,
-            };
-            best = Some(shorter(best, other));
+            if needs_assumed(judged, assumed, &kept, end) {
+                let other = Derivation {
+                    assumed,
+                    steps: kept,
+                    end: *end,
+                };
+                best = Some(shorter(best, other));
+            }
         }
     }
     Ok(best)
@@ -82,71 +85,107 @@ fn assumes(source: &ValueSource, derivation: &Derivation) -> bool
             .is_some_and(|step| gives(source, step))
 }
 
-/// Whether one of the derivations assumes that this is a value's source.
-fn is_assumed(source: &ValueSource, derivations: &[Derivation]) -> bool
-    ensures { result ≡ list_any (assumes source.now) derivations.now }
+/// Returns the start, if the value may come from there.
+fn start_of(
+    alloc: Global,
+    judged: &Question,
+    source: &ValueSource,
+) -> Result<Vec<Option<usize>>, AllocError>
+    ensures { let w = judged.now in IfOk result (λ start. start.items
+        ≡ start_of w.states w.transactions source.now) }
 {
-    derivations.iter().any(|one| assumes(source, one))
+    let mut start = Vec::new(alloc);
+    if may_come_from(judged, source, None) {
+        start.push(None)?;
+    }
+    Ok(start)
 }
 
-/// Whether the value can't come from this writer, or a derivation assumes that it does.
-fn is_refuted(
+/// Returns the transactions from which the value may come.
+fn writers_of(
+    alloc: Global,
     judged: &Question,
-    derivations: &[Derivation],
     source: &ValueSource,
-    writer: Option<usize>,
-) -> bool
-    ensures { let w = judged.now in result
-        ≡ is_refuted w.states w.transactions derivations.now source.now writer }
+) -> Result<Vec<Option<usize>>, AllocError>
+    ensures { let w = judged.now in IfOk result (λ writers. writers.items
+        ≡ map (λ a. Some a) (writers_of w.states w.transactions source.now)) }
+{
+    (0..judged.transactions.len())
+        .filter(|place| may_come_from(judged, source, Some(*place)))
+        .map(Some)
+        .collect(alloc)
+}
+
+/// Whether the derivation assumes that the source's value comes from this writer, or from the start.
+fn assumes_from(source: &ValueSource, writer: Option<usize>, derivation: &Derivation) -> bool
+    ensures { result ≡ assumes (from_else source.now writer) derivation.now }
 {
     let other = ValueSource { writer, ..*source };
-    !may_come_from(judged, source, writer) || is_assumed(&other, derivations)
+    assumes(&other, derivation)
 }
 
-/// Whether so it is of each transaction as the writer.
-fn are_refuted(judged: &Question, derivations: &[Derivation], source: &ValueSource) -> bool
-    ensures { let w = judged.now in result ≡ list_all
-        (λ a. is_refuted w.states w.transactions derivations.now source.now (Some a))
-        (range_with_len 0 (length w.transactions)) }
+/// Whether each derivation assumes that the value comes from one of these, in their order.
+fn assume_each(
+    source: &ValueSource,
+    origins: &[Option<usize>],
+    derivations: &[Derivation],
+) -> bool
+    ensures { result ≡ assume_each source.now origins.now derivations.now }
 {
-    (0..judged.transactions.len()).all(|place| is_refuted(judged, derivations, source, Some(place)))
+    origins
+        .iter()
+        .zip(derivations)
+        .all(|pair| assumes_from(source, *pair.0, pair.1))
 }
 
 /// Whether the derivations are the cases of where the source's value comes from.
-fn is_split(judged: &Question, derivations: &[Derivation], source: &ValueSource) -> bool
-    ensures { let w = judged.now in result
-        ≡ is_split w.criterion w.states w.transactions derivations.now source.now }
+fn is_split(
+    alloc: Global,
+    judged: &Question,
+    derivations: &[Derivation],
+    source: &ValueSource,
+) -> Result<bool, AllocError>
+    ensures { let w = judged.now in IfOk result (λ is. is
+        ≡ is_split w.criterion w.states w.transactions derivations.now source.now) }
 {
-    is_asked(judged, &[], source)
-        && is_refuted(judged, derivations, source, None)
-        && are_refuted(judged, derivations, source)
+    let mut origins = start_of(alloc, judged, source)?;
+    let writers = writers_of(alloc, judged, source)?;
+    origins.extend_from_slice(&writers)?;
+    Ok(derivations.len() > 1
+        && derivations.len() == origins.len()
+        && is_asked(judged, &[], source)
+        && assume_each(source, &origins, derivations))
 }
 
-/// Whether one of the derivations assumes nothing.
-fn assume_none(derivations: &[Derivation]) -> bool
-    ensures { result ≡ list_any assumes_none derivations.now }
+/// Whether the only derivation assumes nothing.
+fn is_one(derivations: &[Derivation]) -> bool
+    ensures { result ≡ is_one derivations.now }
 {
-    derivations.iter().any(|one| one.assumed == 0)
+    match derivations {
+        [one] => one.assumed == 0,
+        _ => false,
+    }
 }
 
-/// Tells whether together the derivations refute each order: one assumes nothing, or they are the cases of where one of
-/// these values comes from.
+/// Tells whether together the derivations refute each order: the only one assumes nothing, or they are the cases of where
+/// one of these values comes from.
 pub(crate) fn refute_each(
+    alloc: Global,
     judged: &Question,
     sources: &[ValueSource],
     derivations: &[Derivation],
-) -> bool
-    ensures { IsTrue result → RefuteEachIn judged.now derivations.now }
+) -> Result<bool, AllocError>
+    ensures { IfOk result (λ refute. IsTrue refute → RefuteEachIn judged.now derivations.now) }
 {
-    if assume_none(derivations) {
-        return true;
+    if is_one(derivations) {
+        return Ok(true);
     }
     for source in sources {
-        if is_split(judged, derivations, source) {
-            return true;
+        if is_split(alloc, judged, derivations, source)? {
+            return Ok(true);
         }
     }
-    false
+    Ok(false)
 }
 
 /// Whether the step says that the value which this source is of comes from one that it may have.
@@ -195,7 +234,7 @@ fn find_cases(
     for source in &candidates.sources {
         if source.writer.is_none() {
             let found = cases(alloc, judged, candidates, source)?;
-            if is_split(judged, &found, source) {
+            if is_split(alloc, judged, &found, source)? {
                 return Ok(Some(found));
             }
         }

@@ -1,5 +1,5 @@
-ghost use Rattle.std.specs.Prelude.{◌≡◌, ◌+◌, ◌<◌, ◌^◌, IfOk, IfSome, MatchOption, [], ◌∷◌, length};
-ghost use Rattle.tmw_part.specs.Origins.{answered_from, fate_by, is_as_expected, made, origin_at, origin_of, puts_before};
+ghost use Rattle.std.specs.Prelude.{◌≡◌, ◌⊎◌, ◌+◌, ◌<◌, ◌^◌, IfOk, IfSome, MatchOption, Some, [], ◌∷◌, length};
+ghost use Rattle.tmw_part.specs.Origins.{answered_from, fate_by, is_as_expected, made, or_before, origin_at, origin_of, puts_before};
 
 use crate::is_left_of::is_answered;
 use crate::name_in_window::owner;
@@ -18,6 +18,8 @@ use tmw_events::{Event, Ix, Kind};
 pub enum Fate {
     /// The transaction aborted.
     GivenUp,
+    /// It had asked to abort.
+    GivingUp,
     /// It had not asked to commit.
     Unasked,
     /// It left another value there at last, or is the reader itself.
@@ -84,16 +86,17 @@ fn answered_at(
     place
 }
 
-/// What became of what a transaction of this status put there, which at last left the value there or not.
-fn fate_by(status: Status, last: bool) -> Fate
-    ensures { result ≡ fate_by status last }
+/// What became of what a transaction of this status put there, which has asked to abort or not, and at last left the value
+/// there or not.
+fn fate_by(status: Status, asked: bool, last: bool) -> Fate
+    ensures { result ≡ fate_by status asked last }
 {
-    match status {
-        Status::Aborted => Fate::GivenUp,
-        Status::Live => Fate::Unasked,
-        Status::Pending | Status::Committed => {
-            if last { Fate::Stays } else { Fate::Overwritten }
-        }
+    match (status, asked, last) {
+        (Status::Aborted, _, _) => Fate::GivenUp,
+        (Status::Live, true, _) => Fate::GivingUp,
+        (Status::Live, false, _) => Fate::Unasked,
+        (Status::Pending | Status::Committed, _, true) => Fate::Stays,
+        (Status::Pending | Status::Committed, _, false) => Fate::Overwritten,
     }
 }
 
@@ -111,10 +114,11 @@ fn origin_at(
     let writer = owner(window, event.thread, place, place);
     let text = text_at(window, writer);
     let last = left_by(register.get(), text) == Some(value);
+    let asked = matches!(text.last(), Some(Kind::X));
     let fate = if writer == reader {
         Fate::Overwritten
     } else {
-        fate_by(status_of(text), last)
+        fate_by(status_of(text), asked, last)
     };
     Origin {
         place,
@@ -141,7 +145,18 @@ fn puts_before(
         && puts(register, value, event.kind, next_of(event.thread, events))
 }
 
-/// Finds the last event of a window that puts the value into the register before the reader, the transaction at this
+/// The later of two, unless only the earlier one may count.
+fn or_before(later: Origin, before: Option<Origin>) -> Origin
+    ensures is { Some result ≡ or_before (Some later) before }
+    ensures one { (result ≡ later) ⊎ (before ≡ Some result) }
+{
+    match before {
+        Some(origin) if origin.fate == Fate::Stays && later.fate != Fate::Stays => origin,
+        _ => later,
+    }
+}
+
+/// Finds the last event of a window that may count, or else the last, that puts the value into the register before the reader, the transaction at this
 /// place, is first answered it, or first while its own calls make the register the expected value.
 pub fn find_origin(
     alloc: Global,
@@ -162,7 +177,8 @@ pub fn find_origin(
     let upto = answered_at(&window, register, value, expected, reader, events);
     while let [event, more @ ..] = rest {
         if puts_before(register, value, upto, place, event, more) {
-            found = Some(origin_at(&window, register, value, reader, place, event));
+            let later = origin_at(&window, register, value, reader, place, event);
+            found = Some(or_before(later, found));
         }
         place += 1;
         rest = more;

@@ -1,5 +1,5 @@
 ghost use Rattle.std.specs.Prelude.{◌≡◌, ◌↔◌, ◌<◌, ◌≤◌, IfOk, IsTrue, IsFalse, length, remove};
-ghost use Rattle.tmw_part.specs.Reasons.{IsContradictedIn, IsNeededEachIn};
+ghost use Rattle.tmw_part.specs.Reasons.{AssumesNeededIn, IsContradictedIn, IsNeededEachIn};
 ghost use Rattle.tmw_part.specs.DerivationSearch.{AreAmong, DerivesIn};
 
 use crate::question::Question;
@@ -84,6 +84,22 @@ pub(crate) fn leave_out_each(
         }
     }
     Ok(out)
+}
+
+/// Tells whether the steps don't come to the contradiction without the one that is assumed, if there is one.
+pub(crate) fn needs_assumed(
+    judged: &Question,
+    assumed: usize,
+    steps: &[ReasonStep],
+    end: &Contradiction,
+) -> bool
+    ensures needed { IsTrue result → AssumesNeededIn judged.now assumed end.now steps.now }
+    ensures none { assumed ≡ 0 → IsTrue result }
+{
+    match steps {
+        [_first, rest @ ..] if assumed == 1 => !is_contradicted(judged, 0, rest, end),
+        _ => assumed == 0,
+    }
 }
 
 /// Returns of the steps, which come to the contradiction, those that are assumed and those that are needed.

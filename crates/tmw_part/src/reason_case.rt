@@ -1,7 +1,7 @@
 use crate::reason_step::{Contradiction, ReasonStep};
 
-/// Steps that come to a contradiction. Each follows from those before it, but for the first, which may be assumed. None of
-/// those that follow can be left out.
+/// Steps that come to a contradiction. Each follows from those before it, but for the first, which may be assumed. None can
+/// be left out.
 #[derive(Drop)]
 pub struct Derivation {
     /// How many of the first steps are assumed: 1 where a value may come from several sources and this is one of the cases,
@@ -12,7 +12,7 @@ pub struct Derivation {
     pub end: Contradiction,
 }
 
-/// Why no serial order begins in some of the states.
+/// Why no serial order begins in some of the states, one at least.
 #[derive(Drop)]
 pub struct ReasonCase {
     /// The places of these states among all, from 0.
@@ -22,7 +22,7 @@ pub struct ReasonCase {
 }
 
 /// Why no serial order explains the transactions of a window: a case for each of the states before it, or for some of them
-/// together.
+/// together. None is said twice of a state.
 #[derive(Drop)]
 pub struct Reason {
     pub cases: Vec<ReasonCase>,

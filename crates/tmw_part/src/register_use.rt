@@ -1,6 +1,6 @@
 ghost use Rattle.std.specs.Prelude.{◌≡◌, None};
 ghost use Rattle.tmw_defs.specs.History.{operations};
-ghost use Rattle.tmw_cuts.specs.RegisterUse.{writes, left_by};
+ghost use Rattle.tmw_cuts.specs.RegisterUse.{left_by};
 ghost use Rattle.tmw_part.specs.ReasonSteps.{needs};
 ghost use Rattle.tmw_part.specs.UnlikeAnswers.{answer_of, first_unlike, known_after, needed_of};
 
@@ -54,19 +54,6 @@ pub(crate) fn left_by(register: u8, text: &[Kind]) -> Option<u64>
         }
     }
     left
-}
-
-/// Whether one of the operations of a transaction writes or adds to the register.
-pub(crate) fn writes(register: u8, text: &[Kind]) -> bool
-    ensures { result ≡ writes register (operations text.now) }
-{
-    for op in TextOperations(text) {
-        match op {
-            Op::Write(other, _) | Op::Add(other, _, _) if other.number == register => return true,
-            _ => {}
-        }
-    }
-    false
 }
 
 /// The value that the operation was answered of the register.

@@ -6,7 +6,7 @@ ghost use Rattle.tmw_part.specs.PartTest.{txn_at};
 
 use crate::question::Question;
 use crate::reason_step::{Contradiction, ReasonStep, ValueSource};
-use crate::register_use::{find_unlike, left_by, needs, writes};
+use crate::register_use::{find_unlike, left_by, needs};
 use crate::step_facts::{
     begins_before, ends_before, is_before, is_excluded, is_given, is_supplied,
 };
@@ -69,15 +69,21 @@ pub(crate) fn may_come_from(judged: &Question, source: &ValueSource, writer: Opt
     }
 }
 
-/// Whether the transaction is held, changes the source's register and is neither the reader nor the writer.
-fn is_rival(judged: &Question, steps: &[ReasonStep], source: &ValueSource, place: usize) -> bool
-    ensures { result ≡ is_rival judged.now.transactions steps.now source.now place }
+/// Whether the transaction is held, leaves this value in the source's register and is neither the reader nor the writer.
+fn is_rival(
+    judged: &Question,
+    steps: &[ReasonStep],
+    source: &ValueSource,
+    place: usize,
+    left: u64,
+) -> bool
+    ensures { result ≡ is_rival judged.now.transactions steps.now source.now place left }
 {
     let text = text_at(judged.transactions, place);
     place != source.reader
         && source.writer != Some(place)
         && is_held(judged, steps, place)
-        && writes(source.register.get(), text)
+        && left_by(source.register.get(), text) == Some(left)
 }
 
 /// Whether the transaction is a rival that by these steps stands between the writer and the reader.
@@ -86,10 +92,11 @@ fn stands_between(
     steps: &[ReasonStep],
     source: &ValueSource,
     place: usize,
+    left: u64,
 ) -> bool
-    ensures { result ≡ stands_between judged.now.transactions steps.now source.now place }
+    ensures { result ≡ stands_between judged.now.transactions steps.now source.now place left }
 {
-    is_rival(judged, steps, source, place)
+    is_rival(judged, steps, source, place, left)
         && begins_before(steps, source.writer, place)
         && is_before(steps, place, source.reader)
 }
@@ -106,10 +113,8 @@ fn is_overwritten(
     ensures { let w = judged.now in result
         ≡ is_overwritten w.states w.transactions steps.now source.now place left }
 {
-    let text = text_at(judged.transactions, place);
     may_come_from(judged, source, source.writer)
-        && left_by(source.register.get(), text) == Some(left)
-        && stands_between(judged, steps, source, place)
+        && stands_between(judged, steps, source, place, left)
 }
 
 /// Whether each order has the reader, which needs the register to hold the value.
@@ -200,10 +205,8 @@ fn is_known_rival(
     ensures { let w = judged.now in
         result ≡ is_known_rival w.transactions steps.now source.now place left }
 {
-    let text = text_at(judged.transactions, place);
     is_given(steps, source)
-        && is_rival(judged, steps, source, place)
-        && left_by(source.register.get(), text) == Some(left)
+        && is_rival(judged, steps, source, place, left)
         && left != source.value
 }
 

@@ -78,9 +78,9 @@ needed_json (Part marks reason) = codes ",\"needed\":\"" ++ (flat_map (λ mark. 
 needed_json _ = []
 
 -- and the reason, if one is told of a window before which so many events stand, with each value in digits
-abbrev pub why_json : ℕ → List Event → Option Reason → List ℕ
-why_json before window None = []
-why_json before window (Some reason) = codes ",\"why\":\"" ++ (reason_text Clause [] before window reason ++ codes "\"")
+abbrev pub why_json : ℕ → List State → List Event → Option Reason → List ℕ
+why_json before states window None = []
+why_json before states window (Some reason) = codes ",\"why\":\"" ++ (reason_text Clause [] before states window reason ++ codes "\"")
 
 -- what is shown, as one JSON object and a line feed
 abbrev pub json_text : Criterion → ℕ → ShownTrace → List ℕ
@@ -89,7 +89,7 @@ json_text criterion before shown =
     ++ (window_json shown.registers (members shown.showing.states) shown.showing.events.items
     ++ (mark_json (told_of criterion before shown)
     ++ (needed_json shown.needed
-    ++ (why_json (before + shown.showing.from) shown.showing.events.items (reason_of shown.needed)
+    ++ (why_json (before + shown.showing.from) (members shown.showing.states) shown.showing.events.items (reason_of shown.needed)
     ++ codes "}\n"))))
 
 -- the page

@@ -64,7 +64,7 @@ drawn_text criterion before shown =
     ++ (needed_text shown.needed shown.showing.events.items
     ++ (window_text (told_of criterion before shown) earlier (marks_of shown.needed shown.showing.events.items) shown.showing.events.items
     ++ (let values = long_values (shown_events shown) in
-    found_text Line values earlier shown.showing.events.items (reason_of shown.needed)))))
+    found_text Line values earlier (members shown.showing.states) shown.showing.events.items (reason_of shown.needed)))))
 
 abbrev pub shown_text : Criterion → ℕ → Form → ShownTrace → List ℕ
 shown_text criterion before Drawing shown = drawn_text criterion before shown

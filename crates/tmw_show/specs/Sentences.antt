@@ -1,12 +1,13 @@
 -- The sentences that tell why a window is violated. Values that are among some have names.
-use Rattle.std.specs.Prelude.{ℕ, ◌+◌, Bool, true, false, List, [], ◌∷◌, ◌++◌, codes, drop, length, min, nat_lt, take, Option, Some, None}
-use Rattle.std.specs.List.{flat_map}
+use Rattle.std.specs.Prelude.{ℕ, ◌+◌, ◌==◌, ◌&&◌, Bool, not, if◌then◌else◌, slice_index, true, false, List, [], ◌∷◌, ◌++◌, codes, drop, length, min, nat_lt, take, Option, Some, None}
+use Rattle.std.specs.List.{flat_map, list_any}
 use Rattle.std.specs.Fmt.{decimal}
 use Rattle.tmw_lines.specs.LineFeeds.{line}
 use Rattle.tmw_events.specs.declared.event.Event.{Event}
-use Rattle.tmw_part.specs.Origins.{origin_of}
+use Rattle.tmw_defs.specs.Opaque.{State}
+use Rattle.tmw_part.specs.Origins.{origin_of, stays}
 use Rattle.tmw_part.specs.declared.origin.Fate.{Fate}
-use Rattle.tmw_part.specs.declared.origin.Fate.TheVariants.{GivenUp, Unasked, Overwritten, Stays}
+use Rattle.tmw_part.specs.declared.origin.Fate.TheVariants.{GivenUp, GivingUp, Unasked, Overwritten, Stays}
 use Rattle.tmw_part.specs.declared.origin.Origin.{Origin}
 use Rattle.tmw_part.specs.declared.reason_case.Derivation.{Derivation}
 use Rattle.tmw_part.specs.declared.reason_case.Reason.{Reason}
@@ -113,6 +114,7 @@ end_text values (Unlike reader register expected read) =
 -- What became of what a transaction put there.
 abbrev pub fate_text : Fate → List ℕ
 fate_text GivenUp = codes ", and aborted"
+fate_text GivingUp = codes ", and had asked to abort"
 fate_text Unasked = codes ", and had not asked to commit"
 fate_text Overwritten = codes ", then another value"
 fate_text Stays = []
@@ -128,14 +130,28 @@ origin_text values before register value (Some origin) =
     ++ (codes " into register "
     ++ (decimal register ++ (codes " at event " ++ (decimal (before + (origin.place + 1)) ++ fate_text origin.fate))))))
 
+-- It stood there at the start, unless one that may count put it there.
+abbrev pub stands_in : List State → ℕ → ℕ → Bool
+stands_in states register value = list_any (λ state. slice_index state register == value) states
+
+abbrev pub may_count : Option Origin → Bool
+may_count None = false
+may_count (Some origin) = stays origin.fate
+
+abbrev pub coming_text : List ℕ → ℕ → List State → ℕ → ℕ → Option Origin → List ℕ
+coming_text values before states register value origin =
+    if stands_in states register value && not (may_count origin)
+    then value_text values value ++ (codes " stood in register " ++ (decimal register ++ codes " at the start"))
+    else origin_text values before register value origin
+
 -- So of the value that the transaction at this place of the window read and that no order explains, if there is one; if a value is
 -- `expected`, while its own calls made the register that.
-abbrev pub told_by : List ℕ → ℕ → List Event → Contradiction → List ℕ
-told_by values before window (Cycle place) = []
-told_by values before window (NoSource reader register value) =
-    origin_text values before register.number value (origin_of window register.number value None reader)
-told_by values before window (Unlike reader register expected read) =
-    origin_text values before register.number read (origin_of window register.number read (Some expected) reader)
+abbrev pub told_by : List ℕ → ℕ → List State → List Event → Contradiction → List ℕ
+told_by values before states window (Cycle place) = []
+told_by values before states window (NoSource reader register value) =
+    coming_text values before states register.number value (origin_of window register.number value None reader)
+told_by values before states window (Unlike reader register expected read) =
+    coming_text values before states register.number read (origin_of window register.number read (Some expected) reader)
 
 -- A sentence with what stands around it, unless it is empty.
 abbrev pub framed : Frame → List ℕ → List ℕ
@@ -153,12 +169,12 @@ abbrev pub steps_text : Frame → List ℕ → ℕ → List ReasonStep → List 
 steps_text frame values assumed steps = steps_from frame values (min assumed (length steps)) steps
 
 -- What the steps come to: where a value comes from that no order explains, if it has one, and that.
-abbrev pub ending_text : Frame → List ℕ → ℕ → List Event → Contradiction → List ℕ
-ending_text frame values before window end = framed frame (told_by values before window end) ++ framed frame (end_text values end)
+abbrev pub ending_text : Frame → List ℕ → ℕ → List State → List Event → Contradiction → List ℕ
+ending_text frame values before states window end = framed frame (told_by values before states window end) ++ framed frame (end_text values end)
 
-abbrev pub derivation_text : Frame → List ℕ → ℕ → List Event → Derivation → List ℕ
-derivation_text frame values before window d =
-    steps_text frame values d.assumed d.steps.items ++ ending_text frame values before window d.end
+abbrev pub derivation_text : Frame → List ℕ → ℕ → List State → List Event → Derivation → List ℕ
+derivation_text frame values before states window d =
+    steps_text frame values d.assumed d.steps.items ++ ending_text frame values before states window d.end
 
 -- For which states a case is said.
 abbrev pub state_item : ℕ → List ℕ
@@ -168,20 +184,20 @@ abbrev pub header_text : List ℕ → List ℕ
 header_text places = codes "from" ++ (drop 1 (flat_map state_item places) ++ codes ":")
 
 -- So it is for each derivation of a case, behind that where there are several cases.
-abbrev pub derivations_text : Frame → List ℕ → ℕ → List Event → ReasonCase → List ℕ
-derivations_text frame values before window case = flat_map (derivation_text frame values before window) case.derivations.items
+abbrev pub derivations_text : Frame → List ℕ → ℕ → List State → List Event → ReasonCase → List ℕ
+derivations_text frame values before states window case = flat_map (derivation_text frame values before states window) case.derivations.items
 
-abbrev pub case_text : Frame → List ℕ → ℕ → List Event → Bool → ReasonCase → List ℕ
-case_text frame values before window false case = derivations_text frame values before window case
-case_text frame values before window true case =
-    framed frame (header_text case.states.items) ++ derivations_text frame values before window case
+abbrev pub case_text : Frame → List ℕ → ℕ → List State → List Event → Bool → ReasonCase → List ℕ
+case_text frame values before states window false case = derivations_text frame values before states window case
+case_text frame values before states window true case =
+    framed frame (header_text case.states.items) ++ derivations_text frame values before states window case
 
 -- The sentences of a reason why a window is violated before which so many events stand.
-abbrev pub reason_text : Frame → List ℕ → ℕ → List Event → Reason → List ℕ
-reason_text frame values before window reason =
-    flat_map (case_text frame values before window (nat_lt 1 (length reason.cases.items))) reason.cases.items
+abbrev pub reason_text : Frame → List ℕ → ℕ → List State → List Event → Reason → List ℕ
+reason_text frame values before states window reason =
+    flat_map (case_text frame values before states window (nat_lt 1 (length reason.cases.items))) reason.cases.items
 
 -- and where a reason is found
-abbrev pub found_text : Frame → List ℕ → ℕ → List Event → Option Reason → List ℕ
-found_text frame values before window None = []
-found_text frame values before window (Some reason) = reason_text frame values before window reason
+abbrev pub found_text : Frame → List ℕ → ℕ → List State → List Event → Option Reason → List ℕ
+found_text frame values before states window None = []
+found_text frame values before states window (Some reason) = reason_text frame values before states window reason

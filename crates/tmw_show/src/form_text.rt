@@ -19,7 +19,6 @@ use crate::value_names::long_values;
 use crate::window_text::push_window;
 use std::alloc::{AllocError, Global};
 use tmw_defs::Criterion;
-use tmw_events::Event;
 use tmw_options::Form;
 use tmw_part::kept_of;
 use tmw_report::report_by;
@@ -71,7 +70,7 @@ fn drawn_text(
     push_window(&mut text, told, earlier, &marks, &showing.events)?;
     let kept = kept_of(alloc, &marks, &showing.events)?;
     let values = long_values(alloc, &kept)?;
-    push_reason_of(&mut text, earlier, &values, &showing.events, &shown.needed)?;
+    push_reason_of(&mut text, earlier, &values, shown)?;
     Ok(text)
 }
 
@@ -80,18 +79,18 @@ fn push_reason_of(
     text: &mut Vec<u8>,
     before: u128,
     values: &[u64],
-    events: &[Event],
-    needed: &NeededEvents,
+    shown: &ShownTrace,
 ) -> Result<(), AllocError>
-    requires { before + length events.now < 2 ^ 128 }
-    ensures { let found = reason_of needed.now in OnOk result
-        (text.new.items ≡ text.old.items ++ found_text Line values.now before events.now found) }
+    requires { before + length shown.now.showing.events.items < 2 ^ 128 }
+    ensures { let w = shown.now.showing in OnOk result (text.new.items ≡ text.old.items
+        ++ found_text Line values.now before (members w.states) w.events.items
+            (reason_of shown.now.needed)) }
 {
-    match needed {
+    match &shown.needed {
         NeededEvents::Part {
             reason: Some(reason),
             ..
-        } => push_reason(text, Frame::Line, values, before, events, reason),
+        } => push_reason(text, Frame::Line, values, before, &shown.showing, reason),
         _ => Ok(()),
     }
 }

@@ -1,12 +1,15 @@
 //! The sentence that tells where a value comes from that no serial order explains.
 ghost use Rattle.std.specs.Prelude.{◌≡◌, ◌+◌, ◌<◌, ◌^◌, IfOk, IfSome, length, string_bytes};
-ghost use Rattle.tmw_show.specs.Sentences.{fate_text, origin_text, told_by};
+ghost use Rattle.tmw_cuts.specs.Members.{members};
+ghost use Rattle.tmw_show.specs.Sentences.{coming_text, fate_text, may_count, origin_text, stands_in, told_by};
 
 use crate::transaction_names::TransactionName;
 use crate::value_names::Value;
 use std::alloc::{AllocError, Global};
-use tmw_events::{Event, Ix};
+use tmw_cuts::State;
+use tmw_events::Ix;
 use tmw_part::{Contradiction, Fate, Origin, find_origin};
+use tmw_window::ShownWindow;
 
 /// What became of what a transaction put there.
 fn fate_text(fate: Fate) -> &'static str
@@ -14,6 +17,7 @@ fn fate_text(fate: Fate) -> &'static str
 {
     match fate {
         Fate::GivenUp => ", and aborted",
+        Fate::GivingUp => ", and had asked to abort",
         Fate::Unasked => ", and had not asked to commit",
         Fate::Overwritten => ", then another value",
         Fate::Stays => "",
@@ -45,18 +49,54 @@ fn origin_text(
     format!(in alloc; "{writer} put {value} into register {register} at event {event}{fate}")
 }
 
+/// Whether the value stands in the register in one of the states.
+fn stands_in(states: &[State], register: u8, value: u64) -> bool
+    requires { register < 8 }
+    ensures { result ≡ stands_in states.now register value }
+{
+    states.iter().any(|state| state[register as usize] == value)
+}
+
+/// Whether one that may count put it there.
+fn may_count(origin: Option<Origin>) -> bool
+    ensures { result ≡ may_count origin }
+{
+    origin.is_some_and(|found| found.fate == Fate::Stays)
+}
+
+/// Tells where a value comes from: from the start, if it stood there and none that may count put it there.
+fn coming_text(
+    alloc: Global,
+    values: &[u64],
+    before: u128,
+    states: &[State],
+    register: Ix,
+    value: u64,
+    origin: Option<Origin>,
+) -> Result<String, AllocError>
+    requires { IfSome origin (λ found. before + (found.place + 1) < 2 ^ 128) }
+    ensures { IfOk result (λ text. string_bytes text
+        ≡ coming_text values.now before states.now register.number value origin) }
+{
+    if stands_in(states, register.get(), value) && !may_count(origin) {
+        let (value, register) = (Value(values, value), register.get());
+        return format!(in alloc; "{value} stood in register {register} at the start");
+    }
+    origin_text(alloc, values, before, register, value, origin)
+}
+
 /// Returns the text that tells where the value comes from of the read that no order explains, if what the steps come to
 /// has one. So many events stand before the window. These values have names.
 pub fn told_by(
     alloc: Global,
     values: &[u64],
     before: u128,
-    events: &[Event],
+    showing: &ShownWindow,
     end: &Contradiction,
 ) -> Result<String, AllocError>
-    requires { before + length events.now < 2 ^ 128 }
-    ensures { IfOk result (λ text. string_bytes text
-        ≡ told_by values.now before events.now end.now) }
+    requires { before + length showing.now.events.items < 2 ^ 128 }
+    ensures { let w = showing.now in IfOk result (λ text. string_bytes text
+        ≡ told_by values.now before (members w.states) w.events.items end.now) }
 {
     let (reader, register, value, expected) = match *end {
         Contradiction::Cycle(_place) => return Ok(String::new(alloc)),
@@ -65,6 +105,7 @@ pub fn told_by(
             (reader, register, read, Some(expected))
         }
     };
-    let origin = find_origin(alloc, events, register, value, expected, reader)?;
-    origin_text(alloc, values, before, register, value, origin)
+    let origin = find_origin(alloc, &showing.events, register, value, expected, reader)?;
+    let states = showing.states.states();
+    coming_text(alloc, values, before, states, register, value, origin)
 }

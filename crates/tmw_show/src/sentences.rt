@@ -1,6 +1,7 @@
 //! The sentences that tell why a window is violated. Values that are among some have names.
 ghost use Rattle.std.specs.Prelude.{◌≡◌, ◌+◌, ◌<◌, ◌^◌, ◌++◌, IfOk, OnOk, length, string_bytes};
 ghost use Rattle.std.specs.List.{flat_map};
+ghost use Rattle.tmw_cuts.specs.Members.{members};
 ghost use Rattle.tmw_show.specs.Sentences.{assumption_text, case_text, changed_first_text, derivation_text, end_text, ending_text, framed, header_text, later_text, overwritten_text, read_first_text, reason_text, so_text, source_text, state_item, step_text, steps_text, too_late_text, writer_text};
 
 use crate::frame::Frame;
@@ -9,8 +10,8 @@ use crate::origin_sentence::told_by;
 use crate::transaction_names::TransactionName;
 use crate::value_names::Value;
 use std::alloc::{AllocError, Global};
-use tmw_events::Event;
 use tmw_part::{Contradiction, Derivation, Reason, ReasonCase, ReasonStep, ValueSource};
+use tmw_window::ShownWindow;
 
 /// Adds the sentences of the reason why a window is violated before which so many events stand. If it has several cases,
 /// each begins with the states for which it is said.
@@ -19,16 +20,16 @@ pub fn push_reason(
     frame: Frame,
     values: &[u64],
     before: u128,
-    events: &[Event],
+    showing: &ShownWindow,
     reason: &Reason,
 ) -> Result<(), AllocError>
-    requires { before + length events.now < 2 ^ 128 }
-    ensures { OnOk result (text.new.items
-        ≡ text.old.items ++ reason_text frame values.now before events.now reason.now) }
+    requires { before + length showing.now.events.items < 2 ^ 128 }
+    ensures { let w = showing.now in OnOk result (text.new.items ≡ text.old.items
+        ++ reason_text frame values.now before (members w.states) w.events.items reason.now) }
 {
     let several = reason.cases.len() > 1;
     for case in &reason.cases {
-        push_case(text, frame, values, before, events, several, case)?;
+        push_case(text, frame, values, before, showing, several, case)?;
     }
     Ok(())
 }
@@ -39,18 +40,18 @@ fn push_case(
     frame: Frame,
     values: &[u64],
     before: u128,
-    events: &[Event],
+    showing: &ShownWindow,
     several: bool,
     case: &ReasonCase,
 ) -> Result<(), AllocError>
-    requires { before + length events.now < 2 ^ 128 }
-    ensures { OnOk result (text.new.items
-        ≡ text.old.items ++ case_text frame values.now before events.now several case.now) }
+    requires { before + length showing.now.events.items < 2 ^ 128 }
+    ensures { let w = showing.now in OnOk result (text.new.items ≡ text.old.items
+        ++ case_text frame values.now before (members w.states) w.events.items several case.now) }
 {
     if several {
         push_header(text, frame, &case.states)?;
     }
-    push_derivations(text, frame, values, before, events, &case.derivations)
+    push_derivations(text, frame, values, before, showing, &case.derivations)
 }
 
 /// Adds the sentences of each derivation.
@@ -59,16 +60,16 @@ fn push_derivations(
     frame: Frame,
     values: &[u64],
     before: u128,
-    events: &[Event],
+    showing: &ShownWindow,
     derivations: &[Derivation],
 ) -> Result<(), AllocError>
-    requires { before + length events.now < 2 ^ 128 }
-    ensures { OnOk result (text.new.items ≡ text.old.items
-        ++ flat_map (derivation_text frame values.now before events.now) derivations.now) }
+    requires { before + length showing.now.events.items < 2 ^ 128 }
+    ensures { let w = showing.now in OnOk result (text.new.items ≡ text.old.items ++ flat_map
+        (derivation_text frame values.now before (members w.states) w.events.items) derivations.now) }
 {
     for derivation in derivations {
         push_steps(text, frame, values, derivation.assumed, &derivation.steps)?;
-        push_end(text, frame, values, before, events, &derivation.end)?;
+        push_end(text, frame, values, before, showing, &derivation.end)?;
     }
     Ok(())
 }
@@ -95,15 +96,15 @@ fn push_end(
     frame: Frame,
     values: &[u64],
     before: u128,
-    events: &[Event],
+    showing: &ShownWindow,
     end: &Contradiction,
 ) -> Result<(), AllocError>
-    requires { before + length events.now < 2 ^ 128 }
-    ensures { OnOk result (text.new.items
-        ≡ text.old.items ++ ending_text frame values.now before events.now end.now) }
+    requires { before + length showing.now.events.items < 2 ^ 128 }
+    ensures { let w = showing.now in OnOk result (text.new.items ≡ text.old.items
+        ++ ending_text frame values.now before (members w.states) w.events.items end.now) }
 {
     let alloc = *text.allocator();
-    let told = told_by(alloc, values, before, events, end)?;
+    let told = told_by(alloc, values, before, showing, end)?;
     push_sentence(text, frame, &told)?;
     let end = end_text(alloc, values, end)?;
     push_sentence(text, frame, &end)

@@ -1,4 +1,5 @@
 ghost use Rattle.std.specs.Prelude.{◌≡◌, ◌+◌, ◌<◌, ◌^◌, [], ◌∷◌, ◌++◌, IfOk, OnOk, length, string_bytes};
+ghost use Rattle.tmw_cuts.specs.Members.{members};
 ghost use Rattle.tmw_show.specs.NeededEvents.{reason_of};
 ghost use Rattle.tmw_show.specs.Page.{about_json, criterion_name, digit, event_json, json_text, mark_json, needed_json, state_json, why_json, window_json};
 
@@ -47,7 +48,7 @@ pub fn push_json(
     };
     push_mark(text, told)?;
     push_needed(text, &shown.needed)?;
-    push_why(text, earlier, &showing.events, &shown.needed)?;
+    push_why(text, earlier, shown)?;
     text.extend_from_slice(b"}\n")?;
     Ok(())
 }
@@ -157,20 +158,19 @@ fn push_needed(text: &mut Vec<u8>, needed: &NeededEvents) -> Result<(), AllocErr
 fn push_why(
     text: &mut Vec<u8>,
     before: u128,
-    events: &[Event],
-    needed: &NeededEvents,
+    shown: &ShownTrace,
 ) -> Result<(), AllocError>
-    requires { before + length events.now < 2 ^ 128 }
-    ensures { OnOk result (text.new.items
-        ≡ text.old.items ++ why_json before events.now (reason_of needed.now)) }
+    requires { before + length shown.now.showing.events.items < 2 ^ 128 }
+    ensures { let w = shown.now.showing in OnOk result (text.new.items ≡ text.old.items
+        ++ why_json before (members w.states) w.events.items (reason_of shown.now.needed)) }
 {
     if let NeededEvents::Part {
         reason: Some(reason),
         ..
-    } = needed
+    } = &shown.needed
     {
         text.extend_from_slice(b",\"why\":\"")?;
-        push_reason(text, Frame::Clause, &[], before, events, reason)?;
+        push_reason(text, Frame::Clause, &[], before, &shown.showing, reason)?;
         text.push(b'"')?;
     }
     Ok(())

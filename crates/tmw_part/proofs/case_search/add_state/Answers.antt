@@ -1,6 +1,7 @@
-use Rattle.tmw_part.proofs.Shared.{rules, ◌++◌, ◌∷◌, ◌≡◌, []}
+use Rattle.tmw_part.proofs.Shared.{length, rules, sym, ◌∙◌, ◌++◌, ◌∷◌, ◌≡◌, []}
 use Rattle.std.proofs.lemmas.List.Elements.{Contains-append_left}
 use Rattle.tmw_part.specs.CaseSearch.{asked_at}
+use Rattle.tmw_part.proofs.PlacesProof.{once-said}
 use Rattle.tmw_part.proofs.DerivationsProof.{made-again}
 use Rattle.tmw_part.proofs.case_search.add_state.Goals as goal
 
@@ -13,8 +14,10 @@ returns-then-branch c =
     record {
       made = record {
         are = made-again (asked_at all c.args.case.now.states.items) (asked_at all c.push.new.self.items) c.args.candidates.now
-            c.args.case.now.derivations.items c.requires.are refuted.are;
+            c.args.case.now.derivations.items c.requires.made.are refuted.are;
         refute = refuted.refute;
       };
       said = λ place has. rw longer (Contains-append_left c.args.case.now.states.items (c.args.place ∷ []) place has);
+      once = λ once. rw longer (once-said (length all.states) c.args.place c.args.others.now c.args.case.now.states.items c.requires.within
+          (rw c.deref.ensures.value at (sym c.is_among.ensures ∙ c.if-is_among.false)) (sym c.is_said_for.ensures ∙ c.if-is_said_for.false) once);
     }

@@ -2,4 +2,4 @@ use Rattle.tmw_part.specs.CaseSearch.{Grows}
 use Rattle.tmw_part.proofs.case_search.add_states.Given as goal
 
 abbrev pub invariant-loop-place : goal.invariant-loop-place
-invariant-loop-place l = Grows l.all l.candidates l.initial.case l.case
+invariant-loop-place l = Grows l.all l.candidates l.others l.initial.case l.case

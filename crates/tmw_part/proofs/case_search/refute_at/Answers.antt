@@ -4,5 +4,5 @@ pub returns : goal.returns
 returns c = λ is.
     rw (← c.all.view_is) (record {
       are = rw (c.deref.ensures.value, c.in_ok-states.ensures) at (c.in_ok-are_derivations.ensures c.if-not-branch.false);
-      refute = rw (c.deref.ensures.value, c.in_ok-states.ensures) at (c.refute_each.ensures is);
+      refute = rw (c.deref.ensures.value, c.in_ok-states.ensures) at (c.in_ok-refute.ensures is);
     })

@@ -1,5 +1,5 @@
 use Rattle.tmw_part.proofs.Shared.{inr, sym, ◌∙◌}
 use Rattle.tmw_part.proofs.derivation_search.refute_each.Goals as goal
 
-pub returns-then-is_split : goal.returns-then-is_split
-returns-then-is_split c is = inr (c.source-item.result, sym c.is_split.ensures ∙ c.if-is_split.true)
+pub returns-then-branch : goal.returns-then-branch
+returns-then-branch c = λ is. inr (c.source-item.result, sym c.in_ok-is_split.ensures ∙ c.if-branch.true)

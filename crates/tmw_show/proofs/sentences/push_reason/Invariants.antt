@@ -1,4 +1,5 @@
 use Rattle.tmw_show.proofs.Shared.{flat_map, length, take, ◌++◌, ◌≡◌}
+use Rattle.tmw_cuts.specs.Members.{members}
 use Rattle.std.specs.Prelude.{nat_lt}
 use Rattle.tmw_show.specs.Sentences.{case_text}
 use Rattle.tmw_show.proofs.sentences.push_reason.Given as goal
@@ -6,4 +7,4 @@ use Rattle.tmw_show.proofs.sentences.push_reason.Given as goal
 abbrev pub invariant-loop-case : goal.invariant-loop-case
 invariant-loop-case l =
     l.text.items
-    ≡ l.initial.text.items ++ flat_map (case_text l.frame l.values l.before l.events l.several) (take l.case-index l.case-items)
+    ≡ l.initial.text.items ++ flat_map (case_text l.frame l.values l.before (members l.showing.states) l.showing.events.items l.several) (take l.case-index l.case-items)
