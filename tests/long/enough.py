@@ -218,6 +218,8 @@ def is_said_rightly(sentence, shown):
         return first_unlike(whole[reader], register) == (expected, value)
     if sentence.put:
         return is_put_rightly(sentence, shown)
+    if sentence.stood:
+        return any(state[sentence.stood[0]] == sentence.stood[1] for state in states)
     if sentence.unput:
         end = end_after(sentence, shown)
         answered = answer_of(whole[(end.read or end.unlike)[0]], *sentence.unput, end.unlike and end.unlike[2])
@@ -248,8 +250,8 @@ def is_put_rightly(sentence, shown):
     t = shown.whole[name]
     if not any(call[0].number == event and is_put(call, register, value) for call in calls(t.events)):
         return False
-    if sentence.fate in ("aborted", "live"):
-        return t.status == sentence.fate
+    if sentence.fate in ("aborted", "live", "leaving"):
+        return ("leaving" if t.status == "live" and t.events[-1].kind[0] == "X" else t.status) == sentence.fate
     stays = t.status in MAY_COMMIT and shown.known.leaves[name].get(register) == value
     end = end_after(sentence, shown)
     is_own = name == (end.read or end.unlike)[0]

@@ -78,6 +78,8 @@ def is_true(said, names, states, window):
     """Whether what the sentence says of these transactions is so of the window, by its events."""
     if said.ended and not names[said.ended[0]].precedes(names[said.ended[1]]):
         return False
+    if said.stood and not any(state[said.stood[0]] == said.stood[1] for state in states):
+        return False
     if said.read and not has_read(names[said.read[0]], *said.read[1:]):
         return False
     if said.left and last_left(names[said.left[0]], said.left[1]) != said.left[2]:
@@ -90,7 +92,7 @@ def is_true(said, names, states, window):
     return not said.unlike or said.unlike[2:] == first_unlike(names[said.unlike[0]], said.unlike[1])
 
 
-def origin_of(end, names, window):
+def origin_of(end, names, states, window):
     """What has to be told before this last sentence of where the value comes from that it says was read."""
     found = re.fullmatch(r"(T\d+) read (\d+) from register (\d+).*?(?: make it (\d+))?", end)
     reader, value, register, expected = names[found[1]], int(found[2]), int(found[3]), found[4] and int(found[4])
@@ -103,15 +105,22 @@ def origin_of(end, names, window):
                 read, reading = call[1].number, call
             known = answer if left is None else left
     puts = [call for call in calls(window) if left_by(call) == (register, value) and call[0].number < read and call != reading]
+
+    def fate(call):
+        t = transactions(window)[number[call[0]] - 1]
+        if call[0] in reader.events:
+            return ", then another value"
+        if t.status == "live":
+            return ", and had asked to abort" if t.events[-1].kind[0] == "X" else ", and had not asked to commit"
+        return ", and aborted" if t.status == "aborted" else "" if last_left(t, register) == value else ", then another value"
+
+    may_count = [call for call in puts if not fate(call)]
+    if not may_count and any(state[register] == value for state in states):
+        return f"{value} stood in register {register} at the start"
     if not puts:
         return f"no earlier event of this window puts {value} into register {register}"
-    call = max(puts, key=lambda call: call[0].number)
-    t = transactions(window)[number[call[0]] - 1]
-    fates = {"aborted": ", and aborted", "live": ", and had not asked to commit"}
-    fate = fates.get(t.status, "" if last_left(t, register) == value else ", then another value")
-    if call[0] in reader.events:
-        fate = ", then another value"
-    return f"T{number[call[0]]} put {value} into register {register} at event {call[0].number}{fate}"
+    call = max(may_count or puts, key=lambda call: call[0].number)
+    return f"T{number[call[0]]} put {value} into register {register} at event {call[0].number}{fate(call)}"
 
 
 def random_part(rng, window, broken):
@@ -175,8 +184,8 @@ def compare(program, criterion, start, events):
     assert not has_order(criterion, states, part), "the part has an order"
     names = named(part, window)
     sentences = read_reason(why)
-    origins = [origin_of(it.text, names, window) if it.source == NOBODY or it.unlike else None for it in sentences]
-    told = [it.text if it.put or it.unput else None for it in sentences]
+    origins = [origin_of(it.text, names, states, window) if it.source == NOBODY or it.unlike else None for it in sentences]
+    told = [it.text if it.put or it.stood or it.unput else None for it in sentences]
     assert [None, *told] == [*origins, None], f"origins not told: {origins}"
     for sentence in sentences:
         assert is_true(sentence, names, states, window), f"false of the window: {sentence.text}"

@@ -11,6 +11,7 @@ told by some of these words, each with the letters that it is about:
     unlike   A R W V    A was answered V, where its own earlier calls make the register W
     put      A R V E    event E is A's, and puts V into register R
     fate     STATUS     what became of that transaction, or `then`: it leaves another value or none
+    stood    R V        one of the states has V in register R
     unput    R V        no event before the read of V that the next sentence names puts V into register R
     cycle    A          nothing more: the orders that the sentences end in contradict each other
 
@@ -36,7 +37,9 @@ FORMS = {
     "A put V into register R at event E": {"put": "A R V E", "fate": "stays"},
     "A put V into register R at event E, and aborted": {"put": "A R V E", "fate": "aborted"},
     "A put V into register R at event E, and had not asked to commit": {"put": "A R V E", "fate": "live"},
+    "A put V into register R at event E, and had asked to abort": {"put": "A R V E", "fate": "leaving"},
     "A put V into register R at event E, then another value": {"put": "A R V E", "fate": "then"},
+    "V stood in register R at the start": {"stood": "R V"},
     "no earlier event of this window puts V into register R": {"unput": "R V"},
     "A would come before itself": {"cycle": "A"},
 }
@@ -72,7 +75,7 @@ def read_sentence(text):
                 for word, about in meaning.items()
             }
             before = tuple(re.findall(r": (T\d+) before (T\d+)$", text)[0]) if " before T" in text and ": " in text else None
-            words = dict.fromkeys(["ended", "read", "left", "source", "not_from", "unlike", "put", "fate", "unput", "cycle"])
+            words = dict.fromkeys(["ended", "read", "left", "source", "not_from", "unlike", "put", "fate", "stood", "unput", "cycle"])
             return SimpleNamespace(**{**words, **said}, before=before, text=text)
     return None
 

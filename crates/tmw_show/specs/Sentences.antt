@@ -138,10 +138,13 @@ abbrev pub may_count : Option Origin → Bool
 may_count None = false
 may_count (Some origin) = stays origin.fate
 
+abbrev pub start_text : List ℕ → ℕ → ℕ → List ℕ
+start_text values register value = value_text values value ++ (codes " stood in register " ++ (decimal register ++ codes " at the start"))
+
 abbrev pub coming_text : List ℕ → ℕ → List State → ℕ → ℕ → Option Origin → List ℕ
 coming_text values before states register value origin =
     if stands_in states register value && not (may_count origin)
-    then value_text values value ++ (codes " stood in register " ++ (decimal register ++ codes " at the start"))
+    then start_text values register value
     else origin_text values before register value origin
 
 -- So of the value that the transaction at this place of the window read and that no order explains, if there is one; if a value is
@@ -149,7 +152,7 @@ coming_text values before states register value origin =
 abbrev pub told_by : List ℕ → ℕ → List State → List Event → Contradiction → List ℕ
 told_by values before states window (Cycle place) = []
 told_by values before states window (NoSource reader register value) =
-    coming_text values before states register.number value (origin_of window register.number value None reader)
+    origin_text values before register.number value (origin_of window register.number value None reader)
 told_by values before states window (Unlike reader register expected read) =
     coming_text values before states register.number read (origin_of window register.number read (Some expected) reader)
 

@@ -1,7 +1,7 @@
 //! The sentence that tells where a value comes from that no serial order explains.
 ghost use Rattle.std.specs.Prelude.{◌≡◌, ◌+◌, ◌<◌, ◌^◌, IfOk, IfSome, length, string_bytes};
 ghost use Rattle.tmw_cuts.specs.Members.{members};
-ghost use Rattle.tmw_show.specs.Sentences.{coming_text, fate_text, may_count, origin_text, stands_in, told_by};
+ghost use Rattle.tmw_show.specs.Sentences.{coming_text, fate_text, may_count, origin_text, stands_in, start_text, told_by};
 
 use crate::transaction_names::TransactionName;
 use crate::value_names::Value;
@@ -64,6 +64,19 @@ fn may_count(origin: Option<Origin>) -> bool
     origin.is_some_and(|found| found.fate == Fate::Stays)
 }
 
+/// Tells that the value stood in the register at the start.
+fn start_text(
+    alloc: Global,
+    values: &[u64],
+    register: u8,
+    value: u64,
+) -> Result<String, AllocError>
+    ensures { IfOk result (λ text. string_bytes text ≡ start_text values.now register value) }
+{
+    let value = Value(values, value);
+    format!(in alloc; "{value} stood in register {register} at the start")
+}
+
 /// Tells where a value comes from: from the start, if it stood there and none that may count put it there.
 fn coming_text(
     alloc: Global,
@@ -79,8 +92,7 @@ fn coming_text(
         ≡ coming_text values.now before states.now register.number value origin) }
 {
     if stands_in(states, register.get(), value) && !may_count(origin) {
-        let (value, register) = (Value(values, value), register.get());
-        return format!(in alloc; "{value} stood in register {register} at the start");
+        return start_text(alloc, values, register.get(), value);
     }
     origin_text(alloc, values, before, register, value, origin)
 }
@@ -98,14 +110,17 @@ pub fn told_by(
     ensures { let w = showing.now in IfOk result (λ text. string_bytes text
         ≡ told_by values.now before (members w.states) w.events.items end.now) }
 {
-    let (reader, register, value, expected) = match *end {
-        Contradiction::Cycle(_place) => return Ok(String::new(alloc)),
-        Contradiction::NoSource(reader, register, value) => (reader, register, value, None),
-        Contradiction::Unlike(reader, register, expected, read) => {
-            (reader, register, read, Some(expected))
+    let events = &showing.events;
+    match *end {
+        Contradiction::Cycle(_place) => Ok(String::new(alloc)),
+        Contradiction::NoSource(reader, register, value) => {
+            let origin = find_origin(alloc, events, register, value, None, reader)?;
+            origin_text(alloc, values, before, register, value, origin)
         }
-    };
-    let origin = find_origin(alloc, &showing.events, register, value, expected, reader)?;
-    let states = showing.states.states();
-    coming_text(alloc, values, before, states, register, value, origin)
+        Contradiction::Unlike(reader, register, expected, read) => {
+            let origin = find_origin(alloc, events, register, read, Some(expected), reader)?;
+            let states = showing.states.states();
+            coming_text(alloc, values, before, states, register, read, origin)
+        }
+    }
 }
