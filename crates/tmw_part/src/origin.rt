@@ -22,7 +22,7 @@ pub enum Fate {
     GivingUp,
     /// It had not asked to commit.
     Unasked,
-    /// It left another value there at last, or is the reader itself.
+    /// It may commit and left another value there at last, or is the reader itself.
     Overwritten,
     /// It left the value there, and committed or asked to.
     Stays,

@@ -29,8 +29,9 @@ fn find_among(
 
 /// Finds out why no serial order of a window's transactions, by this criterion and from any of the states, explains
 /// them. Each step holds of the whole window, and all that it says is drawn: it speaks of the transactions that have an event
-/// with a mark, and of what these were answered and left. It is `None` where the window has more than eight
-/// transactions, and where from one of the states the steps come to no contradiction. It fails only if an allocation does.
+/// with a mark, where the marks are those of a part, and of what these were answered and left. It is `None` where the window
+/// has more than eight transactions, and where from one of the states the steps, with nothing assumed, come to no
+/// contradiction. It fails only if an allocation does.
 pub fn find_reason(
     criterion: Criterion,
     alloc: Global,

@@ -15,7 +15,7 @@ pub struct ValueSource {
 pub enum ReasonStep {
     /// The first stands before the second: it was completed before that began.
     RealTime(usize, usize),
-    /// The value comes from there: nobody else can have left it.
+    /// The value comes from there: nobody else can have left it, or this is assumed.
     From(ValueSource),
     /// The value, which may come from there, does not: the reader stands before that writer.
     TooLate(ValueSource),

@@ -1,6 +1,5 @@
-use Rattle.tmw_show.proofs.Shared.{flat_map, length, take, ◌++◌, ◌≡◌}
+use Rattle.tmw_show.proofs.Shared.{flat_map, take, ◌++◌, ◌≡◌}
 use Rattle.tmw_cuts.specs.Members.{members}
-use Rattle.std.specs.Prelude.{nat_lt}
 use Rattle.tmw_show.specs.Sentences.{case_text}
 use Rattle.tmw_show.proofs.sentences.push_reason.Given as goal
 

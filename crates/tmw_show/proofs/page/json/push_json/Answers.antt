@@ -1,5 +1,5 @@
 -- Each part follows the one before it.
-use Rattle.tmw_show.proofs.Shared.{List, [], ap, append_assoc, members, ℕ, ◌++◌, ◌+◌, ◌∙◌, ◌≡◌}
+use Rattle.tmw_show.proofs.Shared.{List, ap, append_assoc, members, ℕ, ◌++◌, ◌+◌, ◌∙◌, ◌≡◌}
 use Rattle.std.proofs.Common.{codes}
 use Rattle.tmw_show.specs.NeededEvents.{reason_of}
 use Rattle.tmw_show.specs.Page.{about_json, mark_json, needed_json, told_of, why_json, window_json}
@@ -23,7 +23,7 @@ returns c =
     let earlier = c.args.before + shown.showing.from in
     six c.args.text.now.items (about_json c.args.criterion earlier shown)
     (window_json shown.registers (members shown.showing.states) events) (mark_json (told_of c.args.criterion c.args.before shown))
-    (needed_json shown.needed) (why_json earlier events reason) (codes "}\n")
+    (needed_json shown.needed) (why_json earlier (members shown.showing.states) events reason) (codes "}\n")
     (rw (c.as_bytes.ensures.value, c.in_ok-about.ensures) at c.in_ok-extend_from_slice.ensures.items)
     (rw (c.states.ensures.members, c.deref.ensures.value) at c.in_ok-push_window.ensures) c.in_ok-push_mark.ensures
-    c.in_ok-push_needed.ensures (rw c.deref-2.ensures.value at c.in_ok-push_why.ensures) c.in_ok-extend_from_slice-2.ensures.items
+    c.in_ok-push_needed.ensures c.in_ok-push_why.ensures c.in_ok-extend_from_slice-2.ensures.items
