@@ -121,7 +121,7 @@ static uint32_t run_leg(struct bench *b, struct session *session, const tmwatch_
     uint32_t status = tmwatch_open(&b->watch, b->recorders, plan->threads + plan->crashes, &settings);
     if (status == TMWATCH_DONE)
         status = run_watched(b, out);
-    if (b->orders && !b->session->is_stuck)
-        tmwatch_orders_discard(b->orders);
+    if (!b->session->is_stuck)
+        free(b->orders);
     return status;
 }

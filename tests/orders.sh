@@ -145,7 +145,7 @@ mistake 'a transaction that ends makes nothing known' model.c 's/join(&o->ended,
 mistake 'an unlock releases nothing' model.c 's/join(&it->all, knows);//'
 mistake 'a shared lock acquires nothing' model.c 's/        join(&it->alone, knows);/        (void)0;/'
 mistake 'those that share a lock know each other' model.c 's/is_shared ? &it->alone : &it->all/\&it->all/'
-mistake 'a plain store ends no history' model.c '/^void tmwatch_orders_plain_store/,/^}/s/forget_places(.*//'
+mistake 'a plain store ends no history' model.c '/^void tmwatch_orders_plain/,/^}/s/forget_places(.*/(void)0;/'
 mistake 'what is freed is kept' model.c '/^void tmwatch_orders_forget/,/^}/s/forget_places(o, (uintptr_t)at, bytes);//'
 mistake 'an access beyond the table orders nothing' model.c 's/    join(&view->knows, &o->untracked);//'
 mistake 'an access of 16 bytes does not acquire from halves' model.c 's/WORD_BYTES, &view->knows/WORD_BYTES, \&(struct clock){{0}}/'

@@ -106,10 +106,8 @@ TMWATCH_PART void before_plain(const void *at, size_t bytes, bool is_volatile, b
     if (is_seen && (is_volatile || how->has_plain))
         at_step();
     tmwatch_access access = access_to(at, 0, 0);
-    if (access.orders && stores)
-        tmwatch_orders_plain_store(&access, bytes, !is_seen || !is_lasting(at));
-    else if (access.orders && is_lasting(at))
-        tmwatch_orders_plain_load(&access, bytes);
+    if (access.orders)
+        tmwatch_orders_plain(&access, bytes, stores, is_seen && is_lasting(at));
     if (is_seen && (stores || is_forwarded(at, (unsigned)bytes, &value)))
         tmwatch_step_drain();
 }

@@ -59,17 +59,15 @@ void tmwatch_orders_change(const tmwatch_access *access, uint64_t value);
 void tmwatch_orders_fence(const tmwatch_access *access);
 
 /* A plain access: whether it races, unless its bytes may be given back unseen. A store ends the history of its places. */
-void tmwatch_orders_plain_load(const tmwatch_access *access, size_t bytes);
-void tmwatch_orders_plain_store(const tmwatch_access *access, size_t bytes, bool is_passing);
+void tmwatch_orders_plain(const tmwatch_access *access, size_t bytes, bool stores, bool is_lasting);
 
 /* An access of 16 bytes: it acquires and releases, also what its halves do, and their histories end. */
 void tmwatch_orders_wide(const tmwatch_access *access);
 
 /* For the bench and waits.c, which may be linked without it. A memory for a bench that draws from this seed, and whose record has *recorded
-   events; or null. */
+   events, to be freed; or null. */
 #define WEAK __attribute__((weak))
 WEAK tmwatch_simulation *tmwatch_orders_new(uint64_t seed, const atomic_uint_least64_t *recorded, tmwatch_delays *delays);
-WEAK void tmwatch_orders_discard(tmwatch_simulation *orders);
 
 /* Between two rounds: all threads know all. And in this round no load is to be stale, and no store late. */
 WEAK void tmwatch_orders_round(tmwatch_simulation *orders);

@@ -15,13 +15,13 @@ static tmwatch_access plain_at(unsigned thread, const void *at)
 static void loads(unsigned thread, const void *at, size_t size)
 {
     tmwatch_access access = plain_at(thread, at);
-    tmwatch_orders_plain_load(&access, size);
+    tmwatch_orders_plain(&access, size, false, true);
 }
 
 static void stores(unsigned thread, const void *at, size_t size)
 {
     tmwatch_access access = plain_at(thread, at);
-    tmwatch_orders_plain_store(&access, size, false);
+    tmwatch_orders_plain(&access, size, true, true);
 }
 
 /* An operation on a word. */
@@ -415,6 +415,6 @@ int main(void)
     check_full();
     check_wide();
     check_locks();
-    tmwatch_orders_discard(orders);
+    free(orders);
     return 0;
 }

@@ -77,9 +77,9 @@ static void meets_all(void)
     event = LAST;
     loads(2, MISSES, Z, false);
     tmwatch_access stored = {orders, 0, places[NEWER], &plain, sizeof plain, 0}, loaded = {orders, 1, places[LATER], &plain, sizeof plain, 0};
-    tmwatch_orders_plain_store(&stored, sizeof plain, false);
-    tmwatch_orders_plain_load(&loaded, sizeof plain);
-    tmwatch_orders_plain_store(&loaded, sizeof plain, false);
+    tmwatch_orders_plain(&stored, sizeof plain, true, true);
+    tmwatch_orders_plain(&loaded, sizeof plain, false, true);
+    tmwatch_orders_plain(&loaded, sizeof plain, true, true);
     words[X] = 4;
     loads(1, UNSEEN, X, true);
     tmwatch_orders_futex(orders, words, places[UNSEEN]);
@@ -158,6 +158,6 @@ int main(void)
                   "code that the compiler has not marked, or a thread of the memory's own, stores to what is loaded at %7: what that orders is "
                   "not seen, so a violation may be false\n"
                   "a lock or a wait of code that the compiler has not marked, in %7: what that orders is not seen, so a violation may be false\n"));
-    tmwatch_orders_discard(orders);
+    free(orders);
     return 0;
 }

@@ -5,18 +5,12 @@ enum { MOST_LINE = 512 };
 /* Starts addr2line on an address: what it prints, and its number. The program's own name leads to another process's. */
 static FILE *start_addr2line(const struct found *it, pid_t *child)
 {
-    const char *name = it->name[0] ? it->name : "/proc/self/exe";
-    char place[32], file[MOST_LINE];
+    char place[32], file[PATH_MAX];
     char *words[] = {"addr2line", "-Cife", file, place, NULL};
     posix_spawn_file_actions_t actions;
     int ends[2];
     snprintf(place, sizeof place, "0x%llx", (unsigned long long)it->at);
-    ssize_t length = readlink(name, file, sizeof file - 1);
-    if (length > 0)
-        file[length] = '\0';
-    else
-        snprintf(file, sizeof file, "%s", name);
-    if (pipe2(ends, O_CLOEXEC) != 0)
+    if (!realpath(it->name[0] ? it->name : "/proc/self/exe", file) || pipe2(ends, O_CLOEXEC) != 0)
         return NULL;
     posix_spawn_file_actions_init(&actions);
     posix_spawn_file_actions_adddup2(&actions, ends[1], STDOUT_FILENO);
