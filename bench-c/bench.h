@@ -9,7 +9,6 @@
 #include <sched.h>
 #include <semaphore.h>
 #include <signal.h>
-#include <stdatomic.h>
 #include <stdlib.h>
 #include <string.h>
 #include <sys/mman.h>
@@ -125,6 +124,7 @@ struct session {
     const tmwatch_memory *memory;
     const tmwatch_plan *plan; /* as it was given */
     struct worker *workers[MOST_THREADS];
+    unsigned started; /* how many threads it has */
     uint64_t written[MOST_THREADS], looked;
     uint64_t start[MOST_REGISTERS]; /* what the registers hold */
     uint64_t began, shown;          /* when the session began, and when its progress was last shown: microseconds */

@@ -116,11 +116,10 @@ static void add_leg(tmwatch_benched *all, const tmwatch_benched *leg)
 /* Keeps what the registers hold after a leg: whether that is known, by its last look. */
 static bool keep_start(const struct bench *b, uint64_t events)
 {
-    if (events > 0 && !b->kept[(events - 1) % KEPT].looks)
-        return false;
-    for (unsigned reg = 0; reg < b->plan.registers && events > 0; reg++)
-        b->session->start[reg] = value_after(b, events, reg);
-    return true;
+    bool is_known = events == 0 || b->kept[(events - 1) % KEPT].looks;
+    for (unsigned reg = 0; reg < b->plan.registers && is_known; reg++)
+        b->session->start[reg] = start_of_trace(b, events, UINT64_MAX, reg);
+    return is_known;
 }
 
 /* Tells by which plan the end of the run is made again, and whether that is certain: then it goes by steps from the beginning. */

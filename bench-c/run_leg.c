@@ -60,11 +60,8 @@ static bool is_wrong(const tmwatch_plan *plan, const tmwatch_benched *out)
 static uint32_t run_watched(struct bench *b, tmwatch_benched *out)
 {
     run_parts(b, 0, (unsigned)b->plan.threads);
-    judge(b);
-    if (b->restart && !b->session->is_stuck && b->fault == TMWATCH_DONE) {
+    if (b->restart && !b->session->is_stuck && b->fault == TMWATCH_DONE)
         run_parts(b, (unsigned)b->plan.threads, (unsigned)b->plan.threads + 1);
-        judge(b);
-    }
     uint32_t status = close_watch(b, out);
     out->rounds = by_permits(b) ? UINT64_MAX : count_rounds(b, out->told.at);
     out->steps = b->steps.steps;
@@ -110,12 +107,11 @@ static uint32_t run_leg(struct bench *b, struct session *session, const tmwatch_
     b->plan = *plan;
     b->looked = session->looked;
     set_steps(b);
-    if (!start_threads(b))
+    if (!start_threads(session, plan->threads + plan->crashes))
         return TMWATCH_MEMORY;
+    b->workers = session->started;
     if (plan->orders == TMWATCH_CXX && by_steps(b) && !(b->orders = tmwatch_orders_new(plan->seed, &b->steps.recorded, b->delays)))
         return TMWATCH_MEMORY;
-    while (b->workers < MOST_THREADS && session->workers[b->workers])
-        b->workers++;
     tmwatch_settings settings = TMWATCH_SETTINGS(plan->registers);
     memcpy(settings.start, plan->start, sizeof settings.start);
     uint32_t status = tmwatch_open(&b->watch, b->recorders, plan->threads + plan->crashes, &settings);

@@ -3,18 +3,16 @@
 /* How long who waits for the judge, or it for events, lets others run: microseconds. Events of a memory that asks outside come slowly. */
 enum { REST = 50, LONG_REST = 1000 };
 
-/* The C library's, also in a program that wraps it. */
+/* The C library's, also in a program that wraps them. */
 extern int __real_nanosleep(const struct timespec *time, struct timespec *left) __attribute__((weak));
+extern int __real_sem_wait(sem_t *semaphore) __attribute__((weak));
+extern int __real_sem_post(sem_t *semaphore) __attribute__((weak));
 
 static void nap(long microseconds)
 {
     struct timespec time = {0, microseconds * 1000};
     (__real_nanosleep ? __real_nanosleep : nanosleep)(&time, NULL);
 }
-
-/* The C library's semaphores, also in a program that wraps them. */
-extern int __real_sem_wait(sem_t *semaphore) __attribute__((weak));
-extern int __real_sem_post(sem_t *semaphore) __attribute__((weak));
 
 static void await(sem_t *semaphore)
 {

@@ -12,13 +12,6 @@ static uint64_t first_of_trace(const struct bench *b, uint64_t at, uint64_t even
     return found;
 }
 
-/* What register `reg` held after the look that ends before event `from`. */
-static uint64_t value_after(const struct bench *b, uint64_t from, unsigned reg)
-{
-    uint64_t answer = from - 1 - 2 * (b->plan.registers - reg);
-    return b->kept[answer % KEPT].value;
-}
-
 static void write_event(FILE *file, const struct kept *event)
 {
     fprintf(file, "%u %c", (unsigned)event->thread, event->letter);
@@ -32,7 +25,8 @@ static void write_event(FILE *file, const struct kept *event)
 /* What register `reg` holds when a trace begins there: what a look that ends there has read, or the run's start. */
 static uint64_t start_of_trace(const struct bench *b, uint64_t from, uint64_t at, unsigned reg)
 {
-    return from == 0 || from == at ? b->plan.start[reg] : value_after(b, from, reg);
+    uint64_t answer = from - 1 - 2 * (b->plan.registers - reg);
+    return from == 0 || from == at ? b->plan.start[reg] : b->kept[answer % KEPT].value;
 }
 
 static void write_header(const struct bench *b, uint64_t from, uint64_t at)

@@ -88,9 +88,10 @@ static bool is_forwarded(const volatile void *at, unsigned bytes, uint64_t *valu
     return is_same;
 }
 
-/* An access that is made there in the program: its orders are null if it isn't simulated. */
-TMWATCH_PART tmwatch_access access_to(const volatile void *at, unsigned bytes, int order)
+/* A step, and the access that is made there in the program: its orders are null if it isn't simulated. */
+TMWATCH_PART tmwatch_access step_to(const volatile void *at, unsigned bytes, int order)
 {
+    at_step();
     return (tmwatch_access){tmwatch_step_orders(), tmwatch_thread(), TMWATCH_CALLER, at, bytes, order};
 }
 
@@ -105,7 +106,7 @@ TMWATCH_PART void before_plain(const void *at, size_t bytes, bool is_volatile, b
         return;
     if (is_seen && (is_volatile || how->has_plain))
         at_step();
-    tmwatch_access access = access_to(at, 0, 0);
+    tmwatch_access access = {tmwatch_step_orders(), tmwatch_thread(), TMWATCH_CALLER, at, 0, 0};
     if (access.orders)
         tmwatch_orders_plain(&access, bytes, stores, is_seen && is_lasting(at));
     if (is_seen && (stores || is_forwarded(at, (unsigned)bytes, &value)))
@@ -159,9 +160,8 @@ void *__tsan_memset(void *to, int byte, size_t bytes)
     {                                                                           \
         uint64_t held;                                                          \
         volatile type older, *to = at;                                          \
-        at_step();                                                              \
+        tmwatch_access access = step_to(at, sizeof(type), order);               \
         tmwatch_step_drain();                                                   \
-        tmwatch_access access = access_to(at, sizeof(type), order);             \
         if (access.orders && !tmwatch_orders_take(&access, &held)) {            \
             older = (type)held;                                                 \
             to = &older;                                                        \
@@ -175,9 +175,8 @@ void *__tsan_memset(void *to, int byte, size_t bytes)
     TMWATCH_PART bool compare_##bits(volatile type *at, type *held, type value, int order, int failed, bool is_weak)                  \
     {                                                                                                                                 \
         uint64_t loaded = *held;                                                                                                      \
-        at_step();                                                                                                                    \
+        tmwatch_access access = step_to(at, sizeof(type), order);                                                                     \
         tmwatch_step_drain();                                                                                                         \
-        tmwatch_access access = access_to(at, sizeof(type), order);                                                                   \
         enum tmwatch_compared how = access.orders ? tmwatch_orders_compare(&access, &loaded, failed, is_weak) : TMWATCH_TAKES_NEWEST; \
         bool is_done = how != TMWATCH_FAILS;                                                                                          \
         if (how == TMWATCH_TAKES_NEWEST)                                                                                              \
@@ -206,16 +205,14 @@ void *__tsan_memset(void *to, int byte, size_t bytes)
     type __tsan_atomic##bits##_load(const volatile type *at, int order)                                \
     {                                                                                                  \
         uint64_t value;                                                                                \
-        at_step();                                                                                     \
-        tmwatch_access access = access_to(at, sizeof(type), order);                                    \
+        tmwatch_access access = step_to(at, sizeof(type), order);                                      \
         if (access.orders)                                                                             \
             return (type)tmwatch_orders_load(&access);                                                 \
         return is_forwarded(at, sizeof(type), &value) ? (type)value : __atomic_load_n(at, SEQUENTIAL); \
     }                                                                                                  \
     void __tsan_atomic##bits##_store(volatile type *at, type value, int order)                         \
     {                                                                                                  \
-        at_step();                                                                                     \
-        tmwatch_access access = access_to(at, sizeof(type), order);                                    \
+        tmwatch_access access = step_to(at, sizeof(type), order);                                      \
         if (access.orders && !tmwatch_orders_store(&access, value))                                    \
             return;                                                                                    \
         if (is_buffered(at, order)) {                                                                  \
@@ -245,8 +242,7 @@ ATOMICS(64, uint64_t)
 /* All comes out at a sequentially consistent fence, and at no weaker one. */
 void __tsan_atomic_thread_fence(int order)
 {
-    at_step();
-    tmwatch_access access = access_to(NULL, 0, order);
+    tmwatch_access access = step_to(NULL, 0, order);
     if (access.orders)
         tmwatch_orders_fence(&access);
     if (order == SEQUENTIAL)

@@ -1,6 +1,4 @@
 /* What the instrumented library, waits.c and the bench call of orders.c: the orders of C++20 by simulation. */
-#ifndef ORDERS_H
-#define ORDERS_H
 #include <stdatomic.h>
 #include <stdbool.h>
 #include <stddef.h>
@@ -100,4 +98,3 @@ WEAK void tmwatch_orders_tell_delay(const tmwatch_delay *delay, char *text, size
 WEAK uint64_t tmwatch_orders_tell_unseen(const tmwatch_simulation *orders, FILE *file, bool is_wrong);
 
 #undef WEAK
-#endif

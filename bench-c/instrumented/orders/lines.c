@@ -36,13 +36,8 @@ static bool read_line(FILE *file, char line[MOST_LINE])
     return true;
 }
 
-/* Whether a line of the source only passes the access on: of the standard libraries of C++ and Rust, or of tmwatch::sync. */
-static bool is_wrapper(const char *line)
-{
-    return strstr(line, "/include/c++/") || strstr(line, "/src/sync/atomic.rs:");
-}
-
-/* Prints where an address is in the program: the function and the line, or the address if these aren't known. */
+/* Prints where an address is in the program: the function and the line, or the address if these aren't known. A line of the standard libraries
+   of C++ and Rust, or of tmwatch::sync, only passes the access on. */
 static void print_place(FILE *to, const void *address)
 {
     struct found it = {(uintptr_t)address - 1, "", false};
@@ -53,8 +48,9 @@ static void print_place(FILE *to, const void *address)
         return;
     }
     FILE *printed = start_addr2line(&it, &child);
-    while (printed && read_line(printed, function) && read_line(printed, line) && is_wrapper(line))
-        ;
+    bool is_passed_on = printed != NULL;
+    while (is_passed_on && read_line(printed, function) && read_line(printed, line))
+        is_passed_on = strstr(line, "/include/c++/") || strstr(line, "/src/sync/atomic.rs:");
     if (printed) {
         fclose(printed);
         waitpid(child, NULL, 0);
