@@ -23,8 +23,7 @@ static bool is_start(const tmwatch_plan *plan, uint64_t value)
     return false;
 }
 
-/* A value that no register began with and nobody else writes. Of all 64 bits none comes twice, since the factor is odd. Looks have the other
-   half of those numbers. */
+/* A value that no register began with and nobody else writes: no number comes twice, as the factor is odd. Looks have the other half of all. */
 static uint64_t fresh_value(tmwatch_attempt *a)
 {
     const tmwatch_plan *plan = &a->bench->plan;

@@ -1,6 +1,5 @@
 /* The judge: it judges what the threads record until they end, the time is up, or nothing comes for too long. */
 
-/* Set by tmwatch_bench_end. */
 static atomic_bool is_interrupted;
 
 void tmwatch_bench_end(void)
@@ -32,8 +31,7 @@ static uint64_t judge_some(struct bench *b)
     return judged;
 }
 
-/* A look at the time counts for no more than MOST_WAITED, so that what stops the whole process, as a debugger, isn't taken for a wait. An
-   interrupt waits for no more than half a second. */
+/* A look at the time counts for MOST_WAITED at most, so that a debugger's stop is no wait. An interrupt waits for half a second at most. */
 enum { MOST_WAITED = SECOND / 10, SHOWN_EACH = SECOND / 2, INTERRUPTED_WAIT = SECOND / 2 };
 
 static void show_progress(struct bench *b, uint64_t now)
@@ -51,8 +49,7 @@ static void show_progress(struct bench *b, uint64_t now)
     fflush(b->plan.progress);
 }
 
-/* Judges until all threads have ended, and then what is left; or until nothing has come for too long. Meanwhile it looks whether the leg's time
-   is up, or that of all. */
+/* Judges until all threads have ended, or nothing has come for too long, and then what is left. Meanwhile it looks whether a time is up. */
 static void judge(struct bench *b)
 {
     uint64_t began = microseconds_of(CLOCK_MONOTONIC), looked = began, moved = 0;

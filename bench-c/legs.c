@@ -1,9 +1,8 @@
 /* A plan is run: in one leg, or by all schedules in several. Here is which leg goes how, and why.
 
    The first STEPS_LEGS go by steps, so that what they find comes with words that repeat it. Then CYCLE legs come again and again: one in
-   rounds and one by permits, for a tenth of a second at most, and all others by steps, which take about half as long. So steps, which find
-   most and soonest, have nine tenths of the time; what only processors do, as to let two threads meet between two steps, is found by the
-   rest. If the memory has no step of its own, steps find little more than calls that overlap, so that only one leg in four goes by them.
+   rounds, one by permits, and all others by steps. So steps, which find most and soonest, have nine tenths of the time; what only processors
+   do, as to let two threads meet between two steps, is found by the rest. If the memory has no step of its own, one leg in four goes by them.
 
    If the memory asks elsewhere, its rounds may be slow, so legs go by time: the first ones by steps end with one that has taken SLOW_LEG, later
    ones take LATER_LEG, and those in rounds or by permits twice as long as the last one by steps. What is made again goes by rounds.
@@ -68,7 +67,6 @@ static tmwatch_plan next_plan(const struct session *session, uint64_t leg, uint6
     return it;
 }
 
-/* How many microseconds a leg may take; 0: any time. */
 static uint64_t time_of_leg(const struct session *session, uint64_t schedule)
 {
     if (session->plan->schedule != TMWATCH_ALL || (schedule == TMWATCH_STEPS && session->plan->round > 0))
@@ -140,14 +138,13 @@ static void set_again(struct session *session, const tmwatch_plan *plan, uint64_
     all->is_certain = has_steps && is_given && all->rescues == 0 && all->waits == 0 && !plan->goes_on;
 }
 
-static void print_leg(FILE *file, uint64_t leg, const tmwatch_plan *plan)
+static void print_leg(FILE *file, uint64_t leg, tmwatch_plan plan)
 {
-    tmwatch_plan it = *plan;
     if (!file)
         return;
-    it.seconds = 0;
+    plan.seconds = 0;
     fprintf(file, "leg %" PRIu64 ": ", leg);
-    tmwatch_bench_words(file, &it);
+    tmwatch_bench_words(file, &plan);
     fputc('\n', file);
 }
 
@@ -166,7 +163,7 @@ static uint32_t run_legs(struct session *session)
         tmwatch_plan it = next_plan(session, leg, &draws);
         b->most_time = time_of_leg(session, it.schedule);
         b->delays = leg == 0 && session->second_runs ? &session->second_runs->delays : NULL;
-        print_leg(plan->legs, leg + 1, &it);
+        print_leg(plan->legs, leg + 1, it);
         uint64_t began = microseconds_of(CLOCK_MONOTONIC), before = all->told.events;
         status = run_leg(b, session, &it, &out);
         add_leg(all, &out);

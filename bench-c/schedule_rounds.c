@@ -12,8 +12,7 @@ static void end_round(tmwatch_attempt *a, uint64_t round)
     b->is_over = b->is_over || b->rejected.made > 0;
 }
 
-/* Waits for all threads: whether another round follows, as the last of them to come has decided. If the memory asks outside, the thread
-   sleeps: what is asked needs the processors. */
+/* Waits for all threads: whether another round follows. If the memory asks outside, the thread sleeps: what is asked needs the processors. */
 static bool meet(tmwatch_attempt *a)
 {
     struct bench *b = a->bench;

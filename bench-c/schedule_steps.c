@@ -66,8 +66,7 @@ static void lock_as_runner(tmwatch_attempt *a)
     }
 }
 
-/* A step of this thread: in the memory with so many pauses, or beside a call with none. It may hand over: by walk to any, by priorities to the
-   highest, which may be this thread still. */
+/* A step of this thread: in the memory with so many pauses, beside a call with none. It may hand over: to any, or to the highest, as itself. */
 static void step(tmwatch_attempt *a, unsigned pauses)
 {
     struct steps *s = &a->bench->steps;

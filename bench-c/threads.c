@@ -37,7 +37,7 @@ static void *work(void *argument)
     return NULL;
 }
 
-/* Starts what threads a leg of so many lacks: whether it has all. Each has bytes for the memory, apart from others', so that none slows them. */
+/* Starts what threads a leg of so many lacks: whether it has all. Bytes that the memory has for one lie apart, so that none slows another. */
 static bool start_threads(struct session *session, uint64_t threads)
 {
     for (; session->started < threads; session->started++) {

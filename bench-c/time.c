@@ -1,7 +1,7 @@
 /* Waiting: naps and semaphores; and what a clock has counted. */
 
 /* How long who waits for the judge, or it for events, lets others run: microseconds. Events of a memory that asks outside come slowly. */
-enum { REST = 50, LONG_REST = 1000 };
+enum { REST = 50, LONG_REST = 1000, MOST_ACCESS = 10000 /* what an access takes at most that is under way */ };
 
 /* The C library's, also in a program that wraps them. */
 extern int __real_nanosleep(const struct timespec *time, struct timespec *left) __attribute__((weak));
@@ -25,7 +25,6 @@ static void post(sem_t *semaphore)
     (__real_sem_post ? __real_sem_post : sem_post)(semaphore);
 }
 
-/* What this clock has counted, in microseconds. */
 static uint64_t microseconds_of(clockid_t clock)
 {
     struct timespec time = {0, 0};

@@ -1,7 +1,6 @@
 /* The trace of the run's end, and the steps of its round. */
 
-/* Where the trace of the first `at` events begins: at 0 or after a look that is kept, as late as it may if something is wrong, else as
-   early. If there is none, the trace is empty. */
+/* Where the trace of the first `at` events begins: at 0, or after a kept look: if something is wrong the last, else the first; or at `at`. */
 static uint64_t first_of_trace(const struct bench *b, uint64_t at, uint64_t events, bool is_wrong)
 {
     uint64_t look_events = 2 * b->plan.registers + 2;

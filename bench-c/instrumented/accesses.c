@@ -95,8 +95,7 @@ TMWATCH_PART tmwatch_access step_to(const volatile void *at, unsigned bytes, int
     return (tmwatch_access){tmwatch_step_orders(), tmwatch_thread(), TMWATCH_CALLER, at, bytes, order};
 }
 
-/* Before a plain access of so many bytes; what is stored isn't known. Where nothing shows when a block is given back, no race is looked for in
-   it. */
+/* Before a plain access; what is stored isn't known. No race is looked for in a block if nothing shows when that is given back. */
 TMWATCH_PART void before_plain(const void *at, size_t bytes, bool is_volatile, bool stores)
 {
     uint64_t value;
@@ -153,8 +152,7 @@ void *__tsan_memset(void *to, int byte, size_t bytes)
     return memset(to, byte, bytes);
 }
 
-/* What isn't simulated is sequentially consistent. What is, and changes an older store than the newest, leaves memory alone. All that was
-   stored comes out before. */
+/* All that was stored comes out before. What isn't simulated is sequentially consistent; what changes an older store leaves memory alone. */
 #define CHANGE(bits, type, name, op)                                            \
     type __tsan_atomic##bits##_##name(volatile type *at, type value, int order) \
     {                                                                           \

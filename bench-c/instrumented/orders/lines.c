@@ -36,8 +36,7 @@ static bool read_line(FILE *file, char line[MOST_LINE])
     return true;
 }
 
-/* Prints where an address is in the program: the function and the line, or the address if these aren't known. A line of the standard libraries
-   of C++ and Rust, or of tmwatch::sync, only passes the access on. */
+/* Prints an address as function and line, if these are known. Lines of the libraries of C++ and Rust, or tmwatch::sync, pass accesses on. */
 static void print_place(FILE *to, const void *address)
 {
     struct found it = {(uintptr_t)address - 1, "", false};

@@ -1,10 +1,8 @@
 /* The model: what a load may return, where a store goes, and what is known then. */
 
-/* Of 16, how many choices are not the newest, if they may be; a thread that has loaded so many stale values in a row from one place gets the
-   newest. */
+/* Of 16, how many choices are not the newest, if they may be; after so many stale loads in a row of one place, a thread gets the newest. */
 enum { ODDS = 16, LATE_ODDS = 4, MOST_STALE = 8 };
 
-/* This thread at its next step. */
 static struct view *next_step(tmwatch_simulation *o, unsigned thread)
 {
     struct view *it = &o->views[thread];
@@ -180,13 +178,12 @@ void tmwatch_orders_change(const tmwatch_access *a, uint64_t value)
 
 void tmwatch_orders_fence(const tmwatch_access *a)
 {
-    tmwatch_simulation *o = a->orders;
-    struct view *view = next_step(o, a->thread);
+    struct view *view = next_step(a->orders, a->thread);
     if (acquires(a->order))
         join(&view->knows, &view->loaded);
     follow_fence(a);
     if (a->order == SEQUENTIAL)
-        settle_fence(o, a->thread);
+        settle_fence(a->orders, a->thread);
     if (releases(a->order))
         view->fenced = view->knows;
 }

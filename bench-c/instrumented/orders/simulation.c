@@ -56,10 +56,9 @@ struct met {
     const void *stored, *loaded;
 };
 
-/* An access that wasn't of the newest store: by whom and where, who has made the store after it, how many events preceded; and what was read
-   before of that thread, if that was stored later. */
+/* An access of an older store than the newest: by whom and where, who has made the next one; and what later store of that was read before. */
 struct deviation {
-    uint64_t event;
+    uint64_t event; /* how many events preceded */
     const void *caller, *other;
     struct met met;
     uint8_t kind, thread, other_thread;
@@ -194,23 +193,20 @@ static struct place *look_up(tmwatch_simulation *o, uintptr_t at, unsigned bytes
     return NULL;
 }
 
-/* Something was met that isn't simulated. */
 static void meet_unseen(tmwatch_simulation *o, enum unseen kind, const void *caller)
 {
     if (o->unseen[kind]++ == 0)
         o->unseen_caller[kind] = caller;
 }
 
-/* The place of an access, or null. Memory holds its newest store: if it holds something else, a store that isn't simulated has come, and the
-   history is forgotten. */
+/* The place of an access, or null. If memory doesn't hold its newest store, one that isn't simulated has come, and the history is forgotten. */
 static struct place *find_place(const tmwatch_access *a)
 {
     tmwatch_simulation *o = a->orders;
     uintptr_t at = (uintptr_t)a->at;
     uint64_t newest = in_memory(a->at, a->bytes);
     struct place *it = look_up(o, at, a->bytes);
-    if (!it)
-        it = add_place(o, at, a->bytes);
+    it = it ? it : add_place(o, at, a->bytes);
     if (!it || (it->count > 0 && it->stores[it->count - 1].value == newest))
         return it;
     if (it->count > 0)
