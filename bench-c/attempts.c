@@ -3,6 +3,10 @@
 /* The thread of a bench that is this one. */
 static _Thread_local tmwatch_attempt *this_thread;
 
+static void step(tmwatch_attempt *a, unsigned pauses);
+static bool gives_up(tmwatch_attempt *a);
+static void look_if_due(tmwatch_attempt *a);
+
 /* Stops the bench, since the watch has answered what wasn't to be. */
 static void stop(struct bench *b, uint32_t status)
 {
@@ -10,8 +14,6 @@ static void stop(struct bench *b, uint32_t status)
     atomic_compare_exchange_strong(&b->fault, &none, status);
     b->stops = true;
 }
-
-static void step(tmwatch_attempt *a, unsigned pauses);
 
 /* One time in two a few turns, and one in 64 another thread's turn, unless calls give it anyway; by steps, a step. Nobody is met in a look. */
 static void pause_sometimes(tmwatch_attempt *a, unsigned pauses)
@@ -144,8 +146,6 @@ static void wait_for_room(tmwatch_attempt *a)
         stop(b, status);
 }
 
-static bool gives_up(tmwatch_attempt *a);
-
 /* Whether a further attempt may begin. By permits it takes one, so others record seven at most; and it is put off for a look that is due. */
 static bool may_begin(tmwatch_attempt *a)
 {
@@ -248,8 +248,6 @@ static bool run_once(const tmwatch_memory *m, tmwatch_attempt *a)
         m->abort(m->memory, a->tx);
     return false;
 }
-
-static void look_if_due(tmwatch_attempt *a);
 
 /* Makes the thread's transaction, until it has ended or no attempt is left. A `run` that begins none makes none. */
 static void make_transaction(tmwatch_attempt *a)

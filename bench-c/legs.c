@@ -7,10 +7,9 @@
    If the memory asks elsewhere, its rounds may be slow, so legs go by time: the first ones by steps end with one that has taken SLOW_LEG, later
    ones take LATER_LEG, and those in rounds or by permits twice as long as the last one by steps. What is made again goes by rounds.
 
-   One leg in two has the usual numbers and another seed. In the others all is drawn, since what one memory needs another doesn't.
-
-   With libtmwatch_steps.a one leg by steps in four has delayed stores, one in four the orders of C++20, and one in eight plain accesses that
-   are steps too: each finds what the others can't, and finds all else more slowly. */
+   One leg in two has the usual numbers and another seed. In the others all is drawn, since what one memory needs another doesn't. With
+   libtmwatch_steps.a one leg by steps in four has delayed stores, one in four the orders of C++20, and one in eight plain accesses that are
+   steps too: each finds what the others can't, and finds all else more slowly. */
 enum { CYCLE = 20, FEW_STEPS_CYCLE = 4, LEG_MICROSECONDS = SECOND / 10, SLOW_LEG = 5 * SECOND, LATER_LEG = SECOND };
 enum { USUAL_LEGS = 2, ORDERED_LEGS = 4, PLAIN_LEGS = 8 };
 

@@ -96,7 +96,6 @@ static void step(tmwatch_attempt *a, unsigned pauses)
     wait_turn(a);
 }
 
-/* Whether this thread goes by steps beside others. */
 static bool is_beside_others(void)
 {
     return this_thread && by_steps(this_thread->bench) && !this_thread->looks;

@@ -182,7 +182,7 @@ mistake 'what came after the violation is counted' findings.c 's/other->event < 
 mistake 'the same is told again' findings.c 's/        if (found != i)/        if (false)/'
 mistake 'a store too few is missed' findings.c 's/(unsigned)it->newer - 1)/(unsigned)it->newer)/'
 mistake 'a late store is a stale load' findings.c 's/it->kind == STALE_LOAD ? "  stale/true ? "  stale/'
-mistake 'what is not simulated is told of a right run' findings.c 's/!is_wrong || o->unseen\[i\] == 0/o->unseen[i] == 0/'
+mistake 'what is not simulated is told of a right run' findings.c 's/!is_wrong || !o->unseen\[i\]/!o->unseen[i]/'
 mistake 'the last race is told' races.c 's/if (!a->orders->has_race)$/if (true)/;s/ \&\& !a->orders->has_race; i++/; i++/'
 mistake 'an address is one call later' lines.c 's/(uintptr_t)address - 1/(uintptr_t)address/'
 mistake 'the line is the function' lines.c 's/folder ? folder + 1 : line, function/folder ? folder + 1 : line, line/'

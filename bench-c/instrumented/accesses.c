@@ -1,13 +1,12 @@
 /* A step at each access of a memory that its compiler has marked by -fsanitize=thread and that is linked without that sanitizer: no pause
-   has to be placed by hand. The compiler calls the functions here in place of each atomic access, and before each other one.
+   has to be placed by hand. The compiler calls the functions here in place of each atomic access, and before each other one. By the orders of
+   C++20, orders.c says what each does.
 
    With drawn buffers, an atomic store that isn't sequentially consistent may stay in its thread's buffer for some steps, as in the store
    buffers of x86 (Sewell, Sarkar, Owens, Zappa Nardelli and Myreen, CACM 2010): the stores of a thread come out in their order, a read of
    the thread sees them, and they are out before a read-modify-write, a sequentially consistent store or fence, a plain store to what other
    threads may see, and each recorded event. Loads aren't reordered. Of a thread's own bytes nothing is buffered, since what is stored to
-   them without a mark, as at the end of a function, would be overtaken; nor of a block that may be given back unseen.
-
-   By the orders of C++20, orders.c says what each access does. */
+   them without a mark, as at the end of a function, would be overtaken; nor of a block that may be given back unseen. */
 #include "step.h"
 #include <string.h>
 

@@ -66,23 +66,22 @@ void tmwatch_lock_returning(const volatile void *lock)
     }
 /* A lock or a semaphore is tried, or taken. By steps a thread tries until it is free, or no other thread is able to run: a time is over then,
    with the status that says so, and without one that is left to the C library. */
-#define LOCK(name, try_name, lock_type, is_shared)                                         \
-    WRAPPED(int, try_name, lock_type *lock)                                                \
-    {                                                                                      \
-        is_stepped();                                                                      \
-        return has_locked(__real_##try_name(lock), lock, is_shared);                       \
-    }                                                                                      \
-    __attribute__((weak)) int __real_##name(lock_type *lock);                              \
-    static int name##_by_steps(lock_type *lock, int over)                                  \
-    {                                                                                      \
-        int status;                                                                        \
-        bool is_alone = false;                                                             \
-        while (is_held(status = __real_##try_name(lock)) && !is_alone)                     \
-            is_alone = tmwatch_step_wait((const void *)lock, false) == TMWATCH_STEP_ALONE; \
-        if (is_held(status))                                                               \
-            status = over ? (errno = ETIMEDOUT, over) : __real_##name(lock);               \
-        return has_locked(status, lock, is_shared);                                        \
-    }                                                                                      \
+#define LOCK(name, try_name, lock_type, is_shared)                                                    \
+    WRAPPED(int, try_name, lock_type *lock)                                                           \
+    {                                                                                                 \
+        is_stepped();                                                                                 \
+        return has_locked(__real_##try_name(lock), lock, is_shared);                                  \
+    }                                                                                                 \
+    __attribute__((weak)) int __real_##name(lock_type *lock);                                         \
+    static int name##_by_steps(lock_type *lock, int over)                                             \
+    {                                                                                                 \
+        int status;                                                                                   \
+        while (is_held(status = __real_##try_name(lock)) && tmwatch_lock_awaited((const void *)lock)) \
+            ;                                                                                         \
+        if (is_held(status))                                                                          \
+            status = over ? (errno = ETIMEDOUT, over) : __real_##name(lock);                          \
+        return has_locked(status, lock, is_shared);                                                   \
+    }                                                                                                 \
     STEPPED(int, return, name, (lock), name##_by_steps(lock, 0), lock_type *lock)
 #define UNTIL const struct timespec *until
 #define TIMED(name, lock_name, lock_type, over) \

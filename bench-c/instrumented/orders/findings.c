@@ -120,11 +120,11 @@ uint64_t tmwatch_orders_tell_unseen(const tmwatch_simulation *o, FILE *file, boo
                                          "a lock or a wait of code that the compiler has not marked, in "};
     uint64_t kinds = 0;
     for (unsigned i = 0; i < UNSEEN_KINDS; i++) {
-        kinds |= (uint64_t)(o->unseen[i] > 0) << i;
-        if (!is_wrong || o->unseen[i] == 0)
+        kinds |= (uint64_t)(o->unseen[i] != NULL) << i;
+        if (!is_wrong || !o->unseen[i])
             continue;
         fputs(unseen[i], file);
-        print_place(file, o->unseen_caller[i]);
+        print_place(file, o->unseen[i]);
         fputs(": what that orders is not seen, so a violation may be false\n", file);
     }
     return kinds;

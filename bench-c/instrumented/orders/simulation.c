@@ -116,10 +116,10 @@ struct tmwatch_simulation {
     struct clock made; /* the last sequentially consistent operations that come before who comes after this access */
     struct place *taken; /* of the read-modify-write that is under way: its place, or null, and which store it has read */
     unsigned taken_store;
-    uint64_t draws, deviated, unseen[UNSEEN_KINDS];
+    uint64_t draws, deviated;
     uint32_t round;
     const atomic_uint_least64_t *recorded;
-    const void *unseen_caller[UNSEEN_KINDS];
+    const void *unseen[UNSEEN_KINDS]; /* where each was first met, or null */
     bool has_race;
     struct race race;
     tmwatch_delays *delays; /* or null: none is looked for */
@@ -195,8 +195,8 @@ static struct place *look_up(tmwatch_simulation *o, uintptr_t at, unsigned bytes
 
 static void meet_unseen(tmwatch_simulation *o, enum unseen kind, const void *caller)
 {
-    if (o->unseen[kind]++ == 0)
-        o->unseen_caller[kind] = caller;
+    if (!o->unseen[kind])
+        o->unseen[kind] = caller;
 }
 
 /* The place of an access, or null. If memory doesn't hold its newest store, one that isn't simulated has come, and the history is forgotten. */
