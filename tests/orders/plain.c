@@ -398,6 +398,15 @@ static void check_locks(void)
     CHECK(makes(1, READ, Y, 0, RELAXED) == 1);
 }
 
+/* The generator's numbers, as its authors' program prints them for this seed. */
+static void check_draws(void)
+{
+    static const uint64_t all[] = {6457827717110365317u, 3203168211198807973u, 9817491932198370423u, 4593380528125082431u, 16408922859458223821u};
+    uint64_t draws = 1234567;
+    for (unsigned i = 0; i < sizeof all / sizeof all[0]; i++)
+        CHECK(draw_below(&draws, 1u << 31) == all[i] >> 33);
+}
+
 int main(void)
 {
     orders = tmwatch_orders_new(5, &recorded, NULL);
@@ -415,6 +424,7 @@ int main(void)
     check_full();
     check_wide();
     check_locks();
+    check_draws();
     free(orders);
     return 0;
 }
