@@ -80,7 +80,8 @@ for name in norec tl2 versions undo locks readers sequence jumping mutex; do
     ends "$name by steps, another seed" 0 run_by_steps two "$folder/$name" --seed 2
     ends "$name: another trace" 1 cmp -s "$folder/one" "$folder/two"
 done
-ends 'a mutex that the bench does not see' 0 "$folder/mutex_unseen" --schedule steps --rounds 20
+# (each look whether a thread sleeps gives its file back)
+ends 'a mutex that the bench does not see' 0 sh -c 'ulimit -n 40 && exec "$@"' sh "$folder/mutex_unseen" --schedule steps --rounds 20
 has_told 'a mutex that the bench does not see: rescues' '"rescues":[1-9]'
 
 # A memory that asks elsewhere, and says so.
@@ -270,6 +271,10 @@ done
 paused threads tests/c/bench_threads.c NONE
 ends 'the threads of six legs' 0 "$folder/threads" --rounds 6000
 has_told 'the threads of six legs: how many' '^[2-8] threads$'
+# A thread that sleeps for less than a rescue takes, again and again, is not taken for one that is blocked.
+paused sleeping tests/c/bench_threads.c NONE -DSLEEP=20
+ends 'a thread that sleeps often' 0 "$folder/sleeping" --schedule steps --rounds 12 --threads 2 --mixes 100
+has_told 'a thread that sleeps often: no rescue' '"rescues":0,'
 
 # What only more than four registers show is found by default too.
 paused stripes tests/c/bench_stripes.c NONE
@@ -411,13 +416,15 @@ done
 # What a thread stores to its own bytes, or to a block that is given back, is not overtaken.
 for compiler in "${compilers[@]}"; do
     has $compiler "own bytes, by $compiler" || continue
-    unpaused litmus $compiler tests/c/bench_litmus.c NONE
+    unpaused litmus $compiler tests/c/bench_litmus.c NONE -DWIDE -mcx16
     ends "litmus tests by $compiler" 0 "$folder/litmus"
-    for kind in TX LOCAL HEAP GROWN REGISTERED; do
+    for kind in TX LOCAL HEAP GROWN REGISTERED ASSIGNED; do
         unpaused "own_$kind" $compiler tests/c/bench_own.c NONE -DKIND=$kind
         ends "own bytes, $kind, by $compiler" 0 "$folder/own_$kind" --schedule steps --rounds 2000 --orders x86
         ends "own bytes, $kind, by $compiler, in several legs" 0 "$folder/own_$kind" --rounds 3000
     done
+    ends "own bytes, $kind, by $compiler, c++" 0 "$folder/own_$kind" --schedule steps --rounds 500 --orders c++
+    has_told "own bytes, $kind, by $compiler, c++: all is seen" '"rounds":500,"steps":[0-9]*,"switches":[0-9]*}$'
 done
 for compiler in g++ clang++; do
     [ ${#flags[@]} -eq 0 ] && has $compiler "a class without a pause, by $compiler" || continue
