@@ -68,7 +68,8 @@ timed_legs() {
 }
 
 # The same seed gives the same trace, on one processor and on several; another seed another one.
-few=0 many=0-$(($(nproc) - 1))
+many=$(processors)
+few=${many%%[-,]*}
 run_by_steps() {
     "${@:2}" --schedule steps --rounds 2000 --trace "$folder/$1" >"$folder/printed"
     grep -q '"rescues":0,' "$folder/printed"
@@ -137,7 +138,7 @@ done
 paused versions_O0 tests/c/bench_versions.c AGAIN -O0
 ends 'without optimization, again' 1 "$folder/versions_O0" "${words[@]}" --trace "$folder/two"
 ends 'without optimization: the same trace' 0 cmp "$folder/one" "$folder/two"
-if [ ${#flags[@]} -eq 0 ] && has gdb 'a stop before the round'; then
+if [ ${#flags[@]} -eq 0 ] && has_debugger 'a stop before the round'; then
     printf '%s\n' 'set pagination off' 'set breakpoint pending on' 'set disable-randomization off' 'break tmwatch_break' \
         "run ${words[*]} --trace $folder/two" 'print this_thread->bench->round' 'break commit' continue 'next' 'delete' continue \
         >"$folder/stops"

@@ -118,7 +118,7 @@ stops() {
     stops_after $((at - 1)) "${words[@]}" --event "$event"
     stops_after $((at - event)) "${words[@]}"
 }
-if [ ${#flags[@]} -eq 0 ] && has gdb 'a stop before the wrong event'; then
+if [ ${#flags[@]} -eq 0 ] && has_debugger 'a stop before the wrong event'; then
     for seed in 5 8; do
         ends "stops before the wrong event and its round, seed $seed" 0 stops $seed
     done
