@@ -33,8 +33,8 @@ static uint64_t judge_some(struct bench *b)
 }
 
 /* A look at the time counts for no more than MOST_WAITED, so that what stops the whole process, as a debugger, isn't taken for a wait. An
-   interrupt waits for no more than half a second. */
-enum { MOST_WAITED = SECOND / 10, SHOWN_EACH = SECOND / 2, INTERRUPTED_WAIT = SECOND / 2 };
+   interrupt waits for no more than half a second. Then a look counts for less, so that neither is a load under which looks come late. */
+enum { MOST_WAITED = SECOND / 10, SHOWN_EACH = SECOND / 2, INTERRUPTED_WAIT = SECOND / 2, INTERRUPTED_LOOK = SECOND / 500 };
 
 static void show_progress(struct bench *b, uint64_t now)
 {
@@ -61,11 +61,12 @@ static void judge(struct bench *b)
         if (judged == 0)
             nap(b->has_asked ? LONG_REST : REST);
         uint64_t now = microseconds_of(CLOCK_MONOTONIC), passed = now - looked, moved_before = moved;
+        uint64_t most = is_interrupted ? INTERRUPTED_LOOK : MOST_WAITED;
         looked = now;
         if (by_steps(b))
             watch_steps(b, now);
         moved = b->round + b->attempted + b->ended;
-        b->idle = judged > 0 || moved != moved_before ? 0 : b->idle + (passed < MOST_WAITED ? passed : MOST_WAITED);
+        b->idle = judged > 0 || moved != moved_before ? 0 : b->idle + (passed < most ? passed : most);
         b->session->is_stuck = failure || (is_interrupted && b->idle >= INTERRUPTED_WAIT) ||
                                (b->plan.patience > 0 && b->idle / SECOND >= b->plan.patience);
         show_progress(b, now);

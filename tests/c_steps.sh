@@ -438,10 +438,22 @@ done
 ends 'buffers of a memory that is not compiled for them' 4 "$folder/norec" --orders x86
 has_told 'buffers of a memory that is not compiled for them: why' 'libtmwatch_steps.a$'
 
+# Waits until a process catches SIGINT and SIGTERM, as a bench does that runs: half a minute at most.
+catches_signals() {
+    local _ caught
+    for _ in {1..600}; do
+        caught=$(sed -n 's/^SigCgt:[[:space:]]*/0x/p' "/proc/$1/status")
+        [ $((caught & 0x4002)) -ne $((0x4002)) ] || return 0
+        sleep 0.05
+    done
+    return 1
+}
+
 # An interrupt: a verdict, and a trace that is judged so. (What runs beside a shell ignores SIGINT.)
 interrupted() {
     local signal=$1 schedule=$2 status=0
     env --default-signal=INT "$folder/norec" --schedule "$schedule" --seconds 60 --trace "$folder/one" >"$folder/printed" 2>&1 &
+    catches_signals $!
     sleep 1
     kill "-$signal" $!
     wait $! || status=$?
@@ -503,10 +515,12 @@ ends 'rescues are told of' 0 grep -q "rescues: the memory waits for what the ben
     --rounds 20 2>&1)
 
 # A first interrupt ends a memory that never returns within a second, and a second one the program, if the machine has time once in three runs.
+# It comes so many seconds after the run's beginning.
 interrupts_once() {
     local began status=0
     env --default-signal=INT "$folder/stuck_$1" --schedule "$2" --patience 0 --trace "$folder/one" >"$folder/printed" 2>&1 &
-    sleep 1
+    catches_signals $!
+    sleep "$4"
     began=$EPOCHREALTIME
     kill -INT $!
     [ "$1" = SPIN ] || { sleep 0.3 && kill -INT $!; } || echo "it had ended before the second interrupt"
@@ -516,9 +530,9 @@ interrupts_once() {
     since "$began" | awk '{ exit !($1 < 1) }' && [ $status -eq "$3" ]
 }
 interrupts() {
-    local _
-    for _ in 1 2 3; do
-        ! interrupts_once "$@" || return "$3"
+    local seconds
+    for seconds in 1 2 4; do
+        ! interrupts_once "$@" $seconds || return "$3"
     done
     return 1
 }
