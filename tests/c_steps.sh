@@ -638,10 +638,11 @@ on_terminal() {
     script -qec "'$folder/$1' ${*:2} >'$folder/printed'" /dev/null </dev/null | tr -d '\r\n' | sed 's/\x1b\[K/|\n/g'
 }
 shows_progress() {
+    local began=$EPOCHREALTIME
     on_terminal norec "$@" >"$folder/shown"
-    awk 'NR > 1 { is_wrong = is_wrong || !/^[0-9]+ rounds, [0-9]+ events, [0-9]+ unasked aborts[|]$/ || $1 < rounds || $3 <= events
-                  rounds = $1; events = $3; shown++ }
-         END { exit is_wrong || shown < 3 || shown > 6 }' "$folder/shown"
+    awk -v took="$(since "$began")" 'NR > 1 { is_wrong = is_wrong || !/^[0-9]+ rounds, [0-9]+ events, [0-9]+ unasked aborts[|]$/ || $1 < rounds || $3 < events
+                  grown += $3 > events; rounds = $1; events = $3; shown++ }
+         END { exit is_wrong || shown < 3 || grown < 3 || shown > 2 * took }' "$folder/shown" || { cat "$folder/shown" && return 1; }
 }
 if has script 'progress on a terminal'; then
     ends 'progress on a terminal' 0 shows_progress --seconds 3
