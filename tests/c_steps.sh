@@ -507,6 +507,15 @@ ends 'a second of patience' 0 is_patient
 ends 'a wrong memory that never returns' 1 "$folder/stuck_BOTH" --schedule rounds --patience 3 --adds 0
 has_told 'a wrong memory that never returns: where' '^thread 1: .* has not returned$'
 ends 'a wrong memory that never returns: the verdict' 0 grep -q '"verdict":"violated"' "$folder/told"
+# A processor that stands still for a tenth of a second is no wait; and naps of a thread that waits for a lock, or yields on a loaded machine,
+# are not without an event for a second, though they take longer.
+paused stuck_LONG tests/c/bench_stuck.c LONG "$waits"
+ends 'a read of a tenth of a second' 0 "$folder/stuck_LONG" --schedule steps --rounds 4 --threads 2 --registers 1 --calls 1
+has_told 'a read of a tenth of a second: no rescue' '"rescues":0,'
+paused stuck_TIRED tests/c/bench_stuck.c TIRED
+for seed in 2 3; do
+    ends "a lock that is waited for in naps, seed $seed" 0 "$folder/stuck_TIRED" --schedule steps --rounds 6 --seed $seed --patience 1
+done
 # A memory that waits without a step, and a bench that doesn't see it.
 ends 'a lock without a mark compiles' 0 "$cc" "${strict[@]}" -DPERCENT=0 -o "$folder/spins" "$top/tests/c/bench_spurious.c" "${bench[@]}"
 ends 'a lock without a mark' 0 "$folder/spins" --schedule steps --rounds 20 --patience 60
