@@ -60,11 +60,19 @@ paused outside_CRAWLS tests/c/bench_outside.c CRAWLS
 paused outside_CRASHES tests/c/bench_outside.c CRASHES
 paused outside_LOSES tests/c/bench_outside.c LOSES
 
-# The time that a run by default takes, which is all that it has. (Long pauses, which steps don't make, let each leg by permits end late.)
+# The time that a run by default takes, which is all that it has, if the machine has time once in three runs. (Long pauses, which steps don't
+# make, let each leg by permits end late.)
 timed_legs() {
-    local began=$EPOCHREALTIME
-    "$folder/$1" --seconds 3 --threads 2 --registers 1 --calls 1 --pause 1000000 >"$folder/printed"
-    since "$began" | awk '{ exit !($1 >= 2.9 && $1 < 5) }'
+    local began took _
+    for _ in 1 2 3; do
+        began=$EPOCHREALTIME
+        "$folder/$1" --seconds 3 --threads 2 --registers 1 --calls 1 --pause 1000000 >"$folder/printed" || return
+        took=$(since "$began")
+        echo "$took seconds"
+        awk -v took="$took" 'BEGIN { exit !(took >= 2.9) }' || return
+        ! awk -v took="$took" 'BEGIN { exit !(took < 5) }' || return 0
+    done
+    return 1
 }
 
 # The same seed gives the same trace, on one processor and on several; another seed another one.
@@ -142,7 +150,7 @@ if [ ${#flags[@]} -eq 0 ] && has_debugger 'a stop before the round'; then
     printf '%s\n' 'set pagination off' 'set breakpoint pending on' 'set disable-randomization off' 'break tmwatch_break' \
         "run ${words[*]} --trace $folder/two" 'print this_thread->bench->round' 'break commit' continue 'next' 'delete' continue \
         >"$folder/stops"
-    ends 'a stop before the round' 0 timeout 120 gdb -q -batch -x "$folder/stops" "$folder/versions_AGAIN"
+    ends 'a stop before the round' 0 timeout 300 gdb -q -batch -x "$folder/stops" "$folder/versions_AGAIN"
     cp "$folder/output" "$folder/stopped"
     # (a leg has 1000 rounds)
     ends 'a stop before the round: which' 0 grep -qx "\$1 = $(((words[-1] - 1) % 1000 + 1))" "$folder/stopped"
@@ -560,12 +568,12 @@ done
 paused apart tests/c/bench_apart.c NONE
 ends 'two benches at once, and signals' 0 "$folder/apart"
 
-# A memory that has lost progress is told so, by each schedule and within ten seconds, and repeats by steps; one that is rolled back by chance
+# A memory that has lost progress is told so, by each schedule and within half a minute, and repeats by steps; one that is rolled back by chance
 # isn't.
 lost() {
     local began=$EPOCHREALTIME status=0
     "$folder/$1" --schedule "$2" "${patience[@]}" --trace "$folder/one" || status=$?
-    since "$began" | awk '{ exit !($1 < 10) }' && return $status
+    since "$began" | awk '{ exit !($1 < 30) }' && return $status
 }
 # The rows of a program: by each schedule it loses progress, or runs so many rounds.
 loses_progress() {
