@@ -27,13 +27,8 @@ ends 'the memory compiles' 0 "${marks[@]}" -o "$folder/marks" "${bench[@]}"
 made() {
     local options
     read -r -a options <<<"$2"
-    ends "$1 $2" 0 "${tried[@]}" timeout 600 "$top/tests/runs.py" "${3:-$folder/marks}" "$folder/replay" "$1" "${options[@]}"
+    ends "$1 $2" 0 timeout 600 "$top/tests/runs.py" "${3:-$folder/marks}" "$folder/replay" "$1" "${options[@]}"
 }
-# Runs this again if it fails, three times at most.
-thrice() {
-    "$@" || "$@" || "$@"
-}
-tried=()
 made READS ''
 made NONE '--schedule steps --rounds 100'
 made LEFT ''
@@ -72,10 +67,12 @@ made LEFT '--schedule steps --rounds 20 --threads 2 --mixes 0'
 # Several legs, by each schedule; and a run of which not all events are kept.
 made NONE '--rounds 1100 --legs --seed 20'
 made REFUSED '--rounds 1200 --threads 2 --registers 8 --calls 1 --aborts 90 --writes 100'
-# (a leg in rounds or by permits ends after a tenth of a second, if the machine lacks time)
-tried=(thrice)
-made NONE '--rounds 30050 --threads 1 --calls 1 --registers 1 --legs'
-tried=()
+# (of this copy of the bench a leg in rounds or by permits has any time, as else on a quiet machine)
+cp -r "$top/bench-c" "$folder"
+sed -i 's/LEG_MICROSECONDS = SECOND \/ 10/LEG_MICROSECONDS = 1000 * SECOND/' "$folder/bench-c/legs.c"
+ends 'legs of any time: planted' 1 cmp -s "$top/bench-c/legs.c" "$folder/bench-c/legs.c"
+ends 'legs of any time compile' 0 "${marks[@]}" -o "$folder/timeless" "$folder/bench-c/tmwatch_bench.c" "$folder/waits.o" "$built/lib/libtmwatch.a"
+made NONE '--rounds 30050 --threads 1 --calls 1 --registers 1 --legs' "$folder/timeless"
 made NONE '--schedule rounds --threads 1 --calls 16 --mixes 0 --rounds 3000'
 # Threads that run as they may keep to their rounds, and to their permits.
 ends 'norec compiles' 0 "$cc" "${strict[@]}" -DTMWATCH_PAUSES -o "$folder/norec" "$top/examples/c/norec.c" "${bench[@]}"
