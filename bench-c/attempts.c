@@ -3,6 +3,10 @@
 /* The thread of a bench that is this one. */
 static _Thread_local tmwatch_attempt *this_thread;
 
+static void step(tmwatch_attempt *a, unsigned pauses);
+static bool gives_up(tmwatch_attempt *a);
+static void look_if_due(tmwatch_attempt *a);
+
 /* Stops the bench, since the watch has answered what wasn't to be. */
 static void stop(struct bench *b, uint32_t status)
 {
@@ -11,9 +15,7 @@ static void stop(struct bench *b, uint32_t status)
     b->stops = true;
 }
 
-static void step(tmwatch_attempt *a, unsigned pauses);
-
-/* One time in two a few turns, and one time in 64 another thread's turn, unless calls give it anyway; by steps, a step. Nobody is met in a look. */
+/* One time in two a few turns, and one in 64 another thread's turn, unless calls give it anyway; by steps, a step. Nobody is met in a look. */
 static void pause_sometimes(tmwatch_attempt *a, unsigned pauses)
 {
     uint64_t most = a->looks ? 0 : a->bench->plan.pause;
@@ -127,8 +129,7 @@ static void end_attempt(tmwatch_attempt *a, bool has_committed)
         tmwatch_permits_give(&b->permits);
 }
 
-/* So many events are recorded at most until room is asked for again: those of this round, of the one before, which others may still record,
-   and of a look; or by permits those of eight attempts. */
+/* The most events until room is asked for again: of this round, the one before, which others may still record, and a look; or of permits. */
 enum { ATTEMPT_EVENTS = 4 * MOST_USES + 2, LOOK_EVENTS = 2 * MOST_REGISTERS + 2, ROOM = MOST_ATTEMPTS * (2 * ATTEMPT_EVENTS + LOOK_EVENTS) };
 
 /* Waits for room, so that no record waits inside a transaction. */
@@ -145,10 +146,7 @@ static void wait_for_room(tmwatch_attempt *a)
         stop(b, status);
 }
 
-static bool gives_up(tmwatch_attempt *a);
-
-/* Whether a further attempt may begin. By permits it takes one, and until that is given, others record seven attempts at most; it is put off
-   if a look is due, which then comes between two attempts. */
+/* Whether a further attempt may begin. By permits it takes one, so others record seven at most; and it is put off for a look that is due. */
 static bool may_begin(tmwatch_attempt *a)
 {
     struct bench *b = a->bench;
@@ -250,8 +248,6 @@ static bool run_once(const tmwatch_memory *m, tmwatch_attempt *a)
         m->abort(m->memory, a->tx);
     return false;
 }
-
-static void look_if_due(tmwatch_attempt *a);
 
 /* Makes the thread's transaction, until it has ended or no attempt is left. A `run` that begins none makes none. */
 static void make_transaction(tmwatch_attempt *a)

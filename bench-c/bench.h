@@ -6,10 +6,8 @@
 #include <fcntl.h>
 #include <inttypes.h>
 #include <pthread.h>
-#include <sched.h>
 #include <semaphore.h>
 #include <signal.h>
-#include <stdatomic.h>
 #include <stdlib.h>
 #include <string.h>
 #include <sys/mman.h>
@@ -17,12 +15,10 @@
 #include <sys/stat.h>
 #include <sys/syscall.h>
 #include <sys/wait.h>
-#include <time.h>
 #include <unistd.h>
 
-/* A look comes after each LOOK rounds, or as many attempts as those may have. As many events are kept as two looks may lie apart, and what
-   is recorded and not judged yet. By steps, as many rounds' beginnings are kept as there may be from a violation to the last round. By all,
-   the first legs go by steps, and a leg has so many rounds at most. */
+/* A look comes after each LOOK rounds, or as many attempts as those may have. KEPT are the events between two looks, and those not judged yet;
+   STARTS, by steps, the rounds from a violation to the last. By all, the first legs go by steps, and a leg has LEG_ROUNDS at most. */
 enum { MOST_THREADS = 8, MOST_REGISTERS = 8, MOST_ATTEMPTS = 8, MOST_USES = 16, MOST_CALLS = 2 * MOST_USES + 1 };
 enum { LOOK = 64, KEPT = 1 << 17, STARTS = 1 << 13, LISTED = 1 << 14, STEPS_LEGS = 20, LEG_ROUNDS = 1000 };
 enum { MOST_LOOKED = KEPT / 2 /* events of one look */, FIRST_ATTEMPTS = 8 /* of a look: what is written of one that is given up */ };
@@ -36,16 +32,14 @@ struct kept {
     bool looks;
 };
 
-/* A transaction: its calls in their order, the last of which asks to commit or to abort; how many attempts were begun, or all, since none is to
-   follow; and how many there may be. */
+/* A transaction: its calls, the last of which asks to commit or abort; how many attempts were begun, or all if none is to follow; the most. */
 struct transaction {
     size_t count;
     tmwatch_call calls[MOST_CALLS];
     uint64_t made, most;
 };
 
-/* A thread, its transaction of this round, and how far that is: the library says by the turn which call is recorded next, and takes an
-   answer only to that one. */
+/* A thread, its transaction of this round, and how far that is: by the turn the library says what is recorded next, and takes nothing else. */
 struct tmwatch_attempt {
     struct bench *bench;
     tmwatch_recorder *recorder;
@@ -125,6 +119,7 @@ struct session {
     const tmwatch_memory *memory;
     const tmwatch_plan *plan; /* as it was given */
     struct worker *workers[MOST_THREADS];
+    unsigned started; /* how many threads it has */
     uint64_t written[MOST_THREADS], looked;
     uint64_t start[MOST_REGISTERS]; /* what the registers hold */
     uint64_t began, shown;          /* when the session began, and when its progress was last shown: microseconds */
@@ -154,7 +149,7 @@ struct bench {
     tmwatch_delays *delays;     /* of that memory: loads that may be delayed are found, or one is made; or null */
     atomic_bool is_told;        /* of that memory is told: no access is simulated any more */
     struct watchdog {
-        uint64_t looked, steps, used, sleeps;
+        uint64_t looked, steps, clock, used, sleeps;
         int runner;
     } watchdog; /* what the watchdog of the steps has seen last */
     atomic_uint_least32_t fault; /* the first status of the watch that wasn't to be */

@@ -15,25 +15,20 @@ static uint64_t draw(uint64_t *draws, uint64_t below)
 /* By how much small values of one thread differ, so that others have theirs between; and what addends are below. */
 enum { SMALL_APART = 2 * MOST_THREADS, SMALL_ADDENDS = 1 << 16 };
 
-static bool is_start(const tmwatch_plan *plan, uint64_t value)
-{
-    for (unsigned reg = 0; reg < plan->registers; reg++)
-        if (plan->start[reg] == value)
-            return true;
-    return false;
-}
-
-/* A value that no register began with and nobody else writes. Of all 64 bits none comes twice, since the factor is odd. Looks have the other
-   half of those numbers. */
+/* A value that no register began with and nobody else writes: no number comes twice, as the factor is odd. Looks have the other half of all. */
 static uint64_t fresh_value(tmwatch_attempt *a)
 {
     const tmwatch_plan *plan = &a->bench->plan;
     uint64_t value, *count = a->looks ? &a->bench->looked : &a->written;
+    bool is_start;
     do {
         ++*count;
         value = a->looks ? (UINT64_C(1) << 63) + *count : *count * MOST_THREADS + a->thread;
         value = plan->small ? *count * SMALL_APART + (a->looks ? MOST_THREADS : a->thread) : value * apart_values;
-    } while (is_start(plan, value));
+        is_start = false;
+        for (unsigned reg = 0; reg < plan->registers; reg++)
+            is_start = is_start || plan->start[reg] == value;
+    } while (is_start);
     return value;
 }
 

@@ -1,17 +1,15 @@
 /* A plan is run: in one leg, or by all schedules in several. Here is which leg goes how, and why.
 
    The first STEPS_LEGS go by steps, so that what they find comes with words that repeat it. Then CYCLE legs come again and again: one in
-   rounds and one by permits, for a tenth of a second at most, and all others by steps, which take about half as long. So steps, which find
-   most and soonest, have nine tenths of the time; what only processors do, as to let two threads meet between two steps, is found by the
-   rest. If the memory has no step of its own, steps find little more than calls that overlap, so that only one leg in four goes by them.
+   rounds, one by permits, and all others by steps. So steps, which find most and soonest, have nine tenths of the time; what only processors
+   do, as to let two threads meet between two steps, is found by the rest. If the memory has no step of its own, one leg in four goes by them.
 
    If the memory asks elsewhere, its rounds may be slow, so legs go by time: the first ones by steps end with one that has taken SLOW_LEG, later
    ones take LATER_LEG, and those in rounds or by permits twice as long as the last one by steps. What is made again goes by rounds.
 
-   One leg in two has the usual numbers and another seed. In the others all is drawn, since what one memory needs another doesn't.
-
-   With libtmwatch_steps.a one leg by steps in four has delayed stores, one in four the orders of C++20, and one in eight plain accesses that
-   are steps too: each finds what the others can't, and finds all else more slowly. */
+   One leg in two has the usual numbers and another seed. In the others all is drawn, since what one memory needs another doesn't. With
+   libtmwatch_steps.a one leg by steps in four has delayed stores, one in four the orders of C++20, and one in eight plain accesses that are
+   steps too: each finds what the others can't, and finds all else more slowly. */
 enum { CYCLE = 20, FEW_STEPS_CYCLE = 4, LEG_MICROSECONDS = SECOND / 10, SLOW_LEG = 5 * SECOND, LATER_LEG = SECOND };
 enum { USUAL_LEGS = 2, ORDERED_LEGS = 4, PLAIN_LEGS = 8 };
 
@@ -68,7 +66,6 @@ static tmwatch_plan next_plan(const struct session *session, uint64_t leg, uint6
     return it;
 }
 
-/* How many microseconds a leg may take; 0: any time. */
 static uint64_t time_of_leg(const struct session *session, uint64_t schedule)
 {
     if (session->plan->schedule != TMWATCH_ALL || (schedule == TMWATCH_STEPS && session->plan->round > 0))
@@ -116,11 +113,10 @@ static void add_leg(tmwatch_benched *all, const tmwatch_benched *leg)
 /* Keeps what the registers hold after a leg: whether that is known, by its last look. */
 static bool keep_start(const struct bench *b, uint64_t events)
 {
-    if (events > 0 && !b->kept[(events - 1) % KEPT].looks)
-        return false;
-    for (unsigned reg = 0; reg < b->plan.registers && events > 0; reg++)
-        b->session->start[reg] = value_after(b, events, reg);
-    return true;
+    bool is_known = events == 0 || b->kept[(events - 1) % KEPT].looks;
+    for (unsigned reg = 0; reg < b->plan.registers && is_known; reg++)
+        b->session->start[reg] = start_of_trace(b, events, UINT64_MAX, reg);
+    return is_known;
 }
 
 /* Tells by which plan the end of the run is made again, and whether that is certain: then it goes by steps from the beginning. */
@@ -141,14 +137,13 @@ static void set_again(struct session *session, const tmwatch_plan *plan, uint64_
     all->is_certain = has_steps && is_given && all->rescues == 0 && all->waits == 0 && !plan->goes_on;
 }
 
-static void print_leg(FILE *file, uint64_t leg, const tmwatch_plan *plan)
+static void print_leg(FILE *file, uint64_t leg, tmwatch_plan plan)
 {
-    tmwatch_plan it = *plan;
     if (!file)
         return;
-    it.seconds = 0;
+    plan.seconds = 0;
     fprintf(file, "leg %" PRIu64 ": ", leg);
-    tmwatch_bench_words(file, &it);
+    tmwatch_bench_words(file, &plan);
     fputc('\n', file);
 }
 
@@ -167,7 +162,7 @@ static uint32_t run_legs(struct session *session)
         tmwatch_plan it = next_plan(session, leg, &draws);
         b->most_time = time_of_leg(session, it.schedule);
         b->delays = leg == 0 && session->second_runs ? &session->second_runs->delays : NULL;
-        print_leg(plan->legs, leg + 1, &it);
+        print_leg(plan->legs, leg + 1, it);
         uint64_t began = microseconds_of(CLOCK_MONOTONIC), before = all->told.events;
         status = run_leg(b, session, &it, &out);
         add_leg(all, &out);

@@ -56,14 +56,6 @@ static const struct option options[] = {
     {"--quiet", "", IN(quiet), "no progress on a terminal"},
     {NULL, NULL, SIZE_MAX, NULL}};
 
-static const struct option *find_option(const char *word)
-{
-    const struct option *option = options;
-    while (option->name && strcmp(option->name, word) != 0)
-        option++;
-    return option;
-}
-
 /* Reads an option's word, or that it is there: the word that is wrong, or none. A number has to fit, and a choice stands for its number. */
 static const char *read_option(struct given *given, const struct option *option, char **words)
 {
@@ -93,7 +85,9 @@ static const char *read_words(struct given *given, char **words)
     const char *wrong = NULL;
     bool has_rounds = false;
     while (words[0] && !wrong) {
-        const struct option *option = find_option(words[0]);
+        const struct option *option = options;
+        while (option->name && strcmp(option->name, words[0]) != 0)
+            option++;
         wrong = read_option(given, option, words);
         has_rounds = has_rounds || option->to == TO(rounds);
         words += wrong || !option->takes[0] ? 1 : 2;

@@ -63,17 +63,6 @@ static bool has_orders(const tmwatch_plan *plan)
     return plan->orders == TMWATCH_SEQUENTIAL || (tmwatch_orders_new && has_steps && !tmwatch_step_unwrapped());
 }
 
-static bool is_out_of_range(const tmwatch_plan *plan)
-{
-    uint64_t most = plan->schedule == TMWATCH_PERMITS ? UINT64_MAX : most_attempts(plan) / plan->threads;
-    uint64_t most_round = plan->schedule == TMWATCH_STEPS ? UINT64_MAX : plan->schedule == TMWATCH_ALL ? STEPS_LEGS * LEG_ROUNDS : 0;
-    for (unsigned i = 0; i < DRAWN; i++)
-        if (*number_of(plan, drawn[i].to) < drawn[i].least || *number_of(plan, drawn[i].to) > drawn[i].most)
-            return true;
-    return plan->schedule > TMWATCH_ALL || plan->races > 1 || plan->attempts > most || plan->rounds == 0 || plan->round > most_round ||
-           (plan->crashes && plan->schedule == TMWATCH_PERMITS) || (plan->event > 0 && plan->round == 0) || !has_orders(plan);
-}
-
 /* Looks at what no watch looks at. */
 static uint32_t check(const tmwatch_memory *memory, const tmwatch_plan *given)
 {
@@ -87,5 +76,12 @@ static uint32_t check(const tmwatch_memory *memory, const tmwatch_plan *given)
     for (uint64_t reg = plan.registers; reg < MOST_REGISTERS; reg++)
         if (plan.start[reg] != 0)
             return TMWATCH_BAD_START;
-    return is_out_of_range(&plan) ? TMWATCH_BAD_BOUNDS : TMWATCH_DONE;
+    for (unsigned i = 0; i < DRAWN; i++)
+        if (*number_of(&plan, drawn[i].to) < drawn[i].least || *number_of(&plan, drawn[i].to) > drawn[i].most)
+            return TMWATCH_BAD_BOUNDS;
+    uint64_t most = plan.schedule == TMWATCH_PERMITS ? UINT64_MAX : most_attempts(&plan) / plan.threads;
+    uint64_t most_round = plan.schedule == TMWATCH_STEPS ? UINT64_MAX : plan.schedule == TMWATCH_ALL ? STEPS_LEGS * LEG_ROUNDS : 0;
+    bool is_wrong = plan.schedule > TMWATCH_ALL || plan.races > 1 || plan.attempts > most || plan.rounds == 0 || plan.round > most_round ||
+                    (plan.crashes && plan.schedule == TMWATCH_PERMITS) || (plan.event > 0 && plan.round == 0) || !has_orders(&plan);
+    return is_wrong ? TMWATCH_BAD_BOUNDS : TMWATCH_DONE;
 }

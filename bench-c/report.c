@@ -86,7 +86,6 @@ static void print_again(FILE *file, const tmwatch_benched *benched)
     fprintf(file, "\",\"certain\":%s}\n", are_certain(benched) ? "true" : "false");
 }
 
-/* Prints all lines, maybe without the words that make the run again. */
 static void print_lines(FILE *file, const tmwatch_benched *benched, bool has_words)
 {
     static const char *const whys[] = {"", ",\"why\":\"transactions\"", ",\"why\":\"states\"", ",\"why\":\"unseen\""};

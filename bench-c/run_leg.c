@@ -1,7 +1,6 @@
 /* A leg: threads run by one plan, what they record is judged, and what came out is counted. */
 
-/* How many rounds were run: by steps up to the one in which the violation was recorded, which has begun last or before. The threads meet once
-   more in rounds. */
+/* How many rounds were run: by steps up to that of the violation, which may not be the last. In rounds, the threads meet once more. */
 static uint64_t count_rounds(const struct bench *b, uint64_t at)
 {
     const struct steps *s = &b->steps;
@@ -17,9 +16,7 @@ static uint64_t count_rounds(const struct bench *b, uint64_t at)
 /* Closes the watch, and tells what came out, or the first status that wasn't to be. Threads that are stuck may still record. */
 static uint32_t close_watch(struct bench *b, tmwatch_benched *out)
 {
-    uint32_t status = b->fault;
-    if (status == TMWATCH_DONE)
-        status = tmwatch_summary(&b->watch, &out->counts);
+    uint32_t fault = b->fault, status = fault == TMWATCH_DONE ? tmwatch_summary(&b->watch, &out->counts) : fault;
     if (b->session->is_stuck)
         return status == TMWATCH_DONE ? tmwatch_report(&b->watch, &out->told) : status;
     if (status == TMWATCH_DONE)
@@ -29,8 +26,6 @@ static uint32_t close_watch(struct bench *b, tmwatch_benched *out)
     tmwatch_discard(&b->watch);
     return status;
 }
-
-enum { MOST_ACCESS = 10000 /* microseconds that an access takes at most which is under way */ };
 
 /* Tells what the orders of C++20 have shown: of the round that is violated or stuck, what they don't see, and a race, if they see all. */
 static void tell_orders(struct bench *b, tmwatch_benched *out)
@@ -60,11 +55,8 @@ static bool is_wrong(const tmwatch_plan *plan, const tmwatch_benched *out)
 static uint32_t run_watched(struct bench *b, tmwatch_benched *out)
 {
     run_parts(b, 0, (unsigned)b->plan.threads);
-    judge(b);
-    if (b->restart && !b->session->is_stuck && b->fault == TMWATCH_DONE) {
+    if (b->restart && !b->session->is_stuck && b->fault == TMWATCH_DONE)
         run_parts(b, (unsigned)b->plan.threads, (unsigned)b->plan.threads + 1);
-        judge(b);
-    }
     uint32_t status = close_watch(b, out);
     out->rounds = by_permits(b) ? UINT64_MAX : count_rounds(b, out->told.at);
     out->steps = b->steps.steps;
@@ -101,7 +93,6 @@ static uint32_t run_watched(struct bench *b, tmwatch_benched *out)
     return status;
 }
 
-/* Runs a leg by this plan, and tells what came out. */
 static uint32_t run_leg(struct bench *b, struct session *session, const tmwatch_plan *plan, tmwatch_benched *out)
 {
     memset(out, 0, sizeof *out);
@@ -110,18 +101,17 @@ static uint32_t run_leg(struct bench *b, struct session *session, const tmwatch_
     b->plan = *plan;
     b->looked = session->looked;
     set_steps(b);
-    if (!start_threads(b))
+    if (!start_threads(session, plan->threads + plan->crashes))
         return TMWATCH_MEMORY;
+    b->workers = session->started;
     if (plan->orders == TMWATCH_CXX && by_steps(b) && !(b->orders = tmwatch_orders_new(plan->seed, &b->steps.recorded, b->delays)))
         return TMWATCH_MEMORY;
-    while (b->workers < MOST_THREADS && session->workers[b->workers])
-        b->workers++;
     tmwatch_settings settings = TMWATCH_SETTINGS(plan->registers);
     memcpy(settings.start, plan->start, sizeof settings.start);
     uint32_t status = tmwatch_open(&b->watch, b->recorders, plan->threads + plan->crashes, &settings);
     if (status == TMWATCH_DONE)
         status = run_watched(b, out);
-    if (b->orders && !b->session->is_stuck)
-        tmwatch_orders_discard(b->orders);
+    if (!b->session->is_stuck)
+        free(b->orders);
     return status;
 }

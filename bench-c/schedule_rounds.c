@@ -12,32 +12,24 @@ static void end_round(tmwatch_attempt *a, uint64_t round)
     b->is_over = b->is_over || b->rejected.made > 0;
 }
 
-/* Waits until the round has ended. If the memory asks outside, the thread sleeps: what is asked needs the processors. */
-static void await_round(tmwatch_attempt *a, uint64_t round)
-{
-    struct bench *b = a->bench;
-    for (unsigned turns = 1; b->round == round; turns++)
-        if (b->has_asked)
-            await(&b->steps.go[a->thread]);
-        else if (turns % 256 == 0)
-            sched_yield();
-}
-
-/* Waits for all threads: whether another round follows, as the last of them to come has decided. */
+/* Waits for all threads: whether another round follows. If the memory asks outside, the thread sleeps: what is asked needs the processors. */
 static bool meet(tmwatch_attempt *a)
 {
     struct bench *b = a->bench;
     uint64_t round = b->round;
     wait_for_room(a);
-    if (atomic_fetch_add(&b->here, 1) + 1 < b->plan.threads) {
-        await_round(a, round);
-        return !b->is_over;
+    if (atomic_fetch_add(&b->here, 1) + 1 == b->plan.threads) {
+        end_round(a, round);
+        b->here = 0;
+        b->round = round + 1;
+        for (unsigned i = 0; b->has_asked && i < b->plan.threads; i++)
+            if (i != a->thread)
+                post(&b->steps.go[i]);
     }
-    end_round(a, round);
-    b->here = 0;
-    b->round = round + 1;
-    for (unsigned i = 0; b->has_asked && i < b->plan.threads; i++)
-        if (i != a->thread)
-            post(&b->steps.go[i]);
+    for (unsigned turns = 1; b->round == round; turns++)
+        if (b->has_asked)
+            await(&b->steps.go[a->thread]);
+        else if (turns % 256 == 0)
+            sched_yield();
     return !b->is_over;
 }

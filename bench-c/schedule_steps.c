@@ -66,8 +66,7 @@ static void lock_as_runner(tmwatch_attempt *a)
     }
 }
 
-/* A step of this thread: in the memory with so many pauses, or beside a call with none. It may hand over: by walk to any, by priorities to the
-   highest, which may be this thread still. */
+/* A step of this thread: in the memory with so many pauses, beside a call with none. It may hand over: to any, or to the highest, as itself. */
 static void step(tmwatch_attempt *a, unsigned pauses)
 {
     struct steps *s = &a->bench->steps;
@@ -97,7 +96,6 @@ static void step(tmwatch_attempt *a, unsigned pauses)
     wait_turn(a);
 }
 
-/* Whether this thread goes by steps beside others. */
 static bool is_beside_others(void)
 {
     return this_thread && by_steps(this_thread->bench) && !this_thread->looks;
@@ -128,30 +126,23 @@ void tmwatch_waits(void)
     let_go(s, choose(s, ~0u));
 }
 
-/* Draws at which steps of the round the runner gets the lowest priority. */
-static void draw_changes(struct steps *s)
-{
-    uint64_t length = s->length[s->is_mixed] / 16;
-    s->changes = draw(&s->draws, MOST_CHANGES);
-    for (unsigned i = 0; i < s->changes; i++)
-        s->change[i] = draw(&s->draws, length + length / 4 + 1);
-}
-
 static void draw_round(struct bench *b)
 {
     struct steps *s = &b->steps;
     uint64_t draws;
     s->is_mixed = draw_mix(b, &draws);
+    uint64_t length = s->length[s->is_mixed] / 16;
     s->ready = (1u << b->plan.threads) - 1;
     s->waiting = s->stuck = s->lost = 0;
-    s->step = s->spin = s->changes = 0;
+    s->step = s->spin = 0;
     bool walks = draw(&s->draws, 2) == 0;
     s->odds = walks ? UINT64_C(2) << draw(&s->draws, 4) : 0;
     s->lowest = UINT64_C(1) << 32;
     for (unsigned i = 0; i < MOST_THREADS; i++)
         s->priority[i] = s->lowest + draw(&s->draws, 1 << 20) * MOST_THREADS + i;
-    if (s->odds == 0)
-        draw_changes(s);
+    s->changes = walks ? 0 : draw(&s->draws, MOST_CHANGES);
+    for (unsigned i = 0; i < s->changes; i++)
+        s->change[i] = draw(&s->draws, length + length / 4 + 1);
 }
 
 __attribute__((noinline)) void tmwatch_break(void)

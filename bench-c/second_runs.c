@@ -43,8 +43,7 @@ static uint32_t judge_moved(struct bench *b, struct second_runs *runs, uint64_t 
     return tmwatch_close(&b->watch, b->recorders, b->plan.threads, &told) == TMWATCH_DONE && is_written ? told.verdict : TMWATCH_UNDECIDED;
 }
 
-/* Whether the record is violated by what the load has returned, and not by what it has returned in the first run: else the violation is that
-   others have read what the load's thread stored later. */
+/* Whether the record is violated by the load's answer, and not by its first one: else others have read what the load's thread stored later. */
 static bool is_violated_by_load(struct bench *b, struct second_runs *it)
 {
     const tmwatch_delay *made = it->delays.made;

@@ -37,28 +37,21 @@ static void *work(void *argument)
     return NULL;
 }
 
-/* Starts what threads the leg lacks: whether it has all. Each has bytes of its own for the memory: two threads' bytes lie apart, so that
-   neither slows the other. */
-static bool start_threads(const struct bench *b)
+/* Starts what threads a leg of so many lacks: whether it has all. Bytes that the memory has for one lie apart, so that none slows another. */
+static bool start_threads(struct session *session, uint64_t threads)
 {
-    for (unsigned i = 0; i < b->plan.threads + b->plan.crashes; i++) {
-        struct worker **it = &b->session->workers[i];
-        if (*it)
-            continue;
-        *it = calloc(1, sizeof **it + b->memory.tx_size + APART);
-        if (!*it)
-            return false;
-        sem_init(&(*it)->goes, 0, 0);
-        if (pthread_create(&(*it)->thread, NULL, work, *it) != 0) {
-            free(*it);
-            *it = NULL;
+    for (; session->started < threads; session->started++) {
+        struct worker *it = calloc(1, sizeof *it + session->memory->tx_size + APART);
+        if (!it || sem_init(&it->goes, 0, 0) != 0 || pthread_create(&it->thread, NULL, work, it) != 0) {
+            free(it);
             return false;
         }
+        session->workers[session->started] = it;
     }
     return true;
 }
 
-/* Has these threads of the leg make their part. */
+/* Has these threads of the leg make their part, and judges what they record. */
 static void run_parts(struct bench *b, unsigned from, unsigned to)
 {
     b->come = b->ended = 0;
@@ -71,12 +64,13 @@ static void run_parts(struct bench *b, unsigned from, unsigned to)
                                          .pauses = draws ^ apart_rounds, .written = b->session->written[i]};
         post(&it->goes);
     }
+    judge(b);
 }
 
 /* Waits for the threads' end. Those that are stuck, and what they use, stay. */
 static void end_threads(const struct session *session, bool are_stuck)
 {
-    for (unsigned i = 0; i < MOST_THREADS && session->workers[i]; i++) {
+    for (unsigned i = 0; i < session->started; i++) {
         struct worker *it = session->workers[i];
         if (are_stuck) {
             pthread_detach(it->thread);

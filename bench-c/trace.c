@@ -1,7 +1,6 @@
 /* The trace of the run's end, and the steps of its round. */
 
-/* Where the trace of the first `at` events begins: at 0 or after a look that is kept, as late as it may if something is wrong, else as
-   early. If there is none, the trace is empty. */
+/* Where the trace of the first `at` events begins: at 0, or after a kept look: if something is wrong the last, else the first; or at `at`. */
 static uint64_t first_of_trace(const struct bench *b, uint64_t at, uint64_t events, bool is_wrong)
 {
     uint64_t look_events = 2 * b->plan.registers + 2;
@@ -10,13 +9,6 @@ static uint64_t first_of_trace(const struct bench *b, uint64_t at, uint64_t even
         if (b->kept[(from - 1) % KEPT].looks)
             found = from;
     return found;
-}
-
-/* What register `reg` held after the look that ends before event `from`. */
-static uint64_t value_after(const struct bench *b, uint64_t from, unsigned reg)
-{
-    uint64_t answer = from - 1 - 2 * (b->plan.registers - reg);
-    return b->kept[answer % KEPT].value;
 }
 
 static void write_event(FILE *file, const struct kept *event)
@@ -32,7 +24,8 @@ static void write_event(FILE *file, const struct kept *event)
 /* What register `reg` holds when a trace begins there: what a look that ends there has read, or the run's start. */
 static uint64_t start_of_trace(const struct bench *b, uint64_t from, uint64_t at, unsigned reg)
 {
-    return from == 0 || from == at ? b->plan.start[reg] : value_after(b, from, reg);
+    uint64_t answer = from - 1 - 2 * (b->plan.registers - reg);
+    return from == 0 || from == at ? b->plan.start[reg] : b->kept[answer % KEPT].value;
 }
 
 static void write_header(const struct bench *b, uint64_t from, uint64_t at)

@@ -151,7 +151,7 @@ program bank "$top/examples/c/bank.c" 0 "$rounds" "${bench[@]}"
 has_told 'bank: has met' '"overlapping":[1-9]'
 program bank_broken "$top/examples/c/bank.c" 1 "$rounds broken" "${bench[@]}"
 ends 'bank: output that can not be written' 4 sh -c '"$@" >/dev/full' sh "${run[@]}" "$folder/bank" 9
-program bench_memory "$top/tests/c/bench_memory.c" 0 '' "${bench[@]}" "${wrapped[@]}" -Wl,--wrap=pthread_create
+program bench_memory "$top/tests/c/bench_memory.c" 0 '' "${bench[@]}" "${wrapped[@]}" -Wl,--wrap=pthread_create,--wrap=tmwatch_room
 # The same in rounds, by permits and by steps.
 on_each() {
     on_bench "$@"

@@ -27,13 +27,8 @@ ends 'the memory compiles' 0 "${marks[@]}" -o "$folder/marks" "${bench[@]}"
 made() {
     local options
     read -r -a options <<<"$2"
-    ends "$1 $2" 0 "${tried[@]}" timeout 200 "$top/tests/runs.py" "${3:-$folder/marks}" "$folder/replay" "$1" "${options[@]}"
+    ends "$1 $2" 0 timeout 600 "$top/tests/runs.py" "${3:-$folder/marks}" "$folder/replay" "$1" "${options[@]}"
 }
-# Runs this again if it fails, three times at most.
-thrice() {
-    "$@" || "$@" || "$@"
-}
-tried=()
 made READS ''
 made NONE '--schedule steps --rounds 100'
 made LEFT ''
@@ -72,10 +67,12 @@ made LEFT '--schedule steps --rounds 20 --threads 2 --mixes 0'
 # Several legs, by each schedule; and a run of which not all events are kept.
 made NONE '--rounds 1100 --legs --seed 20'
 made REFUSED '--rounds 1200 --threads 2 --registers 8 --calls 1 --aborts 90 --writes 100'
-# (a leg in rounds or by permits ends after a tenth of a second, if the machine lacks time)
-tried=(thrice)
-made NONE '--rounds 30050 --threads 1 --calls 1 --registers 1 --legs'
-tried=()
+# (of this copy of the bench a leg in rounds or by permits has any time, as else on a quiet machine)
+cp -r "$top/bench-c" "$folder"
+sed -i 's/LEG_MICROSECONDS = SECOND \/ 10/LEG_MICROSECONDS = 1000 * SECOND/' "$folder/bench-c/legs.c"
+ends 'legs of any time: planted' 1 cmp -s "$top/bench-c/legs.c" "$folder/bench-c/legs.c"
+ends 'legs of any time compile' 0 "${marks[@]}" -o "$folder/timeless" "$folder/bench-c/tmwatch_bench.c" "$folder/waits.o" "$built/lib/libtmwatch.a"
+made NONE '--rounds 30050 --threads 1 --calls 1 --registers 1 --legs' "$folder/timeless"
 made NONE '--schedule rounds --threads 1 --calls 16 --mixes 0 --rounds 3000'
 # Threads that run as they may keep to their rounds, and to their permits.
 ends 'norec compiles' 0 "$cc" "${strict[@]}" -DTMWATCH_PAUSES -o "$folder/norec" "$top/examples/c/norec.c" "${bench[@]}"
@@ -103,7 +100,7 @@ ends 'the options' 0 "$top/tests/options.py" "$folder/marks"
 # In a debugger a run by these words stops once, when so many events are recorded.
 stops_after() {
     printf '%s\n' 'set pagination off' 'break tmwatch_break' "run ${*:2}" 'print this_thread->bench->steps.recorded' 'continue' >"$folder/stops"
-    timeout 60 gdb -q -batch -x "$folder/stops" "$folder/marks" >"$folder/stopped" 2>&1
+    timeout 300 gdb -q -batch -x "$folder/stops" "$folder/marks" >"$folder/stopped" 2>&1
     [ "$(sed -n 's/^\$1 = //p' "$folder/stopped")" -eq "$1" ]
     [ "$(grep -c ' hit Breakpoint 1, ' "$folder/stopped")" -eq 1 ]
 }
@@ -118,7 +115,7 @@ stops() {
     stops_after $((at - 1)) "${words[@]}" --event "$event"
     stops_after $((at - event)) "${words[@]}"
 }
-if [ ${#flags[@]} -eq 0 ] && has gdb 'a stop before the wrong event'; then
+if [ ${#flags[@]} -eq 0 ] && has_debugger 'a stop before the wrong event'; then
     for seed in 5 8; do
         ends "stops before the wrong event and its round, seed $seed" 0 stops $seed
     done

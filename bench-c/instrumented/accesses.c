@@ -1,13 +1,12 @@
 /* A step at each access of a memory that its compiler has marked by -fsanitize=thread and that is linked without that sanitizer: no pause
-   has to be placed by hand. The compiler calls the functions here in place of each atomic access, and before each other one.
+   has to be placed by hand. The compiler calls the functions here in place of each atomic access, and before each other one. By the orders of
+   C++20, orders.c says what each does.
 
    With drawn buffers, an atomic store that isn't sequentially consistent may stay in its thread's buffer for some steps, as in the store
    buffers of x86 (Sewell, Sarkar, Owens, Zappa Nardelli and Myreen, CACM 2010): the stores of a thread come out in their order, a read of
    the thread sees them, and they are out before a read-modify-write, a sequentially consistent store or fence, a plain store to what other
    threads may see, and each recorded event. Loads aren't reordered. Of a thread's own bytes nothing is buffered, since what is stored to
-   them without a mark, as at the end of a function, would be overtaken; nor of a block that may be given back unseen.
-
-   By the orders of C++20, orders.c says what each access does. */
+   them without a mark, as at the end of a function, would be overtaken; nor of a block that may be given back unseen. */
 #include "step.h"
 #include <string.h>
 
@@ -88,14 +87,14 @@ static bool is_forwarded(const volatile void *at, unsigned bytes, uint64_t *valu
     return is_same;
 }
 
-/* An access that is made there in the program: its orders are null if it isn't simulated. */
-TMWATCH_PART tmwatch_access access_to(const volatile void *at, unsigned bytes, int order)
+/* A step, and the access that is made there in the program: its orders are null if it isn't simulated. */
+TMWATCH_PART tmwatch_access step_to(const volatile void *at, unsigned bytes, int order)
 {
+    at_step();
     return (tmwatch_access){tmwatch_step_orders(), tmwatch_thread(), TMWATCH_CALLER, at, bytes, order};
 }
 
-/* Before a plain access of so many bytes; what is stored isn't known. Where nothing shows when a block is given back, no race is looked for in
-   it. */
+/* Before a plain access; what is stored isn't known. No race is looked for in a block if nothing shows when that is given back. */
 TMWATCH_PART void before_plain(const void *at, size_t bytes, bool is_volatile, bool stores)
 {
     uint64_t value;
@@ -105,11 +104,9 @@ TMWATCH_PART void before_plain(const void *at, size_t bytes, bool is_volatile, b
         return;
     if (is_seen && (is_volatile || how->has_plain))
         at_step();
-    tmwatch_access access = access_to(at, 0, 0);
-    if (access.orders && stores)
-        tmwatch_orders_plain_store(&access, bytes, !is_seen || !is_lasting(at));
-    else if (access.orders && is_lasting(at))
-        tmwatch_orders_plain_load(&access, bytes);
+    tmwatch_access access = {tmwatch_step_orders(), tmwatch_thread(), TMWATCH_CALLER, at, 0, 0};
+    if (access.orders)
+        tmwatch_orders_plain(&access, bytes, stores, is_seen && is_lasting(at));
     if (is_seen && (stores || is_forwarded(at, (unsigned)bytes, &value)))
         tmwatch_step_drain();
 }
@@ -154,16 +151,14 @@ void *__tsan_memset(void *to, int byte, size_t bytes)
     return memset(to, byte, bytes);
 }
 
-/* What isn't simulated is sequentially consistent. What is, and changes an older store than the newest, leaves memory alone. All that was
-   stored comes out before. */
+/* All that was stored comes out before. What isn't simulated is sequentially consistent; what changes an older store leaves memory alone. */
 #define CHANGE(bits, type, name, op)                                            \
     type __tsan_atomic##bits##_##name(volatile type *at, type value, int order) \
     {                                                                           \
         uint64_t held;                                                          \
         volatile type older, *to = at;                                          \
-        at_step();                                                              \
+        tmwatch_access access = step_to(at, sizeof(type), order);               \
         tmwatch_step_drain();                                                   \
-        tmwatch_access access = access_to(at, sizeof(type), order);             \
         if (access.orders && !tmwatch_orders_take(&access, &held)) {            \
             older = (type)held;                                                 \
             to = &older;                                                        \
@@ -177,9 +172,8 @@ void *__tsan_memset(void *to, int byte, size_t bytes)
     TMWATCH_PART bool compare_##bits(volatile type *at, type *held, type value, int order, int failed, bool is_weak)                  \
     {                                                                                                                                 \
         uint64_t loaded = *held;                                                                                                      \
-        at_step();                                                                                                                    \
+        tmwatch_access access = step_to(at, sizeof(type), order);                                                                     \
         tmwatch_step_drain();                                                                                                         \
-        tmwatch_access access = access_to(at, sizeof(type), order);                                                                   \
         enum tmwatch_compared how = access.orders ? tmwatch_orders_compare(&access, &loaded, failed, is_weak) : TMWATCH_TAKES_NEWEST; \
         bool is_done = how != TMWATCH_FAILS;                                                                                          \
         if (how == TMWATCH_TAKES_NEWEST)                                                                                              \
@@ -208,16 +202,14 @@ void *__tsan_memset(void *to, int byte, size_t bytes)
     type __tsan_atomic##bits##_load(const volatile type *at, int order)                                \
     {                                                                                                  \
         uint64_t value;                                                                                \
-        at_step();                                                                                     \
-        tmwatch_access access = access_to(at, sizeof(type), order);                                    \
+        tmwatch_access access = step_to(at, sizeof(type), order);                                      \
         if (access.orders)                                                                             \
             return (type)tmwatch_orders_load(&access);                                                 \
         return is_forwarded(at, sizeof(type), &value) ? (type)value : __atomic_load_n(at, SEQUENTIAL); \
     }                                                                                                  \
     void __tsan_atomic##bits##_store(volatile type *at, type value, int order)                         \
     {                                                                                                  \
-        at_step();                                                                                     \
-        tmwatch_access access = access_to(at, sizeof(type), order);                                    \
+        tmwatch_access access = step_to(at, sizeof(type), order);                                      \
         if (access.orders && !tmwatch_orders_store(&access, value))                                    \
             return;                                                                                    \
         if (is_buffered(at, order)) {                                                                  \
@@ -247,8 +239,7 @@ ATOMICS(64, uint64_t)
 /* All comes out at a sequentially consistent fence, and at no weaker one. */
 void __tsan_atomic_thread_fence(int order)
 {
-    at_step();
-    tmwatch_access access = access_to(NULL, 0, order);
+    tmwatch_access access = step_to(NULL, 0, order);
     if (access.orders)
         tmwatch_orders_fence(&access);
     if (order == SEQUENTIAL)

@@ -51,16 +51,14 @@ WIDE(void, store, volatile wide *at, wide value, int order)
     __tsan_atomic128_exchange(at, value, order);
 }
 
-WIDE(int, compare_exchange_strong, volatile wide *at, wide *held, wide value, int order, int failed)
-{
-    wide seen = __tsan_atomic128_compare_exchange_val(at, *held, value, order, failed);
-    int is_done = seen == *held;
-    *held = seen;
-    return is_done;
-}
-
-WIDE(int, compare_exchange_weak, volatile wide *at, wide *held, wide value, int order, int failed)
-{
-    return __tsan_atomic128_compare_exchange_strong(at, held, value, order, failed);
-}
+#define WIDE_COMPARE(name)                                                                          \
+    WIDE(int, name, volatile wide *at, wide *held, wide value, int order UNUSED, int failed UNUSED) \
+    {                                                                                               \
+        wide looked_for = *held;                                                                    \
+        at_wide(at);                                                                                \
+        *held = __sync_val_compare_and_swap(at, looked_for, value);                                 \
+        return *held == looked_for;                                                                 \
+    }
+WIDE_COMPARE(compare_exchange_strong)
+WIDE_COMPARE(compare_exchange_weak)
 #endif

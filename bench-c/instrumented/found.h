@@ -1,6 +1,4 @@
 /* In which program or library an address lies. */
-#ifndef FOUND_H
-#define FOUND_H
 #include <link.h>
 #include <stdbool.h>
 #include <stddef.h>
@@ -25,4 +23,3 @@ static int find_library(struct dl_phdr_info *library, size_t size, void *argumen
         *found = (struct found){found->at - library->dlpi_addr, library->dlpi_name, true};
     return found->is_found;
 }
-#endif

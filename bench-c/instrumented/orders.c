@@ -13,6 +13,7 @@
 #include "found.h"
 #include "orders.h"
 #include <fcntl.h>
+#include <limits.h>
 #include <spawn.h>
 #include <stdlib.h>
 #include <string.h>

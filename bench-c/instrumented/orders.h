@@ -1,6 +1,4 @@
 /* What the instrumented library, waits.c and the bench call of orders.c: the orders of C++20 by simulation. */
-#ifndef ORDERS_H
-#define ORDERS_H
 #include <stdatomic.h>
 #include <stdbool.h>
 #include <stddef.h>
@@ -47,29 +45,23 @@ uint64_t tmwatch_orders_load(const tmwatch_access *access);
 /* A store: whether it is the newest of its place, and so goes to memory. */
 bool tmwatch_orders_store(const tmwatch_access *access, uint64_t value);
 
-/* A read-modify-write has loaded, as drawn, *held: whether from the newest store. tmwatch_orders_change follows at once. */
+/* A read-modify-write has loaded *held, as drawn: whether from the newest store. A compare-and-swap looks for *held: what it does, and what it
+   has loaded. What they store, if they do, follows at once. */
 bool tmwatch_orders_take(const tmwatch_access *access, uint64_t *held);
-
-/* A compare-and-swap that looks for *held: what it does, and what it has loaded. If it succeeds, tmwatch_orders_change follows at once. */
 enum tmwatch_compared tmwatch_orders_compare(const tmwatch_access *access, uint64_t *held, int failed, bool is_weak);
-
-/* The read-modify-write stores this. */
 void tmwatch_orders_change(const tmwatch_access *access, uint64_t value);
 
 void tmwatch_orders_fence(const tmwatch_access *access);
 
 /* A plain access: whether it races, unless its bytes may be given back unseen. A store ends the history of its places. */
-void tmwatch_orders_plain_load(const tmwatch_access *access, size_t bytes);
-void tmwatch_orders_plain_store(const tmwatch_access *access, size_t bytes, bool is_passing);
+void tmwatch_orders_plain(const tmwatch_access *access, size_t bytes, bool stores, bool is_lasting);
 
 /* An access of 16 bytes: it acquires and releases, also what its halves do, and their histories end. */
 void tmwatch_orders_wide(const tmwatch_access *access);
 
-/* For the bench and waits.c, which may be linked without it. A memory for a bench that draws from this seed, and whose record has *recorded
-   events; or null. */
+/* For the bench and waits.c, which may be linked without it. A memory, to be freed, for a bench whose record has *recorded events; or null. */
 #define WEAK __attribute__((weak))
 WEAK tmwatch_simulation *tmwatch_orders_new(uint64_t seed, const atomic_uint_least64_t *recorded, tmwatch_delays *delays);
-WEAK void tmwatch_orders_discard(tmwatch_simulation *orders);
 
 /* Between two rounds: all threads know all. And in this round no load is to be stale, and no store late. */
 WEAK void tmwatch_orders_round(tmwatch_simulation *orders);
@@ -100,6 +92,3 @@ WEAK void tmwatch_orders_tell(const tmwatch_simulation *orders, FILE *file, uint
 WEAK void tmwatch_orders_tell_race(const tmwatch_simulation *orders, char *text, size_t size);
 WEAK void tmwatch_orders_tell_delay(const tmwatch_delay *delay, char *text, size_t size);
 WEAK uint64_t tmwatch_orders_tell_unseen(const tmwatch_simulation *orders, FILE *file, bool is_wrong);
-
-#undef WEAK
-#endif

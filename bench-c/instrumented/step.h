@@ -1,6 +1,4 @@
 /* What the bench (instrumented_step.c) has for the objects that are linked with the memory: those of this folder. */
-#ifndef STEP_H
-#define STEP_H
 #include "orders.h"
 #include "tmwatch_bench.h"
 
@@ -56,4 +54,3 @@ void tmwatch_lock_taken(const void *lock);
 void tmwatch_lock_returning(const volatile void *lock);
 void tmwatch_lock_returned(const void *lock);
 void tmwatch_step_gives_back(const void *block, size_t size);
-#endif

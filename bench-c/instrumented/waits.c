@@ -1,7 +1,6 @@
-/* By steps, what a thread waits for: a lock that another holds, a condition, what another makes once, a barrier, a time, a yield, and a
-   futex, as of the locks of Rust. Without these, only the watchdog sees that it waits. A program calls them in place of the C library's if
-   it is linked with -Wl,--wrap= and the names of packaging/wrapped.txt. Each of them is a step, and what the thread has stored is out before
-   it. By the orders of C++20 a lock acquires what it released. */
+/* By steps, what a thread waits for: a lock, a condition, what another makes once, a barrier, a time, a yield, and a futex, as of Rust's
+   locks. Without these, only the watchdog sees that it waits. A program calls them in place of the C library's if it is linked with -Wl,--wrap=
+   and the names of packaging/wrapped.txt. Each is a step, and what the thread has stored is out before. A lock acquires what it released. */
 #define _GNU_SOURCE
 #include "step.h"
 #include <errno.h>
@@ -9,12 +8,10 @@
 #include <link.h>
 #include <linux/futex.h>
 #include <pthread.h>
-#include <sched.h>
 #include <semaphore.h>
 #include <string.h>
 #include <sys/syscall.h>
 #include <threads.h>
-#include <time.h>
 #include <unistd.h>
 
 /* How many pauses a yield counts as; and a sleep, after which another thread always goes on. */
@@ -51,7 +48,6 @@ static int has_locked(int status, const volatile void *lock, bool is_shared)
     return status;
 }
 
-/* A lock is about to be given back. */
 void tmwatch_lock_returning(const volatile void *lock)
 {
     tmwatch_simulation *orders = tmwatch_step_orders();
@@ -70,23 +66,22 @@ void tmwatch_lock_returning(const volatile void *lock)
     }
 /* A lock or a semaphore is tried, or taken. By steps a thread tries until it is free, or no other thread is able to run: a time is over then,
    with the status that says so, and without one that is left to the C library. */
-#define LOCK(name, try_name, lock_type, is_shared)                                         \
-    WRAPPED(int, try_name, lock_type *lock)                                                \
-    {                                                                                      \
-        is_stepped();                                                                      \
-        return has_locked(__real_##try_name(lock), lock, is_shared);                       \
-    }                                                                                      \
-    __attribute__((weak)) int __real_##name(lock_type *lock);                              \
-    static int name##_by_steps(lock_type *lock, int over)                                  \
-    {                                                                                      \
-        int status;                                                                        \
-        bool is_alone = false;                                                             \
-        while (is_held(status = __real_##try_name(lock)) && !is_alone)                     \
-            is_alone = tmwatch_step_wait((const void *)lock, false) == TMWATCH_STEP_ALONE; \
-        if (is_held(status))                                                               \
-            status = over ? (errno = ETIMEDOUT, over) : __real_##name(lock);               \
-        return has_locked(status, lock, is_shared);                                        \
-    }                                                                                      \
+#define LOCK(name, try_name, lock_type, is_shared)                                                    \
+    WRAPPED(int, try_name, lock_type *lock)                                                           \
+    {                                                                                                 \
+        is_stepped();                                                                                 \
+        return has_locked(__real_##try_name(lock), lock, is_shared);                                  \
+    }                                                                                                 \
+    __attribute__((weak)) int __real_##name(lock_type *lock);                                         \
+    static int name##_by_steps(lock_type *lock, int over)                                             \
+    {                                                                                                 \
+        int status;                                                                                   \
+        while (is_held(status = __real_##try_name(lock)) && tmwatch_lock_awaited((const void *)lock)) \
+            ;                                                                                         \
+        if (is_held(status))                                                                          \
+            status = over ? (errno = ETIMEDOUT, over) : __real_##name(lock);                          \
+        return has_locked(status, lock, is_shared);                                                   \
+    }                                                                                                 \
     STEPPED(int, return, name, (lock), name##_by_steps(lock, 0), lock_type *lock)
 #define UNTIL const struct timespec *until
 #define TIMED(name, lock_name, lock_type, over) \
@@ -124,8 +119,7 @@ LOCK(mtx_lock, mtx_trylock, mtx_t, false)
 TIMED(mtx_timedlock, mtx_lock, mtx_t, thrd_timedout)
 UNLOCK(mtx_unlock, mtx_t)
 
-/* The same for a lock of another language. It was tried: whether the thread goes by steps. Others run until it may be free: whether to try
-   again. It was taken; it was given back. */
+/* For a lock of another language: it is tried (whether by steps), others run until it may be free (whether to try again), it was taken. */
 bool tmwatch_lock_tried(void)
 {
     return is_stepped();
@@ -269,8 +263,7 @@ WRAPPED(int, __cxa_guard_acquire, uint64_t *guard)
 GUARD(__cxa_guard_release, true)
 GUARD(__cxa_guard_abort, false)
 
-/* A barrier orders all that meet there. The C library waits: among those that are to come there is a thread of the memory's own, since else
-   no transaction would end that runs alone. */
+/* A barrier orders all that meet there. The C library waits: a thread of the memory's own has to come, or no transaction would end alone. */
 WRAPPED(int, pthread_barrier_wait, pthread_barrier_t *barrier)
 {
     is_stepped();

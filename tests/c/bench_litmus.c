@@ -47,6 +47,22 @@ static void weak_fence(struct round *it)
     atomic_thread_fence(memory_order_acq_rel);
 }
 
+/* (a thread's own store is read where it is still delayed) */
+static void load_both(struct round *it)
+{
+    load(&it->x);
+    load(&it->y);
+}
+
+#ifdef WIDE
+static void change_wide(struct round *it)
+{
+    (void)it;
+    __extension__ static unsigned __int128 at;
+    __atomic_fetch_add(&at, 1, __ATOMIC_RELAXED);
+}
+#endif
+
 static void change(struct round *it)
 {
     atomic_fetch_add_explicit(&it->z, 1, memory_order_relaxed);
@@ -72,6 +88,10 @@ static void buffering(struct round *it, unsigned thread, void (*between)(struct 
 BUFFERING(nothing)
 BUFFERING(fence)
 BUFFERING(weak_fence)
+BUFFERING(load_both)
+#ifdef WIDE
+BUFFERING(change_wide)
+#endif
 BUFFERING(change)
 BUFFERING(store_last)
 
@@ -145,6 +165,10 @@ static const struct litmus {
     {"SB", with_nothing, {{SOMETIMES, SOMETIMES, NEVER}, {SOMETIMES, ANY, NEVER}, {NEVER, NEVER, NEVER}}},
     {"SB, a fence", with_fence, {{NEVER, SOMETIMES, NEVER}, {SOMETIMES, SOMETIMES, NEVER}, {NEVER, NEVER, NEVER}}},
     {"SB, a weaker fence", with_weak_fence, {{SOMETIMES, SOMETIMES, NEVER}, {SOMETIMES, ANY, NEVER}, {NEVER, NEVER, NEVER}}},
+    {"SB, loads", with_load_both, {{SOMETIMES, SOMETIMES, NEVER}, {SOMETIMES, ANY, NEVER}, {NEVER, NEVER, NEVER}}},
+#ifdef WIDE
+    {"SB, 16 bytes", with_change_wide, {{NEVER, SOMETIMES, NEVER}, {SOMETIMES, SOMETIMES, NEVER}, {NEVER, NEVER, NEVER}}},
+#endif
     {"SB, a read-modify-write", with_change, {{NEVER, SOMETIMES, NEVER}, {SOMETIMES, SOMETIMES, NEVER}, {NEVER, NEVER, NEVER}}},
     {"SB, a seq_cst store", with_store_last, {{NEVER, SOMETIMES, NEVER}, {SOMETIMES, SOMETIMES, NEVER}, {NEVER, NEVER, NEVER}}},
     {"MP", pass, {{SOMETIMES, SOMETIMES, NEVER}, {NEVER, SOMETIMES, NEVER}, {NEVER, NEVER, NEVER}}},

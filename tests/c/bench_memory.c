@@ -1,4 +1,4 @@
-/* The bench while each call for memory, or for a thread, is refused in turn, and whether any memory stays behind. */
+/* The bench while each call for memory, or for a thread, is refused in turn, or the watch has no place left, and whether any memory stays. */
 #include "tmwatch_bench.h"
 #include "../../examples/recorders/memory.h"
 #include "check.h"
@@ -16,6 +16,15 @@ int __real_pthread_create(pthread_t *thread, const pthread_attr_t *how, void *(*
 int __wrap_pthread_create(pthread_t *thread, const pthread_attr_t *how, void *(*work)(void *), void *argument)
 {
     return ++threads == refused_thread ? 11 : __real_pthread_create(thread, how, work, argument);
+}
+
+/* How many places were asked for; and at which of these calls the watch has none left, if at any. */
+static atomic_uint asked, spent;
+uint32_t __real_tmwatch_room(tmwatch_recorder *recorder, uint64_t events);
+
+uint32_t __wrap_tmwatch_room(tmwatch_recorder *recorder, uint64_t events)
+{
+    return ++asked >= spent && spent > 0 ? TMWATCH_SPENT : __real_tmwatch_room(recorder, events);
 }
 
 static bool begin(void *memory, void *tx)
@@ -66,7 +75,7 @@ static uint32_t run(void)
     threads = 0;
     uint32_t status = tmwatch_bench(&memory, &plan, &benched);
     CHECK(blocks == 0);
-    CHECK(status == TMWATCH_DONE ? benched.told.verdict == TMWATCH_OPAQUE_SO_FAR && benched.rounds == 20
+    CHECK(status == TMWATCH_DONE ? benched.told.verdict == TMWATCH_OPAQUE_SO_FAR && (spent > 0 ? benched.rounds < 20 : benched.rounds == 20)
                                  : status == TMWATCH_MEMORY && memcmp(&before, &benched, sizeof before) == 0);
     return status;
 }
@@ -82,6 +91,8 @@ int main(void)
     for (refused_thread = 1; refused_thread <= THREADS; refused_thread++)
         CHECK(run() == TMWATCH_MEMORY);
     CHECK(run() == TMWATCH_DONE && peak < 4 << 20);
+    spent = asked + 10;
+    CHECK(run() == TMWATCH_DONE);
     printf("%lu refusals\n", refusals);
     return 0;
 }

@@ -3,6 +3,7 @@ A memory of one lock on the bench, whose threads store by relaxed atomic stores 
 things without a mark: a delayed store must not come out later. By -DKIND= the bytes are the transaction's own (TX), a local variable's
 (LOCAL), a block's of the heap (HEAP), or such a block's that is made larger (GROWN). By REGISTERED each thread has a block of its own,
 which it makes where the transaction's bytes say that it has none: they are all 0 before its first transaction, and then as it left them.
+By ASSIGNED the transaction's bytes are stored to with a mark.
 */
 #include "tmwatch_bench.h"
 #include <pthread.h>
@@ -15,7 +16,7 @@ which it makes where the transaction's bytes say that it has none: they are all 
 #endif
 
 enum { REGISTERS = 8, WRONG = 0xbad };
-enum kind { TX, LOCAL, HEAP, GROWN, REGISTERED };
+enum kind { TX, LOCAL, HEAP, GROWN, REGISTERED, ASSIGNED };
 
 struct tx {
     bool is_registered;
@@ -75,7 +76,10 @@ static bool begin(void *memory, void *tx)
     if (kind == REGISTERED && !it->is_registered)
         own = calloc(1, sizeof words);
     atomic_store_explicit(&it->status, 1, memory_order_relaxed);
-    memset(it, 0, sizeof *it);
+    if (kind == ASSIGNED)
+        *(uint64_t *)(void *)&it->status = 0;
+    else
+        memset(it, 0, sizeof *it);
     it->is_registered = true;
     pthread_mutex_lock(&mutex);
     memcpy(kind == REGISTERED ? own : it->before, words, sizeof words);

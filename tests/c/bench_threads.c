@@ -1,10 +1,17 @@
 /*
-The little memory of examples/c on the bench. At the end the program prints how many threads have begun a transaction.
+The little memory of examples/c on the bench. At the end the program prints how many threads have begun a transaction. By -DSLEEP= each
+attempt first sleeps for so many milliseconds.
 */
+#define _POSIX_C_SOURCE 200809L
 #include "tmwatch_bench.h"
 #undef TMWATCH_BENCH_MAIN
 #define TMWATCH_BENCH_MAIN(memory)
 #include "../../examples/c/norec.c"
+#include <time.h>
+
+#ifndef SLEEP
+#define SLEEP 0
+#endif
 
 static atomic_uint threads;
 
@@ -13,6 +20,8 @@ static bool count_begin(void *unused, void *tx)
     static _Thread_local bool is_known;
     threads += !is_known;
     is_known = true;
+    if (SLEEP > 0)
+        nanosleep(&(struct timespec){0, SLEEP * 1000000}, NULL);
     return norec_begin(unused, tx);
 }
 

@@ -2,8 +2,8 @@
 A memory of one lock on the bench, which a thread holds from a transaction's beginning to its end. It writes in place, with no order but the
 lock's; by -DPLAIN its words are plain data. The lock is one of the table below, as -DLOCK= or the environment's LOCK says; the word `names`
 alone prints those that the bench sees. Those of READ_WRITE are taken for writing by one transaction in two. By ONCE and CALL_ONCE
-transactions also look for what one in four of them makes; by BARRIER they meet a thread of the memory's own. By EVENT and ASSEMBLY the lock
-is one that the bench doesn't see.
+transactions also look for what one in four of them makes; by BARRIER they meet a thread of the memory's own; by FIRST all wait until thread 0
+has a mutex that it waits for. By EVENT and ASSEMBLY the lock is one that the bench doesn't see.
 
 Three are wrong. By LOST a signal may come between the look at the lock and the wait for it, and is lost; by RELAXED the lock orders
 nothing. By LATE some transactions wait for a while where the bench doesn't see it, and later ones read a wrong value.
@@ -35,7 +35,7 @@ typedef _Atomic uint64_t word;
 #define STORE(word, value) atomic_store_explicit(&(word), value, memory_order_relaxed)
 #endif
 
-enum { REGISTERS = 8, LATER = 1000, MADE = 1 << 18, WAITED = 400, WAITS = 8, WRONG = 800, WHILE = 200 };
+enum { REGISTERS = 8, LATER = 1000, MADE = 1 << 18, WAITED = 400, WAITS = 4, WRONG = 800, WHILE = 1000 };
 
 struct tx {
     bool only_reads;
@@ -179,6 +179,33 @@ static void give_event(void)
         abort();
 }
 
+/* A mutex that others leave to thread 0 if that waits for it. */
+static atomic_bool is_awaited;
+
+static void leave_to_first(void)
+{
+    while (atomic_load_explicit(&is_awaited, memory_order_relaxed))
+        sched_yield();
+}
+
+static void take_after_first(void)
+{
+    bool is_first = tmwatch_thread() == 0;
+    if (!is_first)
+        leave_to_first();
+    else
+        atomic_store_explicit(&is_awaited, true, memory_order_relaxed);
+    pthread_mutex_lock(&mutex);
+    if (is_first)
+        atomic_store_explicit(&is_awaited, false, memory_order_relaxed);
+}
+
+static void give_to_first(void)
+{
+    pthread_mutex_unlock(&mutex);
+    leave_to_first();
+}
+
 /* A lock whose bytes no marked code touches. */
 static void take_assembly(void)
 {
@@ -250,6 +277,7 @@ static void take_late(void)
     KIND(SLEEP_CLOCKED, UNTIL_FREE(clock_nanosleep(CLOCK_MONOTONIC, 0, &moment, NULL)), FREE)                                              \
     KIND(SLEEP_SHORT, UNTIL_FREE(usleep(MICROSECONDS)), FREE)                                                                                          \
     KIND(SLEEP_C11, UNTIL_FREE(thrd_sleep(&moment, NULL)), FREE)                                                                           \
+    KIND(FIRST, take_after_first(), give_to_first())                                                                                       \
     KIND(EVENT, take_event(), give_event())                                                                                                \
     KIND(ASSEMBLY, take_assembly(), give_assembly())                                                                                       \
     KIND(LOST, take_lost(), give_lost())                                                                                                   \

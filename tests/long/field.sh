@@ -30,7 +30,7 @@ fi
 
 # The version of a package, or of the last that fits a pattern, without Debian's own part.
 version_of() {
-    dpkg-query -W -f '${Version}\n' "$1" 2>/dev/null | sed 's/^[0-9]*://; s/[-+].*//; s/\.ds[0-9]*$//' | grep . | tail -n 1
+    dpkg-query -W -f '${Version}\n' "$1" 2>/dev/null | sed 's/^[0-9]*://; s/[-+].*//; s/\(\.[0-9]*\)\?\.ds[0-9]*$//' | grep . | tail -n 1
 }
 
 # Begins the rows of a system, if it is wanted: its folder, its name and its version.
@@ -178,8 +178,10 @@ if system firebird Firebird "$(version_of libfbclient2)"; then
     record SNAPSHOT all any "$field/firebird/run" SNAPSHOT
     record 'SNAPSHOT (1)' none - "$field/firebird/run" SNAPSHOT "${one[@]}"
     # (another has to commit between a begin and its first call, which by steps are one)
-    record 'SNAPSHOT TABLE STABILITY' any any "$field/firebird/run" 'SNAPSHOT TABLE STABILITY'
-    record 'SNAPSHOT TABLE STABILITY (1)' none - "$field/firebird/run" 'SNAPSHOT TABLE STABILITY' "${one[@]}"
+    stable=("$field/firebird/run" 'SNAPSHOT TABLE STABILITY')
+    record 'SNAPSHOT TABLE STABILITY, steps' none - "${stable[@]}" --schedule steps
+    record 'SNAPSHOT TABLE STABILITY, permits' all - "${stable[@]}" --schedule permits --threads 8
+    record 'SNAPSHOT TABLE STABILITY (1)' none - "${stable[@]}" "${one[@]}"
     ends 'Firebird, write skew without chance' 1 "$field/firebird/run" skew 'SNAPSHOT TABLE STABILITY'
 fi
 if system mnesia Mnesia "$(version_of erlang-mnesia)"; then

@@ -103,7 +103,7 @@ static void run(const struct made *steps, const tmwatch_delay *made, unsigned ot
     tmwatch_orders_still(orders);
     for (unsigned i = 0; i < MOST_STEPS && steps[i].kind != END; i++)
         make_step(i == other ? another : &steps[i]);
-    tmwatch_orders_discard(orders);
+    free(orders);
 }
 
 /* A second run is made; not so if it differs by one step, but for the answer, or is of another round. */
@@ -164,7 +164,7 @@ static void check_bounds(void)
     while (orders->round + 1 < FOLLOWED_ROUNDS)
         begin_run(orders);
     CHECK(keeps(0) && !keeps(0));
-    tmwatch_orders_discard(orders);
+    free(orders);
 }
 
 int main(void)

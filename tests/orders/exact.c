@@ -226,6 +226,6 @@ int main(int count, char **given)
     }
     printf("%lu programs, %lu runs: of %lu allowed executions %lu are missing, and %lu forbidden ones came\n", programs, runs, sum_allowed,
            missing, forbidden);
-    tmwatch_orders_discard(orders);
+    free(orders);
     return sum_allowed == 0 || forbidden > 0 || missing > 0;
 }

@@ -193,6 +193,6 @@ int main(void)
                all[i].name);
     }
     printf("%zu litmus tests, %u wrong\n", sizeof all / sizeof all[0], wrong);
-    tmwatch_orders_discard(orders);
+    free(orders);
     return wrong > 0;
 }

@@ -122,6 +122,6 @@ int main(int count, char **given)
     }
     printf("%lu random runs, none forbidden: %lu loads, %lu stale; %lu late stores, %lu changes of older ones, %lu swaps that failed by one\n",
            runs, seen.loads, seen.stale, seen.late, seen.changed, seen.failed);
-    tmwatch_orders_discard(orders);
+    free(orders);
     return 0;
 }

@@ -14,7 +14,7 @@ static _Atomic uint64_t words[WORDS];
 static uint64_t plain;
 
 /* Places in the program, each in a line of its own: where a call returns to is in the next one. */
-enum mark { NEWER, LATER, LATEST, READS_LATER, READS_LATEST, MISSES, STORES_LATE, UNSEEN, MARKS };
+enum mark { NEWER, LATER, LATEST, READS_LATER, READS_LATEST, MISSES, STORES_LATE, UNSEEN, PASSED_IN_CXX, PASSED_IN_RUST, MARKS };
 static const void *places[MARKS];
 static unsigned first_line;
 
@@ -22,6 +22,14 @@ __attribute__((noinline)) static void keep(enum mark mark)
 {
     places[mark] = __builtin_return_address(0);
 }
+
+/* Lines of the libraries of C++ and Rust, which pass a call on. */
+#define PASS __attribute__((always_inline)) static inline void
+#line 1 "/usr/include/c++/12/bits/atomic_base.h"
+PASS pass_in_cxx(enum mark mark) { keep(mark); }
+#line 1 "/rust/src/sync/atomic.rs"
+PASS pass_in_rust(enum mark mark) { keep(mark); }
+#line 33 "told.c"
 
 __attribute__((noinline)) static void keep_all(void)
 {
@@ -34,6 +42,8 @@ __attribute__((noinline)) static void keep_all(void)
     keep(MISSES);
     keep(STORES_LATE);
     keep(UNSEEN);
+    pass_in_cxx(PASSED_IN_CXX);
+    pass_in_rust(PASSED_IN_RUST);
     __asm__ volatile("");
 }
 
@@ -77,15 +87,15 @@ static void meets_all(void)
     event = LAST;
     loads(2, MISSES, Z, false);
     tmwatch_access stored = {orders, 0, places[NEWER], &plain, sizeof plain, 0}, loaded = {orders, 1, places[LATER], &plain, sizeof plain, 0};
-    tmwatch_orders_plain_store(&stored, sizeof plain, false);
-    tmwatch_orders_plain_load(&loaded, sizeof plain);
-    tmwatch_orders_plain_store(&loaded, sizeof plain, false);
+    tmwatch_orders_plain(&stored, sizeof plain, true, true);
+    tmwatch_orders_plain(&loaded, sizeof plain, false, true);
+    tmwatch_orders_plain(&loaded, sizeof plain, true, true);
     words[X] = 4;
     loads(1, UNSEEN, X, true);
     tmwatch_orders_futex(orders, words, places[UNSEEN]);
 }
 
-/* Writes out a format in which %0 to %7 are these places. */
+/* Writes out a format in which %0 to %9 are these places. */
 static void place_lines(const char *format, char *to)
 {
     for (; *format; format++)
@@ -114,6 +124,16 @@ static char *told(uint64_t from, uint64_t to)
     size_t size;
     FILE *file = open_memstream(&text, &size);
     tmwatch_orders_tell(orders, file, from, to);
+    fclose(file);
+    return text;
+}
+
+static char *told_place(enum mark mark)
+{
+    char *text = NULL;
+    size_t size;
+    FILE *file = open_memstream(&text, &size);
+    print_place(file, places[mark]);
     fclose(file);
     return text;
 }
@@ -158,6 +178,9 @@ int main(void)
                   "code that the compiler has not marked, or a thread of the memory's own, stores to what is loaded at %7: what that orders is "
                   "not seen, so a violation may be false\n"
                   "a lock or a wait of code that the compiler has not marked, in %7: what that orders is not seen, so a violation may be false\n"));
-    tmwatch_orders_discard(orders);
+    CHECK(is_text(told_place(PASSED_IN_CXX), "%8") && is_text(told_place(PASSED_IN_RUST), "%9"));
+    /* (each process that was asked for lines has been waited for) */
+    CHECK(waitpid(-1, NULL, WNOHANG) < 0);
+    free(orders);
     return 0;
 }

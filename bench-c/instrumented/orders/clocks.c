@@ -1,7 +1,6 @@
 /* Clocks: what a thread knows of all others, and what is drawn. */
 
-enum { THREADS = 8 };
-enum { RELAXED = __ATOMIC_RELAXED, RELEASE = __ATOMIC_RELEASE, SEQUENTIAL = __ATOMIC_SEQ_CST };
+enum { THREADS = 8, RELAXED = __ATOMIC_RELAXED, RELEASE = __ATOMIC_RELEASE, SEQUENTIAL = __ATOMIC_SEQ_CST };
 
 /* A step of each thread, the first of which is 1; or 0. */
 struct clock {

@@ -8,12 +8,10 @@ static void keep_deviation(const tmwatch_access *a, const struct place *it, unsi
         return;
     const struct store *next = &it->stores[found + 1];
     const struct met *met = &o->met[a->thread][next->thread];
-    struct deviation *kept = &o->deviations[o->deviated++ % KEPT_DEVIATIONS];
-    *kept = (struct deviation){*o->recorded,           a->caller,    next->caller,
-                               {0, NULL, NULL},        (uint8_t)kind, (uint8_t)a->thread,
-                               next->thread,           (uint8_t)(it->count - 1 - found)};
-    if (met->step > next->seen.at[next->thread])
-        kept->met = *met;
+    bool is_later = met->step > next->seen.at[next->thread];
+    o->deviations[o->deviated++ % KEPT_DEVIATIONS] = (struct deviation){
+        *o->recorded, a->caller, next->caller, is_later ? *met : (struct met){0, NULL, NULL},
+        (uint8_t)kind, (uint8_t)a->thread, next->thread, (uint8_t)(it->count - 1 - found)};
 }
 
 /* Keeps that a thread has read a store of another. */
@@ -122,11 +120,11 @@ uint64_t tmwatch_orders_tell_unseen(const tmwatch_simulation *o, FILE *file, boo
                                          "a lock or a wait of code that the compiler has not marked, in "};
     uint64_t kinds = 0;
     for (unsigned i = 0; i < UNSEEN_KINDS; i++) {
-        kinds |= (uint64_t)(o->unseen[i] > 0) << i;
-        if (!is_wrong || o->unseen[i] == 0)
+        kinds |= (uint64_t)(o->unseen[i] != NULL) << i;
+        if (!is_wrong || !o->unseen[i])
             continue;
         fputs(unseen[i], file);
-        print_place(file, o->unseen_caller[i]);
+        print_place(file, o->unseen[i]);
         fputs(": what that orders is not seen, so a violation may be false\n", file);
     }
     return kinds;

@@ -5,18 +5,12 @@ enum { MOST_LINE = 512 };
 /* Starts addr2line on an address: what it prints, and its number. The program's own name leads to another process's. */
 static FILE *start_addr2line(const struct found *it, pid_t *child)
 {
-    const char *name = it->name[0] ? it->name : "/proc/self/exe";
-    char place[32], file[MOST_LINE];
+    char place[32], file[PATH_MAX];
     char *words[] = {"addr2line", "-Cife", file, place, NULL};
     posix_spawn_file_actions_t actions;
     int ends[2];
     snprintf(place, sizeof place, "0x%llx", (unsigned long long)it->at);
-    ssize_t length = readlink(name, file, sizeof file - 1);
-    if (length > 0)
-        file[length] = '\0';
-    else
-        snprintf(file, sizeof file, "%s", name);
-    if (pipe2(ends, O_CLOEXEC) != 0)
+    if (!realpath(it->name[0] ? it->name : "/proc/self/exe", file) || pipe2(ends, O_CLOEXEC) != 0)
         return NULL;
     posix_spawn_file_actions_init(&actions);
     posix_spawn_file_actions_adddup2(&actions, ends[1], STDOUT_FILENO);
@@ -42,13 +36,7 @@ static bool read_line(FILE *file, char line[MOST_LINE])
     return true;
 }
 
-/* Whether a line of the source only passes the access on: of the standard libraries of C++ and Rust, or of tmwatch::sync. */
-static bool is_wrapper(const char *line)
-{
-    return strstr(line, "/include/c++/") || strstr(line, "/src/sync/atomic.rs:");
-}
-
-/* Prints where an address is in the program: the function and the line, or the address if these aren't known. */
+/* Prints an address as function and line, if these are known. Lines of the libraries of C++ and Rust, or tmwatch::sync, pass accesses on. */
 static void print_place(FILE *to, const void *address)
 {
     struct found it = {(uintptr_t)address - 1, "", false};
@@ -59,8 +47,9 @@ static void print_place(FILE *to, const void *address)
         return;
     }
     FILE *printed = start_addr2line(&it, &child);
-    while (printed && read_line(printed, function) && read_line(printed, line) && is_wrapper(line))
-        ;
+    bool is_passed_on = printed != NULL;
+    while (is_passed_on && read_line(printed, function) && read_line(printed, line))
+        is_passed_on = strstr(line, "/include/c++/") || strstr(line, "/src/sync/atomic.rs:");
     if (printed) {
         fclose(printed);
         waitpid(child, NULL, 0);

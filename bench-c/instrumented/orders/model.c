@@ -1,10 +1,8 @@
 /* The model: what a load may return, where a store goes, and what is known then. */
 
-/* Of 16, how many choices are not the newest, if they may be; a thread that has loaded so many stale values in a row from one place gets the
-   newest. */
+/* Of 16, how many choices are not the newest, if they may be; after so many stale loads in a row of one place, a thread gets the newest. */
 enum { ODDS = 16, LATE_ODDS = 4, MOST_STALE = 8 };
 
-/* This thread at its next step. */
 static struct view *next_step(tmwatch_simulation *o, unsigned thread)
 {
     struct view *it = &o->views[thread];
@@ -27,6 +25,16 @@ static void pass(tmwatch_simulation *o, struct view *view)
 {
     join(&view->knows, &o->untracked);
     o->untracked = view->knows;
+}
+
+/* The place of the thread's next access; or null, which is beside the table. */
+static struct place *next_place(const tmwatch_access *a)
+{
+    struct view *view = next_step(a->orders, a->thread);
+    struct place *it = find_place(a);
+    if (!it)
+        pass(a->orders, view);
+    return it;
 }
 
 /* Reads a store of the place, and is about to store after it or not. */
@@ -67,27 +75,20 @@ static bool may_change(const struct place *it, unsigned found)
 
 uint64_t tmwatch_orders_load(const tmwatch_access *a)
 {
-    tmwatch_simulation *o = a->orders;
-    struct view *view = next_step(o, a->thread);
-    struct place *it = find_place(a);
     look_for_race(a, a->bytes, ATOMIC_LOAD);
-    if (it)
-        return keep_load(a, it, read_store(a, it, draw_store(a, it, a->order, o->stale), false));
-    pass(o, view);
-    return in_memory(a->at, a->bytes);
+    struct place *it = next_place(a);
+    if (!it)
+        return in_memory(a->at, a->bytes);
+    return keep_load(a, it, read_store(a, it, draw_store(a, it, a->order, a->orders->stale), false));
 }
 
 bool tmwatch_orders_take(const tmwatch_access *a, uint64_t *held)
 {
     tmwatch_simulation *o = a->orders;
-    struct view *view = next_step(o, a->thread);
-    struct place *it = find_place(a);
-    o->taken = it;
+    struct place *it = o->taken = next_place(a);
     *held = in_memory(a->at, a->bytes);
-    if (!it) {
-        pass(o, view);
+    if (!it)
         return true;
-    }
     unsigned found = draw_store(a, it, a->order, o->late);
     o->taken_store = may_change(it, found) ? found : it->count - 1;
     *held = read_store(a, it, o->taken_store, true);
@@ -108,21 +109,18 @@ static unsigned draw_compared(const tmwatch_access *a, const struct place *it, u
 enum tmwatch_compared tmwatch_orders_compare(const tmwatch_access *a, uint64_t *held, int failed, bool is_weak)
 {
     tmwatch_simulation *o = a->orders;
-    struct view *view = next_step(o, a->thread);
-    struct place *it = find_place(a);
+    struct place *it = o->taken = next_place(a);
     uint64_t newest = in_memory(a->at, a->bytes), looked_for = *held;
     tmwatch_access to_fail = *a;
     to_fail.order = failed;
-    o->taken = it;
     if (!it) {
-        pass(o, view);
         *held = newest;
         return newest == looked_for ? TMWATCH_TAKES_NEWEST : TMWATCH_FAILS;
     }
     unsigned found = draw_compared(a, it, looked_for, failed);
     bool is_spurious = is_weak && draw_below(&o->draws, ODDS) == 0;
     if (it->stores[found].value != looked_for || is_spurious) {
-        if (is_spurious && found < floor_of(o, it, view, failed))
+        if (is_spurious && found < floor_of(o, it, &o->views[a->thread], failed))
             found = it->count - 1;
         *held = read_store(&to_fail, it, found, false);
         look_for_race(a, a->bytes, ATOMIC_LOAD);
@@ -154,12 +152,9 @@ static struct store *add_store(const tmwatch_access *a, struct place *it, unsign
 bool tmwatch_orders_store(const tmwatch_access *a, uint64_t value)
 {
     tmwatch_simulation *o = a->orders;
-    struct view *view = next_step(o, a->thread);
-    struct place *it = find_place(a);
-    if (!it) {
-        pass(o, view);
+    struct place *it = next_place(a);
+    if (!it)
         return true;
-    }
     unsigned after = draw_store(a, it, a->order, o->late);
     while (!may_change(it, after))
         after++;
@@ -183,13 +178,12 @@ void tmwatch_orders_change(const tmwatch_access *a, uint64_t value)
 
 void tmwatch_orders_fence(const tmwatch_access *a)
 {
-    tmwatch_simulation *o = a->orders;
-    struct view *view = next_step(o, a->thread);
+    struct view *view = next_step(a->orders, a->thread);
     if (acquires(a->order))
         join(&view->knows, &view->loaded);
     follow_fence(a);
     if (a->order == SEQUENTIAL)
-        settle_fence(o, a->thread);
+        settle_fence(a->orders, a->thread);
     if (releases(a->order))
         view->fenced = view->knows;
 }
@@ -213,16 +207,12 @@ void tmwatch_orders_forget(tmwatch_simulation *o, const volatile void *at, size_
     forget_cells(o, (uintptr_t)at, bytes);
 }
 
-void tmwatch_orders_plain_load(const tmwatch_access *a, size_t bytes)
+void tmwatch_orders_plain(const tmwatch_access *a, size_t bytes, bool stores, bool is_lasting)
 {
-    look_for_race(a, bytes, PLAIN_LOAD);
-}
-
-void tmwatch_orders_plain_store(const tmwatch_access *a, size_t bytes, bool is_passing)
-{
-    if (!is_passing)
-        look_for_race(a, bytes, PLAIN_STORE);
-    forget_places(a->orders, (uintptr_t)a->at, bytes);
+    if (is_lasting)
+        look_for_race(a, bytes, stores ? PLAIN_STORE : PLAIN_LOAD);
+    if (stores)
+        forget_places(a->orders, (uintptr_t)a->at, bytes);
 }
 
 void tmwatch_orders_wide(const tmwatch_access *a)
@@ -291,11 +281,6 @@ tmwatch_simulation *tmwatch_orders_new(uint64_t seed, const atomic_uint_least64_
     o->delays = delays;
     tmwatch_orders_round(o);
     return o;
-}
-
-void tmwatch_orders_discard(tmwatch_simulation *o)
-{
-    free(o);
 }
 
 void tmwatch_orders_round(tmwatch_simulation *o)

@@ -1,6 +1,5 @@
 /* Races: two accesses of the same bytes by two threads, of which one stores, one is plain, and neither happens before the other. A plain
-   access isn't simulated, so that a memory shows nothing of its orders there. The first race is kept. Of atomic accesses a place's history
-   says who has made and first read which store. */
+   access isn't simulated, so that a memory shows nothing of its orders there. The first race is kept. */
 
 /* How many cells are tried for a word, and how many words of one access are looked at. */
 enum { MOST_TRIES = 8, MOST_WORDS = 64, ALL_BYTES = (1 << WORD_BYTES) - 1 };
@@ -11,13 +10,11 @@ static struct cell *find_cell(tmwatch_simulation *o, uintptr_t word, bool adds)
     uint64_t from = word * apart_words >> (64 - CELL_BITS);
     for (unsigned i = 0; i < MOST_TRIES; i++) {
         struct cell *it = &o->cells[(from + i) % CELLS];
-        if (it->round == o->round && it->word != word)
-            continue;
-        if (it->round != o->round && !adds)
-            return NULL;
-        if (it->round != o->round)
+        bool is_free = it->round != o->round;
+        if (is_free && adds)
             *it = (struct cell){.word = word, .round = o->round};
-        return it;
+        if (is_free || it->word == word)
+            return is_free && !adds ? NULL : it;
     }
     return NULL;
 }
@@ -94,7 +91,6 @@ static void look_at_word(const tmwatch_access *a, uintptr_t from, uintptr_t end,
     it->threads[kind] |= (uint8_t)(1u << a->thread);
 }
 
-/* Looks whether an access races with one before it. */
 static void look_for_race(const tmwatch_access *a, size_t bytes, enum access_kind kind)
 {
     uintptr_t from = (uintptr_t)a->at, end = from + bytes;

@@ -56,10 +56,9 @@ struct met {
     const void *stored, *loaded;
 };
 
-/* An access that wasn't of the newest store: by whom and where, who has made the store after it, how many events preceded; and what was read
-   before of that thread, if that was stored later. */
+/* An access of an older store than the newest: by whom and where, who has made the next one; and what later store of that was read before. */
 struct deviation {
-    uint64_t event;
+    uint64_t event; /* how many events preceded */
     const void *caller, *other;
     struct met met;
     uint8_t kind, thread, other_thread;
@@ -117,10 +116,10 @@ struct tmwatch_simulation {
     struct clock made; /* the last sequentially consistent operations that come before who comes after this access */
     struct place *taken; /* of the read-modify-write that is under way: its place, or null, and which store it has read */
     unsigned taken_store;
-    uint64_t draws, deviated, unseen[UNSEEN_KINDS];
+    uint64_t draws, deviated;
     uint32_t round;
     const atomic_uint_least64_t *recorded;
-    const void *unseen_caller[UNSEEN_KINDS];
+    const void *unseen[UNSEEN_KINDS]; /* where each was first met, or null */
     bool has_race;
     struct race race;
     tmwatch_delays *delays; /* or null: none is looked for */
@@ -194,23 +193,20 @@ static struct place *look_up(tmwatch_simulation *o, uintptr_t at, unsigned bytes
     return NULL;
 }
 
-/* Something was met that isn't simulated. */
 static void meet_unseen(tmwatch_simulation *o, enum unseen kind, const void *caller)
 {
-    if (o->unseen[kind]++ == 0)
-        o->unseen_caller[kind] = caller;
+    if (!o->unseen[kind])
+        o->unseen[kind] = caller;
 }
 
-/* The place of an access, or null. Memory holds its newest store: if it holds something else, a store that isn't simulated has come, and the
-   history is forgotten. */
+/* The place of an access, or null. If memory doesn't hold its newest store, one that isn't simulated has come, and the history is forgotten. */
 static struct place *find_place(const tmwatch_access *a)
 {
     tmwatch_simulation *o = a->orders;
     uintptr_t at = (uintptr_t)a->at;
     uint64_t newest = in_memory(a->at, a->bytes);
     struct place *it = look_up(o, at, a->bytes);
-    if (!it)
-        it = add_place(o, at, a->bytes);
+    it = it ? it : add_place(o, at, a->bytes);
     if (!it || (it->count > 0 && it->stores[it->count - 1].value == newest))
         return it;
     if (it->count > 0)

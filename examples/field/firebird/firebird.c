@@ -23,20 +23,30 @@ static bool store_begin(unsigned thread)
     return ask(thread, begin, NULL);
 }
 
+/* Makes a statement that returns a register's value: a store that finds no row has lost it. */
+static bool ask_row(unsigned thread, const char *words, uint64_t *value)
+{
+    ISC_SHORT missing = 0;
+    XSQLVAR column = {.sqltype = SQL_INT64 + 1, .sqllen = sizeof *value, .sqldata = (char *)value, .sqlind = &missing};
+    XSQLDA row = {.version = SQLDA_VERSION1, .sqln = 1, .sqld = 1, .sqlvar = {column}};
+    bool is_done = ask(thread, words, &row);
+    if (is_done && missing)
+        fail(words, "no row");
+    return is_done;
+}
+
 static bool store_read(unsigned thread, unsigned reg, uint64_t *value)
 {
     char words[100];
-    XSQLVAR column = {.sqltype = SQL_INT64, .sqllen = sizeof *value, .sqldata = (char *)value};
-    XSQLDA row = {.version = SQLDA_VERSION1, .sqln = 1, .sqld = 1, .sqlvar = {column}};
     sprintf(words, "SELECT v FROM registers WHERE k = %u", reg);
-    return ask(thread, words, &row);
+    return ask_row(thread, words, value);
 }
 
 static bool store_write(unsigned thread, unsigned reg, uint64_t value)
 {
     char words[100];
-    sprintf(words, "UPDATE registers SET v = %" PRIu64 " WHERE k = %u", value, reg);
-    return ask(thread, words, NULL);
+    sprintf(words, "UPDATE registers SET v = %" PRIu64 " WHERE k = %u RETURNING v", value, reg);
+    return ask_row(thread, words, &value);
 }
 
 static bool store_commit(unsigned thread)
