@@ -25,21 +25,21 @@ pub said-push : (w : Asked) (candidates : Candidates) (count : ℕ) (cases : Lis
     → AreSaid w candidates count cases → count < length w.states → is_said_for count cases ≡ false → old.states.items ≡ count ∷ []
     → Grows w candidates cases old case → AreSaid w candidates (count + 1) (cases ++ case ∷ [])
 said-push w candidates count cases old case said low none one grows =
-  let has : Contains case.states.items count = grows.said count (rw one (0, omega arith, refl)) in
-  let alone : AreOnce (length w.states) (said_places cases ++ []) = rw (append-nil (said_places cases)) said.once in
-  record {
-  are = All-push (IsMadeCase w candidates) cases case said.are grows.made;
-  some = All-push (λ c. 0 < length c.states.items) cases case said.some (omega (arith, has.1));
-  once = rw (said-more cases case) (grows.once (rw one (once-said (length w.states) count cases [] low refl none alone)));
-  each = λ place low. elim (cases_order place count) [
-    | inl same ↦
-        any-last (λ c. is_among place c.states.items) cases case (rw same (among-contains case.states.items count has))
-    | inr differ ↦ elim differ [
-      | inl before ↦ any-more (λ c. is_among place c.states.items) cases case (said.each place before)
-      | inr beyond ↦ absurd (omega (arith, low, beyond))
-    ]
-  ];
-}
+    let has : Contains case.states.items count = grows.said count (rw one (0, omega arith, refl)) in
+    let alone : AreOnce (length w.states) (said_places cases ++ []) = rw (append-nil (said_places cases)) said.once in
+    record {
+      are = All-push (IsMadeCase w candidates) cases case said.are grows.made;
+      some = All-push (λ c. 0 < length c.states.items) cases case said.some (omega (arith, has.1));
+      once = rw (said-more cases case) (grows.once (rw one (once-said (length w.states) count cases [] low refl none alone)));
+      each = λ place low. elim (cases_order place count) [
+        | inl same ↦
+            any-last (λ c. is_among place c.states.items) cases case (rw same (among-contains case.states.items count has))
+        | inr differ ↦ elim differ [
+          | inl before ↦ any-more (λ c. is_among place c.states.items) cases case (said.each place before)
+          | inr beyond ↦ absurd (omega (arith, low, beyond))
+        ]
+      ];
+    }
 
 pub said-same : (w : Asked) (candidates : Candidates) (count : ℕ) (cases : List ReasonCase) → AreSaid w candidates count cases
     → IsTrue (is_said_for count cases) → AreSaid w candidates (count + 1) cases

@@ -44,7 +44,7 @@ pub once-said : (count place : ℕ) (others : List ReasonCase) (places : List �
 once-said count place others places low absent none once =
     let all = said_places others ++ places in
     let nowhere : is_among place all ≡ false =
-        list_any-append (λ p. p == place) (said_places others) places ∙ (rw (said-among place others, none, absent) refl) in
+    list_any-append (λ p. p == place) (said_places others) places ∙ (rw (said-among place others, none, absent) refl) in
     rw (sym (append_assoc (said_places others) places (place ∷ []))) (once-push count place all once low nowhere)
 
 pub said-more : (cases : List ReasonCase) (case : ReasonCase) → said_places (cases ++ case ∷ []) ≡ said_places cases ++ case.states.items

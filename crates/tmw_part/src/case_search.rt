@@ -55,7 +55,8 @@ fn is_derivation(
         steps,
         end,
     } = derivation;
-    if !is_contradicted(judged, *assumed, steps, end) || !needs_assumed(judged, *assumed, steps, end)
+    if !is_contradicted(judged, *assumed, steps, end)
+        || !needs_assumed(judged, *assumed, steps, end)
     {
         return Ok(false);
     }

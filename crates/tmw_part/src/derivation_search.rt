@@ -125,11 +125,7 @@ fn assumes_from(source: &ValueSource, writer: Option<usize>, derivation: &Deriva
 }
 
 /// Whether each derivation assumes that the value comes from one of these, in their order.
-fn assume_each(
-    source: &ValueSource,
-    origins: &[Option<usize>],
-    derivations: &[Derivation],
-) -> bool
+fn assume_each(source: &ValueSource, origins: &[Option<usize>], derivations: &[Derivation]) -> bool
     ensures { result ≡ assume_each source.now origins.now derivations.now }
 {
     origins
@@ -151,10 +147,12 @@ fn is_split(
     let mut origins = start_of(alloc, judged, source)?;
     let writers = writers_of(alloc, judged, source)?;
     origins.extend_from_slice(&writers)?;
-    Ok(derivations.len() > 1
-        && derivations.len() == origins.len()
-        && is_asked(judged, &[], source)
-        && assume_each(source, &origins, derivations))
+    Ok(
+        derivations.len() > 1
+            && derivations.len() == origins.len()
+            && is_asked(judged, &[], source)
+            && assume_each(source, &origins, derivations),
+    )
 }
 
 /// Whether the only derivation assumes nothing.

@@ -205,9 +205,7 @@ fn is_known_rival(
     ensures { let w = judged.now in
         result ≡ is_known_rival w.transactions steps.now source.now place left }
 {
-    is_given(steps, source)
-        && is_rival(judged, steps, source, place, left)
-        && left != source.value
+    is_given(steps, source) && is_rival(judged, steps, source, place, left) && left != source.value
 }
 
 /// Whether by these steps the rival stands before the reader, where the value comes from a transaction.

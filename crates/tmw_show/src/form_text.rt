@@ -84,7 +84,7 @@ fn push_reason_of(
     requires { before + length shown.now.showing.events.items < 2 ^ 128 }
     ensures { let w = shown.now.showing in OnOk result (text.new.items ≡ text.old.items
         ++ found_text Line values.now before (members w.states) w.events.items
-            (reason_of shown.now.needed)) }
+        (reason_of shown.now.needed)) }
 {
     match &shown.needed {
         NeededEvents::Part {

@@ -65,12 +65,7 @@ fn may_count(origin: Option<Origin>) -> bool
 }
 
 /// Tells that the value stood in the register at the start.
-fn start_text(
-    alloc: Global,
-    values: &[u64],
-    register: u8,
-    value: u64,
-) -> Result<String, AllocError>
+fn start_text(alloc: Global, values: &[u64], register: u8, value: u64) -> Result<String, AllocError>
     ensures { IfOk result (λ text. string_bytes text ≡ start_text values.now register value) }
 {
     let value = Value(values, value);

@@ -155,11 +155,7 @@ fn push_needed(text: &mut Vec<u8>, needed: &NeededEvents) -> Result<(), AllocErr
 }
 
 /// Adds the reason, if one is told, of a window before which so many events stand.
-fn push_why(
-    text: &mut Vec<u8>,
-    before: u128,
-    shown: &ShownTrace,
-) -> Result<(), AllocError>
+fn push_why(text: &mut Vec<u8>, before: u128, shown: &ShownTrace) -> Result<(), AllocError>
     requires { before + length shown.now.showing.events.items < 2 ^ 128 }
     ensures { let w = shown.now.showing in OnOk result (text.new.items ≡ text.old.items
         ++ why_json before (members w.states) w.events.items (reason_of shown.now.needed)) }
