@@ -83,7 +83,7 @@ run_by_steps() {
     grep -q '"rescues":0,' "$folder/printed"
 }
 for name in norec tl2 versions undo locks readers sequence jumping mutex; do
-    ends "$name by steps, on one processor" 0 run_by_steps one taskset -c $few "$folder/$name"
+    ends "$name by steps, on one processor" 0 run_by_steps one taskset -c "$few" "$folder/$name"
     ends "$name by steps, on all" 0 run_by_steps two taskset -c "$many" "$folder/$name"
     ends "$name: the same trace" 0 cmp "$folder/one" "$folder/two"
     ends "$name by steps, another seed" 0 run_by_steps two "$folder/$name" --seed 2
