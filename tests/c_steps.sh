@@ -247,6 +247,7 @@ overlapped() {
     grep -q '"lacks":\[.*"overlap"' "$folder/printed" && ! grep -q '"lacks":\[.*"overlap"' "$folder/whole"
 }
 ends 'a last leg without overlap' 0 overlapped
+ends 'a last leg without overlap: nor is what has met less' 1 grep '"foreign":0,\|"widest":[01]}' "$folder/whole"
 # The place of what is wrong in the run is that in its trace, and what precedes the trace, also in a later leg.
 later() {
     local seed
@@ -507,6 +508,10 @@ ends 'a lock without a mark' 0 "$folder/spins" --schedule steps --rounds 20 --pa
 has_told 'a lock without a mark: rescues' '"rescues":[1-9]'
 ends 'rescues are told of' 0 grep -q "rescues: the memory waits for what the bench doesn't see" <("$folder/mutex_unseen" --schedule steps \
     --rounds 20 2>&1)
+
+paused stuck_unseen tests/c/bench_stuck.c MUTEX
+ends 'a memory that never returns, unseen' 4 "$folder/stuck_unseen" --schedule steps --patience 1
+has_told 'a memory that never returns, unseen: rescues' "^[1-9][0-9]* rescues: the memory waits for what the bench doesn't see\$"
 
 # A first interrupt ends a memory that never returns within a second, and a second one the program, if the machine has time once in three runs.
 interrupts_once() {
