@@ -273,7 +273,7 @@ paused threads tests/c/bench_threads.c NONE
 ends 'the threads of six legs' 0 "$folder/threads" --rounds 6000
 has_told 'the threads of six legs: how many' '^[2-8] threads$'
 # A thread that sleeps for less than a rescue takes, again and again, is not taken for one that is blocked.
-paused sleeping tests/c/bench_threads.c NONE -DSLEEP=20
+paused sleeping tests/c/bench_threads.c NONE -DSLEEP=30
 ends 'a thread that sleeps often' 0 "$folder/sleeping" --schedule steps --rounds 12 --threads 2 --mixes 100
 has_told 'a thread that sleeps often: no rescue' '"rescues":0,'
 
@@ -636,7 +636,7 @@ on_terminal() {
 }
 shows_progress() {
     on_terminal norec "$@" >"$folder/shown"
-    awk 'NR > 1 { is_wrong = is_wrong || !/^[0-9]+ rounds, [0-9]+ events, [0-9]+ unasked aborts[|]$/ || $1 < rounds || $3 <= events
+    awk 'NR > 1 { is_wrong = is_wrong || !/^[0-9]+ rounds, [0-9]+ events, [0-9]+ unasked aborts[|]$/ || $1 < rounds || $3 <= events || $1 >= $3
                   rounds = $1; events = $3; shown++ }
          END { exit is_wrong || shown < 3 || shown > 6 }' "$folder/shown"
 }
