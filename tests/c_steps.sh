@@ -256,6 +256,7 @@ overlapped() {
     grep -q '"lacks":\[.*"overlap"' "$folder/printed" && ! grep -q '"lacks":\[.*"overlap"' "$folder/whole"
 }
 ends 'a last leg without overlap' 0 overlapped
+ends 'a last leg without overlap: nor is what has met less' 1 grep '"foreign":0,\|"widest":[01]}' "$folder/whole"
 # The place of what is wrong in the run is that in its trace, and what precedes the trace, also in a later leg.
 later() {
     local seed
@@ -281,7 +282,7 @@ paused threads tests/c/bench_threads.c NONE
 ends 'the threads of six legs' 0 "$folder/threads" --rounds 6000
 has_told 'the threads of six legs: how many' '^[2-8] threads$'
 # A thread that sleeps for less than a rescue takes, again and again, is not taken for one that is blocked.
-paused sleeping tests/c/bench_threads.c NONE -DSLEEP=20
+paused sleeping tests/c/bench_threads.c NONE -DSLEEP=30
 ends 'a thread that sleeps often' 0 "$folder/sleeping" --schedule steps --rounds 12 --threads 2 --mixes 100
 has_told 'a thread that sleeps often: no rescue' '"rescues":0,'
 
@@ -539,6 +540,10 @@ has_told 'a lock without a mark: rescues' '"rescues":[1-9]'
 ends 'rescues are told of' 0 grep -q "rescues: the memory waits for what the bench doesn't see" <("$folder/mutex_unseen" --schedule steps \
     --rounds 20 2>&1)
 
+paused stuck_unseen tests/c/bench_stuck.c MUTEX
+ends 'a memory that never returns, unseen' 4 "$folder/stuck_unseen" --schedule steps --patience 1
+has_told 'a memory that never returns, unseen: rescues' "^[1-9][0-9]* rescues: the memory waits for what the bench doesn't see\$"
+
 # A first interrupt ends a memory that never returns within a second, and a second one the program, if the machine has time once in three runs.
 # It comes so many seconds after the run's beginning.
 interrupts_once() {
@@ -665,7 +670,8 @@ on_terminal() {
 shows_progress() {
     local began=$EPOCHREALTIME
     on_terminal norec "$@" >"$folder/shown"
-    awk -v took="$(since "$began")" 'NR > 1 { is_wrong = is_wrong || !/^[0-9]+ rounds, [0-9]+ events, [0-9]+ unasked aborts[|]$/ || $1 < rounds || $3 < events
+    awk -v took="$(since "$began")" 'NR > 1 { is_wrong = is_wrong || !/^[0-9]+ rounds, [0-9]+ events, [0-9]+ unasked aborts[|]$/ ||
+                      $1 < rounds || $3 < events || $1 > $3
                   grown += $3 > events; rounds = $1; events = $3; shown++ }
          END { exit is_wrong || shown < 3 || grown < 3 || shown > 2 * took }' "$folder/shown" || { cat "$folder/shown" && return 1; }
 }

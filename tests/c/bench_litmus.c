@@ -119,6 +119,29 @@ static void pass_plain(struct round *it, unsigned thread)
     }
 }
 
+/* The same by what fills or copies bytes, as some compilers call it. */
+void *__tsan_memset(void *to, int byte, size_t bytes);
+void *__tsan_memcpy(void *to, const void *from, size_t bytes);
+
+static void pass_filled(struct round *it, unsigned thread)
+{
+    if (thread == 0) {
+        store(&it->x, 1);
+        __tsan_memset(&it->plain, 1, 1);
+    } else
+        pass_plain(it, thread);
+}
+
+static void pass_copied(struct round *it, unsigned thread)
+{
+    static const char one = 1;
+    if (thread == 0) {
+        store(&it->x, 1);
+        __tsan_memcpy(&it->plain, &one, 1);
+    } else
+        pass_plain(it, thread);
+}
+
 /* Thread 1 loads a variable twice that thread 0 stores to twice. */
 static void cohere(struct round *it, unsigned thread)
 {
@@ -173,6 +196,8 @@ static const struct litmus {
     {"SB, a seq_cst store", with_store_last, {{NEVER, SOMETIMES, NEVER}, {SOMETIMES, SOMETIMES, NEVER}, {NEVER, NEVER, NEVER}}},
     {"MP", pass, {{SOMETIMES, SOMETIMES, NEVER}, {NEVER, SOMETIMES, NEVER}, {NEVER, NEVER, NEVER}}},
     {"MP, a plain store", pass_plain, {{SOMETIMES, SOMETIMES, NEVER}, {NEVER, SOMETIMES, NEVER}, {NEVER, NEVER, NEVER}}},
+    {"MP, memset", pass_filled, {{SOMETIMES, SOMETIMES, NEVER}, {NEVER, SOMETIMES, NEVER}, {NEVER, NEVER, NEVER}}},
+    {"MP, memcpy", pass_copied, {{SOMETIMES, SOMETIMES, NEVER}, {NEVER, SOMETIMES, NEVER}, {NEVER, NEVER, NEVER}}},
     {"CoRR", cohere, {{SOMETIMES, SOMETIMES, SOMETIMES}, {NEVER, SOMETIMES, SOMETIMES}, {NEVER, NEVER, SOMETIMES}}},
     {"own stores", forward, {{NEVER, NEVER, NEVER}, {NEVER, SOMETIMES, NEVER}, {NEVER, NEVER, NEVER}}},
     {"answers", answer, {{NEVER, NEVER, NEVER}, {NEVER, SOMETIMES, NEVER}, {NEVER, NEVER, NEVER}}},

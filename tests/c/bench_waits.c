@@ -224,6 +224,8 @@ static void give_assembly(void)
 #define UNTIL_FREE(pause)                                                  \
     while (atomic_exchange_explicit(&is_held, true, memory_order_acquire)) \
     pause
+/* A wait that says that it has waited. */
+#define WELL(wait) ((wait) == 0 ? (void)0 : abort())
 #define FREE atomic_store_explicit(&is_held, false, memory_order_release)
 static const struct timespec moment = {0, 100000000};
 #define MICROSECONDS 100000
@@ -271,12 +273,12 @@ static void take_late(void)
     KIND(ONCE, take_once(false), pthread_mutex_unlock(&mutex))                                                                             \
     KIND(CALL_ONCE, take_once(true), pthread_mutex_unlock(&mutex))                                                                         \
     KIND(BARRIER, take_served(), give_served())                                                                                            \
-    KIND(YIELD, UNTIL_FREE(sched_yield()), FREE)                                                                                           \
+    KIND(YIELD, UNTIL_FREE(WELL(sched_yield())), FREE)                                                                                     \
     KIND(YIELD_C11, UNTIL_FREE(thrd_yield()), FREE)                                                                                        \
-    KIND(SLEEP, UNTIL_FREE(nanosleep(&moment, NULL)), FREE)                                                                                \
-    KIND(SLEEP_CLOCKED, UNTIL_FREE(clock_nanosleep(CLOCK_MONOTONIC, 0, &moment, NULL)), FREE)                                              \
-    KIND(SLEEP_SHORT, UNTIL_FREE(usleep(MICROSECONDS)), FREE)                                                                                          \
-    KIND(SLEEP_C11, UNTIL_FREE(thrd_sleep(&moment, NULL)), FREE)                                                                           \
+    KIND(SLEEP, UNTIL_FREE(WELL(nanosleep(&moment, NULL))), FREE)                                                                          \
+    KIND(SLEEP_CLOCKED, UNTIL_FREE(WELL(clock_nanosleep(CLOCK_MONOTONIC, 0, &moment, NULL))), FREE)                                        \
+    KIND(SLEEP_SHORT, UNTIL_FREE(WELL(usleep(MICROSECONDS))), FREE)                                                                        \
+    KIND(SLEEP_C11, UNTIL_FREE(WELL(thrd_sleep(&moment, NULL))), FREE)                                                                     \
     KIND(FIRST, take_after_first(), give_to_first())                                                                                       \
     KIND(EVENT, take_event(), give_event())                                                                                                \
     KIND(ASSEMBLY, take_assembly(), give_assembly())                                                                                       \
