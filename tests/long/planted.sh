@@ -4,7 +4,7 @@
 #
 #   tests/long/planted.sh [GROUP]..
 #
-# The GROUPs are bench, rust, ci, import and recorder, or all. A row fails if more than one mistake in ten survives in a group; survivors
+# The GROUPs are bench, steps, model, rust, ci, import and recorder, or all. A row fails if more than one mistake in ten survives in a group; survivors
 # and tables stand before it. The last line is 'N passed, M failed', and the exit status is 1 if a row failed.
 # Environment: BUILT (tests/common.sh), NUMBER (20, mistakes of each file), SEED (1), JOBS (2), THEN (a command for mistakes in the bench in
 # C that are not noticed else, as tests/c_steps.sh).
@@ -33,6 +33,24 @@ plant_bench() {
     planted bench --build 'cc -std=c11 -O2 -Iinclude -c -o "$OBJECT" bench-c/tmwatch_bench.c' --then "$then${THEN:+ && $THEN}" \
         "${files[@]/%/.c}" -- tests/runs.sh
 }
+# (one object of all, so that a mistake that changes nothing is known by it)
+plant_steps() {
+    local files=(judge threads watchdog second_runs time instrumented_step instrumented/{accesses,accesses_16,block_frees,waits})
+    files=("${files[@]/#/bench-c/}")
+    # shellcheck disable=SC2016
+    planted steps --build 'for it in bench-c/tmwatch_bench.c bench-c/instrumented/*.c; do
+            cc -std=c11 -O2 -Iinclude -c -o "$OBJECT.o" "$it" && cat "$OBJECT.o" || exit
+        done >"$OBJECT"' --then 'tests/c_waits.sh && tests/orders.sh' "${files[@]/%/.c}" -- tests/c_steps.sh
+}
+plant_model() {
+    local files=(clocks delayed findings lines model races sequence simulation)
+    files=("${files[@]/#/bench-c/instrumented/orders/}")
+    # shellcheck disable=SC2016
+    planted model --build 'cc -std=c11 -O2 -Iinclude -c -o "$OBJECT" bench-c/instrumented/orders.c' "${files[@]/%/.c}" -- sh -c '
+        for test in told plain delayed litmus "exact 2000" "random 50000"; do
+            cc -std=c11 -g -O1 -w -Iinclude -o model "tests/orders/${test%% *}.c" && ./model "${test#* }" || exit
+        done'
+}
 plant_rust() {
     local files=(sync/atomic sync/mutex bench retrying told watch) build='cd bindings/rust && cargo test --offline --locked'
     files=("${files[@]/#/bindings/rust/src/}")
@@ -53,7 +71,7 @@ plant_recorder() {
         "$OBJECT" | diff tests/c/recorded.lines - && ! "$OBJECT" more 2>said && grep -qx "recorder: no room for the event" said'
 }
 
-[ $# -gt 0 ] || set -- bench rust ci import recorder
+[ $# -gt 0 ] || set -- bench steps model rust ci import recorder
 for group; do
     "plant_$group"
 done

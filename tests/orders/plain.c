@@ -394,8 +394,22 @@ static void check_locks(void)
     for (unsigned i = 0; i < MOST_LOCKS; i++)
         tmwatch_orders_unlocks(orders, 2, &bytes[i]);
     tmwatch_orders_unlocks(orders, 0, words);
+    CHECK(orders->locks_used == MOST_LOCKS - 1);
     tmwatch_orders_locked(orders, 1, words, false);
     CHECK(makes(1, READ, Y, 0, RELAXED) == 1);
+}
+
+/* A plain load races with no atomic one, and not with a store that is known. */
+static void check_readers(void)
+{
+    begin();
+    tmwatch_orders_still(orders);
+    makes(0, WRITE, X, 7, RELAXED);
+    makes(0, UNLOCK, X, 0, RELAXED);
+    makes(2, LOCK, X, 0, RELAXED);
+    CHECK(makes(1, READ, X, 0, RELAXED) == 7);
+    loads(2, &words[X], sizeof words[X]);
+    CHECK(!orders->has_race);
 }
 
 /* The generator's numbers, as its authors' program prints them for this seed. */
@@ -424,6 +438,7 @@ int main(void)
     check_full();
     check_wide();
     check_locks();
+    check_readers();
     check_draws();
     free(orders);
     return 0;
