@@ -50,6 +50,7 @@ bench() {
     status=0
     timeout $((seconds + 60)) "${command[@]}" --seconds "$seconds" --patience 30 "$@" >"$folder/printed" 2>"$folder/said" || status=$?
     took=$(since "$began")
+    tail -n 5 "$folder/said" >>"$folder/ends"
 }
 
 # What came of a run: `*` if it was violated, its rounds, and its seconds.
@@ -84,6 +85,7 @@ violated_by() {
 record() {
     local level=$1 wanted=$2 criteria=$3 by_default again found all passes=passed
     command=("${@:4}")
+    : >"$folder/ends"
     bench --rounds "$rounds" --trace "$folder/trace"
     if [ $status -eq 77 ]; then
         printf '%-20s %-34s skipped: %s\n' "$system" "$level" "$(<"$folder/said")"
@@ -104,7 +106,7 @@ record() {
     row '%-20s %-34s %6s %6s %5s %-15s %3d %3d %s' "$system" "$level" $by_default "$again" "$found" \
         $((100 * $(number overlapping) / (all + !all))) $((100 * $(number unasked) / (all + !all))) $passes
     set +f
-    [ $passes = passed ] || tail -n 5 "$folder/said"
+    [ $passes = passed ] || cat "$folder/ends"
 }
 
 printf '%-20s %-34s %13s %5s %-15s\n' '' '' 'by default' '' 'whole run'
