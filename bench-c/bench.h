@@ -149,7 +149,7 @@ struct bench {
     tmwatch_delays *delays;     /* of that memory: loads that may be delayed are found, or one is made; or null */
     atomic_bool is_told;        /* of that memory is told: no access is simulated any more */
     struct watchdog {
-        uint64_t looked, steps, used, sleeps;
+        uint64_t looked, steps, clock, used, sleeps;
         int runner;
     } watchdog; /* what the watchdog of the steps has seen last */
     atomic_uint_least32_t fault; /* the first status of the watch that wasn't to be */

@@ -34,6 +34,10 @@ static uint64_t judge_some(struct bench *b)
 /* A look at the time counts for MOST_WAITED at most, so that a debugger's stop is no wait. An interrupt waits for half a second at most. */
 enum { MOST_WAITED = SECOND / 10, SHOWN_EACH = SECOND / 2, INTERRUPTED_WAIT = SECOND / 2 };
 
+/* So many steps may pass without an event though nothing is stuck: each other thread tries until it is held for one that waits. If the
+   memory yields in between, that takes a loaded machine seconds, which count for none. */
+enum { MOST_STEPS = MOST_THREADS * MOST_SPIN };
+
 static void show_progress(struct bench *b, uint64_t now)
 {
     const tmwatch_benched *all = &b->session->all;
@@ -52,17 +56,21 @@ static void show_progress(struct bench *b, uint64_t now)
 /* Judges until all threads have ended, or nothing has come for too long, and then what is left. Meanwhile it looks whether a time is up. */
 static void judge(struct bench *b)
 {
-    uint64_t began = microseconds_of(CLOCK_MONOTONIC), looked = began, moved = 0;
+    uint64_t began = microseconds_of(CLOCK_MONOTONIC), looked = began, moved = 0, steps = 0, steps_moved = 0;
     while (b->ended < b->running && !b->session->is_stuck) {
         uint64_t judged = judge_some(b);
         if (judged == 0)
             nap(b->has_asked ? LONG_REST : REST);
-        uint64_t now = microseconds_of(CLOCK_MONOTONIC), passed = now - looked, moved_before = moved;
+        uint64_t now = microseconds_of(CLOCK_MONOTONIC), passed = now - looked, moved_before = moved, steps_before = steps;
         looked = now;
         if (by_steps(b))
             watch_steps(b, now);
         moved = b->round + b->attempted + b->ended;
-        b->idle = judged > 0 || moved != moved_before ? 0 : b->idle + (passed < MOST_WAITED ? passed : MOST_WAITED);
+        steps = b->steps.steps;
+        bool has_moved = judged > 0 || moved != moved_before;
+        steps_moved = has_moved ? steps : steps_moved;
+        bool steps_on = steps != steps_before && steps - steps_moved < MOST_STEPS;
+        b->idle = has_moved || steps_on ? 0 : b->idle + (passed < MOST_WAITED ? passed : MOST_WAITED);
         b->session->is_stuck = failure || (is_interrupted && b->idle >= INTERRUPTED_WAIT) ||
                                (b->plan.patience > 0 && b->idle / SECOND >= b->plan.patience);
         show_progress(b, now);

@@ -1,9 +1,10 @@
 /* The watchdog of the steps: when the runner is blocked by what the bench doesn't see, as by a lock that another thread holds, another one
    goes too. It goes by the processor's time, so that neither load nor a debugger is taken for that. */
 
-/* How long the runner may make no step: so many looks, that far apart, that find it asleep, or so many microseconds of a processor. After
-   some rescues the run can't be repeated anyway, and a tenth of both is enough. */
-enum { LOOK_MICROSECONDS = 1000, MOST_SLEEPS = 50, MOST_USED = 50000, FEW_RESCUES = 10, LATER_PART = 10 };
+/* How long the runner may make no step: so many looks, that far apart, that find it asleep, or so many microseconds of a processor. Of those a
+   look counts no more than MOST_EACH, since a virtual processor that stands still counts on. After two rescues the run can't be repeated
+   anyway, and a fiftieth of both is enough. */
+enum { LOOK_MICROSECONDS = 1000, MOST_SLEEPS = 250, MOST_USED = 250000, MOST_EACH = 5000, FEW_RESCUES = 2, LATER_PART = 50 };
 
 /* Whether a thread sleeps, as far as the system tells. */
 static bool is_asleep(int tid)
@@ -32,8 +33,10 @@ static bool is_blocked(struct bench *b, int runner, uint64_t steps)
         return false;
     uint64_t used = microseconds_of(clock), part = s->rescues < FEW_RESCUES ? 1 : LATER_PART;
     w->sleeps = !is_new && is_asleep(s->tid[runner]) ? w->sleeps + 1 : 0;
-    w->used = is_new ? used : w->used;
-    return w->sleeps >= MOST_SLEEPS / part || used - w->used >= MOST_USED / part;
+    uint64_t passed = used - w->clock;
+    w->used = is_new ? 0 : w->used + (passed < MOST_EACH ? passed : MOST_EACH);
+    w->clock = used;
+    return w->sleeps >= MOST_SLEEPS / part || w->used >= MOST_USED / part;
 }
 
 /* Looks at the runner, and rescues the others from one that is blocked. */

@@ -25,8 +25,8 @@ which. A round goes by walk, which hands over often, or by priorities, which sta
 Musuvathi and Nagarakatte, ASPLOS 2010). If the memory decides nothing by time, address or chance, the same plan gives the same trace if
 neither `rescues` nor `waits` is above 0. A thread that waits for another has TMWATCH_PAUSE in its loop; or it waits by a lock, a condition,
 a sleep, a yield or a futex of the system, and the program is linked with the words of pkg-config, which wrap these. Else a rescue lets
-another thread go too, once the one that runs has made no step for fifty milliseconds of a processor, or has slept as long; after ten
-rescues, for five. A memory that asks another process says so itself (tmwatch_asks).
+another thread go too, once the one that runs has made no step for a quarter of a second of a processor, or has slept as long; after two
+rescues, for five milliseconds. A memory that asks another process says so itself (tmwatch_asks).
 
 By permits, the threads run freely, each attempt takes one of eight permits (tmwatch_permits.h), and a transaction is attempted as often
 as it takes.

@@ -11,6 +11,11 @@ set -eu
 . "$(dirname "${BASH_SOURCE[0]}")/common.sh"
 cargo=${CARGO:-cargo}
 has "$cargo" tests/bindings.sh || exit 0
+# (rustup's stands for one that it finds below HOME)
+if ! "$cargo" --version >"$folder/told" 2>&1; then
+    echo "tests/bindings.sh: skipped, since $cargo runs nothing: $(head -n 1 "$folder/told")"
+    exit 0
+fi
 use_library
 library=$(cd "$built/lib" && pwd)
 # Nothing is written into the repository's folder.

@@ -61,18 +61,31 @@ ends() {
     fi
 }
 
+# Whether grep finds a line by these words in $folder/told, which is printed otherwise.
+is_told() {
+    grep -q "$@" "$folder/told" || { cat "$folder/told" && return 1; }
+}
+
 # Runs a row on what the row before it has written: its name, and the words by which grep has to find a line there.
 has_told() {
     local name=$1
     shift
     mv "$folder/output" "$folder/told"
-    ends "$name" 0 grep -q "$@" "$folder/told"
+    ends "$name" 0 is_told "$@"
 }
 
 # Whether a tool is there. If not, a line says what is skipped.
 has() {
     command -v "$1" >/dev/null && return
     echo "$2: skipped, since there is no $1"
+    return 1
+}
+
+# Whether gdb is there, and the system lets it run a program, as it may not in a container. If not, a line says what is skipped, and why.
+has_debugger() {
+    has gdb "$1" || return
+    gdb -q -batch -ex run /bin/true </dev/null >"$folder/told" 2>&1 && grep -q 'exited normally' "$folder/told" && return
+    echo "$1: skipped, since gdb runs nothing: $(tail -n 1 "$folder/told")"
     return 1
 }
 
@@ -94,6 +107,11 @@ build_libitm() {
         "${compile[@]}" -DFAULT=$fault -c -o "$folder/memory.o" "$source/memory.c"
         "${compile[@]}" -o "$folder/$fault" "$folder/run.o" "$folder/transaction.o" "$folder/memory.o" "$@"
     done
+}
+
+# The processors that this script may use, as taskset lists them.
+processors() {
+    taskset -cp $$ | sed 's/.*: //'
 }
 
 # The seconds since a time of $EPOCHREALTIME.

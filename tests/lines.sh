@@ -28,7 +28,7 @@ marked=(env "TMWATCH_TESTED=$folder")
 
 # Runs the bench by these words: what it prints is in `printed`, what it says in `said`.
 bench() {
-    timeout 60 "${marked[@]}" ./tmwatch-bench "$@" >printed 2>said
+    timeout 300 "${marked[@]}" ./tmwatch-bench "$@" >printed 2>said
 }
 
 # Runs a row of the bench: its name, its status, and its words; then lines that `printed` or `said` has to have.
@@ -44,10 +44,10 @@ says() {
     ends "$1: what is said" 0 grep -qxF -- "$2" said
 }
 
-# Whether no process of the bench is left, within five seconds. (A zombie has no environment.)
+# Whether no process of the bench is left, within half a minute. (A zombie has no environment.)
 is_clean() {
     local tries
-    for tries in $(seq 50); do
+    for tries in $(seq 300); do
         # (its status says too that a process has ended meanwhile)
         grep -lsz "^TMWATCH_TESTED=$folder" /proc/[0-9]*/environ >left || true
         [ -s left ] || return 0
@@ -297,7 +297,7 @@ started_by() {
 interrupted() {
     local status=0
     rm -f up
-    timeout 60 "${marked[@]}" --default-signal=INT,TERM,HUP ./tmwatch-bench --seconds 50 "${@:2}" "${stays[@]}" >printed 2>said &
+    timeout 300 "${marked[@]}" --default-signal=INT,TERM,HUP ./tmwatch-bench --seconds 50 "${@:2}" "${stays[@]}" >printed 2>said &
     until [ -e up ]; do sleep 0.1; done
     sleep 0.5
     kill "-$1" "$(started_by $!)"
@@ -310,7 +310,7 @@ for signal in INT TERM HUP; do
     left_by "SIG$signal"
 done
 # (timeout signals the process, and then its group)
-ends 'timeout' 124 timeout 2 "${marked[@]}" --default-signal=TERM ./tmwatch-bench --threads 2 --trace trace "${stays[@]}"
+ends 'timeout' 124 timeout 5 "${marked[@]}" --default-signal=TERM ./tmwatch-bench --threads 2 --trace trace "${stays[@]}"
 has_told 'timeout: the verdict' '"opaque so far"'
 left_by timeout
 

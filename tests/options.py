@@ -36,7 +36,7 @@ class Runs:
 
     def run(self, *words, **environment):
         self.number += 1
-        ran = subprocess.run([self.program, *words], env={**os.environ, **environment}, capture_output=True, text=True, timeout=60)
+        ran = subprocess.run([self.program, *words], env={**os.environ, **environment}, capture_output=True, text=True, timeout=300)
         return ran.returncode, ran.stdout, ran.stderr
 
     def expect(self, words, found, wanted):

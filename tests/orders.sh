@@ -288,10 +288,11 @@ ends 'a weak order, by default' 1 "$folder/wrong" --trace "$folder/one"
 cp "$folder/output" "$folder/told"
 read -r -a words < <(sed -n 's/^{"again":"\(.*\)","certain":true}$/\1/p' "$folder/told") || true
 ends 'a weak order: the words that make it again' 0 test "${#words[@]}" -ge 4
-for processors in 0 "0-$(($(nproc) - 1))"; do
-    ends "a weak order, again on $processors" 1 taskset -c "$processors" "$folder/wrong" "${words[@]}" --trace "$folder/two"
-    has_told "a weak order, again on $processors: the same line" -F "$(grep -m 1 'stale load' "$folder/told")"
-    ends "a weak order, again on $processors: the same trace" 0 cmp "$folder/one" "$folder/two"
+many=$(processors)
+for on in "${many%%[-,]*}" "$many"; do
+    ends "a weak order, again on $on" 1 taskset -c "$on" "$folder/wrong" "${words[@]}" --trace "$folder/two"
+    has_told "a weak order, again on $on: the same line" -F "$(grep -m 1 'stale load' "$folder/told")"
+    ends "a weak order, again on $on: the same trace" 0 cmp "$folder/one" "$folder/two"
 done
 line_of() {
     grep -n -m 1 "$1" "$top/tests/orders/memories/${2:-sequence}.c" | cut -d : -f 1

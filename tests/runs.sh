@@ -27,7 +27,7 @@ ends 'the memory compiles' 0 "${marks[@]}" -o "$folder/marks" "${bench[@]}"
 made() {
     local options
     read -r -a options <<<"$2"
-    ends "$1 $2" 0 "${tried[@]}" timeout 200 "$top/tests/runs.py" "${3:-$folder/marks}" "$folder/replay" "$1" "${options[@]}"
+    ends "$1 $2" 0 "${tried[@]}" timeout 600 "$top/tests/runs.py" "${3:-$folder/marks}" "$folder/replay" "$1" "${options[@]}"
 }
 # Runs this again if it fails, three times at most.
 thrice() {
@@ -103,7 +103,7 @@ ends 'the options' 0 "$top/tests/options.py" "$folder/marks"
 # In a debugger a run by these words stops once, when so many events are recorded.
 stops_after() {
     printf '%s\n' 'set pagination off' 'break tmwatch_break' "run ${*:2}" 'print this_thread->bench->steps.recorded' 'continue' >"$folder/stops"
-    timeout 60 gdb -q -batch -x "$folder/stops" "$folder/marks" >"$folder/stopped" 2>&1
+    timeout 300 gdb -q -batch -x "$folder/stops" "$folder/marks" >"$folder/stopped" 2>&1
     [ "$(sed -n 's/^\$1 = //p' "$folder/stopped")" -eq "$1" ]
     [ "$(grep -c ' hit Breakpoint 1, ' "$folder/stopped")" -eq 1 ]
 }
@@ -118,7 +118,7 @@ stops() {
     stops_after $((at - 1)) "${words[@]}" --event "$event"
     stops_after $((at - event)) "${words[@]}"
 }
-if [ ${#flags[@]} -eq 0 ] && has gdb 'a stop before the wrong event'; then
+if [ ${#flags[@]} -eq 0 ] && has_debugger 'a stop before the wrong event'; then
     for seed in 5 8; do
         ends "stops before the wrong event and its round, seed $seed" 0 stops $seed
     done

@@ -1,8 +1,9 @@
 /*
 A memory of one lock on the bench, in which thread 1 forgets to unlock: by -DFAULT=SPIN the next transaction spins at its begin; by MUTEX
 it waits for a mutex; by READ thread 1 never returns from a read of register 2, and by ADD from an add to it. By UNLOCKED thread 2 takes no
-lock, so that the memory isn't opaque. By BOTH thread 1 reads a wrong value and then never returns. By SLOW a read takes three tenths of a second. By MEETS
-there is no lock, and two reads at once return a wrong value. By NONE nothing is forgotten.
+lock, so that the memory isn't opaque. By BOTH thread 1 reads a wrong value and then never returns. By SLOW a read takes three tenths of a second, by LONG
+one. By TIRED a thread that waits for the lock sleeps for ten milliseconds before it tries again. By MEETS there is no lock, and two reads at
+once return a wrong value. By these, and by NONE, nothing is forgotten.
 */
 #define _GNU_SOURCE
 #include "tmwatch_bench.h"
@@ -15,7 +16,7 @@ there is no lock, and two reads at once return a wrong value. By NONE nothing is
 #endif
 
 enum { REGISTERS = 8 };
-enum fault { NONE, SPIN, MUTEX, READ, ADD, UNLOCKED, BOTH, SLOW, MEETS };
+enum fault { NONE, SPIN, MUTEX, READ, ADD, UNLOCKED, BOTH, SLOW, LONG, TIRED, MEETS };
 
 struct tx {
     uint64_t before[REGISTERS];
@@ -27,6 +28,8 @@ static pthread_mutex_t mutex = PTHREAD_MUTEX_INITIALIZER;
 static atomic_bool is_locked;
 static unsigned begun[REGISTERS];
 
+static const struct timespec moment = {0, 10000000};
+
 /* Whether this thread takes no lock. */
 static bool is_unlocked(void)
 {
@@ -37,9 +40,12 @@ static void lock(void)
 {
     if (is_unlocked())
         return;
-    if (fault == SPIN)
-        while (atomic_exchange(&is_locked, true))
+    if (fault == SPIN || fault == TIRED)
+        while (atomic_exchange(&is_locked, true)) {
             TMWATCH_PAUSE();
+            if (fault == TIRED)
+                nanosleep(&moment, NULL);
+        }
     else
         pthread_mutex_lock(&mutex);
 }
@@ -49,7 +55,7 @@ static void unlock(void)
     bool forgets = tmwatch_thread() == 1 && ++begun[1] > 20 && (fault == SPIN || fault == MUTEX);
     if (is_unlocked())
         return;
-    if (fault == SPIN && !forgets)
+    if (fault == TIRED || (fault == SPIN && !forgets))
         is_locked = false;
     else if (!forgets)
         pthread_mutex_unlock(&mutex);
@@ -97,7 +103,7 @@ static uint64_t now(void)
 static bool read_value(void *memory, void *tx, unsigned reg, uint64_t *value)
 {
     (void)memory, (void)tx;
-    for (uint64_t began = now(); fault == SLOW && now() - began < 300;)
+    for (uint64_t began = now(), most = fault == SLOW ? 300 : 100; (fault == SLOW || fault == LONG) && now() - began < most;)
         ;
     while (fault == READ && reg == 2 && tmwatch_thread() == 1 && begun[1] > 20)
         TMWATCH_PAUSE();

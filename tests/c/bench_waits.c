@@ -35,7 +35,7 @@ typedef _Atomic uint64_t word;
 #define STORE(word, value) atomic_store_explicit(&(word), value, memory_order_relaxed)
 #endif
 
-enum { REGISTERS = 8, LATER = 1000, MADE = 1 << 18, WAITED = 400, WAITS = 8, WRONG = 800, WHILE = 200 };
+enum { REGISTERS = 8, LATER = 1000, MADE = 1 << 18, WAITED = 400, WAITS = 4, WRONG = 800, WHILE = 1000 };
 
 struct tx {
     bool only_reads;

@@ -129,7 +129,7 @@ fn a_memory_that_loses_progress_is_told_so() {
             let began = Instant::now();
             let plan = Plan { schedule, ..Plan::default() };
             assert_eq!(bench(&Marked { fault, ..Marked::default() }, &plan).unwrap_err(), Status::NoProgress);
-            assert!(began.elapsed().as_secs() < 10);
+            assert!(began.elapsed().as_secs() < 30);
         }
     }
 }
