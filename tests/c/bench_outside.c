@@ -1,15 +1,17 @@
 /*
 A memory whose lock is elsewhere, as that of a server, so that the bench doesn't see who waits for it. One answer takes longer than a rescue.
 FAULT: UNASKED, the bench isn't told that the memory asks and waits; FAILS, a call gets no answer; READS, nothing is locked; CRAWLS, each
-read takes long; CRASHES, it crashes, and then holds what is on its disk; LOSES, that lacks the last commits.
+read takes long; CRASHES, it crashes, and then holds what is on its disk; LOSES, that lacks the last commits. After a
+crash those who waited go on without the lock, so that what they share is atomic.
 */
 #define _POSIX_C_SOURCE 200809L
 #include "tmwatch_bench.h"
 #include <errno.h>
 #include <semaphore.h>
-#include <string.h>
+#include <stdatomic.h>
 #include <time.h>
 
+enum { REGISTERS = 8 };
 enum { NONE, UNASKED, FAILS, READS, CRAWLS, CRASHES, LOSES, CRASH_EACH = 300, SYNC_EACH = 64, SLOW_CALL = 20, FAILED_CALL = 40, LONG = 120 * 1000 * 1000, CRAWL = LONG / 100 /* nanoseconds */ };
 #ifndef FAULT
 #define FAULT NONE
@@ -18,13 +20,13 @@ enum { NONE, UNASKED, FAILS, READS, CRAWLS, CRASHES, LOSES, CRASH_EACH = 300, SY
 struct tx {
     bool is_open;
     unsigned starts;
-    uint64_t before[8];
+    uint64_t before[REGISTERS];
 };
 
-static uint64_t words[8], disk[8];
+static _Atomic uint64_t words[REGISTERS], disk[REGISTERS];
 static sem_t lock;
-static unsigned calls, commits, starts;
-static bool has_crashed;
+static atomic_uint calls, commits, starts;
+static atomic_bool has_crashed;
 
 static bool begin(void *memory, void *tx)
 {
@@ -50,13 +52,15 @@ static void open_it(struct tx *tx)
     if (has_crashed)
         return;
     tx->is_open = true;
-    memcpy(tx->before, words, sizeof words);
+    for (int i = 0; i < REGISTERS; i++)
+        tx->before[i] = words[i];
 }
 
 static void restart(void *memory)
 {
     (void)memory;
-    memcpy(words, disk, sizeof words);
+    for (int i = 0; i < REGISTERS; i++)
+        words[i] = disk[i];
     sem_destroy(&lock);
     sem_init(&lock, 0, 1);
     has_crashed = false;
@@ -68,7 +72,7 @@ static void crash(void)
 {
     has_crashed = true;
     tmwatch_bench_crash(restart);
-    for (int i = 0; i < 8; i++)
+    for (int i = 0; i < REGISTERS; i++)
         sem_post(&lock);
 }
 
@@ -76,12 +80,12 @@ static void crash(void)
 static void be_slow_or_fail(void)
 {
     const struct timespec time = {0, FAULT == CRAWLS ? CRAWL : LONG};
-    calls++;
-    if (calls == SLOW_CALL || FAULT == CRAWLS)
+    const unsigned call = ++calls;
+    if (call == SLOW_CALL || FAULT == CRAWLS)
         nanosleep(&time, NULL);
-    if (FAULT == FAILS && calls == FAILED_CALL)
+    if (FAULT == FAILS && call == FAILED_CALL)
         tmwatch_bench_fail("the disk is gone");
-    if ((FAULT == CRASHES || FAULT == LOSES) && calls % CRASH_EACH == 0 && !has_crashed)
+    if ((FAULT == CRASHES || FAULT == LOSES) && call % CRASH_EACH == 0 && !has_crashed)
         crash();
 }
 
@@ -118,9 +122,9 @@ static bool close_it(struct tx *tx)
 static bool commit(void *memory, void *tx)
 {
     (void)memory;
-    commits++;
-    if (FAULT != LOSES || commits % SYNC_EACH == 0)
-        memcpy(disk, words, sizeof disk);
+    if (++commits % SYNC_EACH == 0 || FAULT != LOSES)
+        for (int i = 0; i < REGISTERS; i++)
+            disk[i] = words[i];
     return close_it(tx);
 }
 
@@ -129,7 +133,8 @@ static void cancel(void *memory, void *tx)
     struct tx *it = tx;
     (void)memory;
     if (it->is_open && !has_crashed)
-        memcpy(words, it->before, sizeof words);
+        for (int i = 0; i < REGISTERS; i++)
+            words[i] = it->before[i];
     close_it(it);
 }
 
