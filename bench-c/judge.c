@@ -31,12 +31,9 @@ static uint64_t judge_some(struct bench *b)
     return judged;
 }
 
-/* A look at the time counts for MOST_WAITED at most, so that a debugger's stop is no wait. An interrupt waits for half a second at most. */
-enum { MOST_WAITED = SECOND / 10, SHOWN_EACH = SECOND / 2, INTERRUPTED_WAIT = SECOND / 2 };
-
-/* So many steps may pass without an event though nothing is stuck: each other thread tries until it is held for one that waits. If the
-   memory yields in between, that takes a loaded machine seconds, which count for none. */
-enum { MOST_STEPS = MOST_THREADS * MOST_SPIN };
+/* A look at the time counts for MOST_WAITED at most, so that a debugger's stop is no wait. An interrupt waits for half a second at most. For
+   MOST_STEPS without an event no time counts: each other thread tries until it is held for one that waits, seconds on a loaded machine. */
+enum { MOST_WAITED = SECOND / 10, SHOWN_EACH = SECOND / 2, INTERRUPTED_WAIT = SECOND / 2, MOST_STEPS = MOST_THREADS * MOST_SPIN };
 
 static void show_progress(struct bench *b, uint64_t now)
 {

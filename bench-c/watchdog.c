@@ -1,11 +1,9 @@
 /* The watchdog of the steps: when the runner is blocked by what the bench doesn't see, as by a lock that another thread holds, another one
    goes too. It goes by the processor's time, so that neither load nor a debugger is taken for that. */
 
-/* How long the runner may make no step: so many looks, that far apart, that find it asleep, or so many microseconds of a processor. Of those a
-   look counts no more than MOST_EACH, and they are many, since a virtual processor that stands still counts on. After two rescues the run
-   can't be repeated anyway, and few of both are enough. */
-enum { LOOK_MICROSECONDS = 1000, MOST_SLEEPS = 50, MOST_USED = 250000, MOST_EACH = 5000 };
-enum { FEW_RESCUES = 2, LATER_SLEEPS = 5, LATER_USED = 5000 };
+/* How long the runner may make no step: so many looks, that far apart, that find it asleep, or so many microseconds of a processor, of which a
+   look counts MOST_EACH at most, since a virtual one that stands still counts on. After two rescues no run repeats: few are enough. */
+enum { LOOK_MICROSECONDS = 1000, MOST_SLEEPS = 50, MOST_USED = 250000, MOST_EACH = 5000, FEW_RESCUES = 2, LATER_SLEEPS = 5, LATER_USED = 5000 };
 
 /* Whether a thread sleeps, as far as the system tells. */
 static bool is_asleep(int tid)
