@@ -1,15 +1,13 @@
 /* A plan is run: in one leg, or by all schedules in several. Here is which leg goes how, and why.
 
    The first STEPS_LEGS go by steps, so that what they find comes with words that repeat it. Then CYCLE legs come again and again: one in
-   rounds, one by permits, and all others by steps. So steps, which find most and soonest, have nine tenths of the time; what only processors
-   do, as to let two threads meet between two steps, is found by the rest. If the memory has no step of its own, one leg in four goes by them.
+   rounds, one by permits, which find what only processors do, and all others by steps. If the memory has none, one leg in four goes by steps.
 
    If the memory asks elsewhere, its rounds may be slow, so legs go by time: the first ones by steps end with one that has taken SLOW_LEG, later
    ones take LATER_LEG, and those in rounds or by permits twice as long as the last one by steps. What is made again goes by rounds.
 
-   One leg in two has the usual numbers and another seed. In the others all is drawn, since what one memory needs another doesn't. With
-   libtmwatch_steps.a one leg by steps in four has delayed stores, one in four the orders of C++20, and one in eight plain accesses that are
-   steps too: each finds what the others can't, and finds all else more slowly. */
+   One leg in two has the usual numbers and another seed. In the others all is drawn. With libtmwatch_steps.a one leg by steps in four has
+   delayed stores, one in four the orders of C++20, and one in eight plain accesses that are steps too: each finds what the others can't. */
 enum { CYCLE = 20, FEW_STEPS_CYCLE = 4, LEG_MICROSECONDS = SECOND / 10, SLOW_LEG = 5 * SECOND, LATER_LEG = SECOND };
 enum { USUAL_LEGS = 2, ORDERED_LEGS = 4, PLAIN_LEGS = 8 };
 

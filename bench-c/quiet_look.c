@@ -1,7 +1,6 @@
 /* A look: a thread makes transactions while no other does. One reads all registers, so that what they hold is known, whatever serial order
-   the transactions before have. Before that, a register is written if attempts have asked to write it since the last look, and none of
-   them has committed. Nobody is met in a look: if it is rolled back, that is by chance, and it is tried again. If it is rolled back again
-   and again, the memory has lost progress, as by a lock that is left held. */
+   the transactions before have. Before that, each register is written that attempts since the last look have asked to write, and none that
+   committed. What is rolled back by chance is tried again. Again and again, progress is lost, as by a lock that is left held. */
 
 /* A look is given up after FEW attempts that took the plan's patience, or after so many events that the look before it is still kept. The
    first half of those come as fast as they can, for what is rolled back by chance; the others take the patience, for what a time ends. */
