@@ -399,6 +399,16 @@ static void check_locks(void)
     CHECK(makes(1, READ, Y, 0, RELAXED) == 1);
 }
 
+/* Of so many words of one access each is looked at. */
+static void check_words(void)
+{
+    static _Alignas(WORD_BYTES) unsigned char many[MOST_WORDS * WORD_BYTES];
+    begin();
+    stores(0, many, sizeof many);
+    loads(1, many + sizeof many - 1, 1);
+    CHECK(orders->has_race);
+}
+
 /* A plain load races with no atomic one, and not with a store that is known. */
 static void check_readers(void)
 {
@@ -439,6 +449,7 @@ int main(void)
     check_wide();
     check_locks();
     check_readers();
+    check_words();
     check_draws();
     free(orders);
     return 0;
