@@ -151,7 +151,6 @@ struct bench {
     struct watchdog {
         uint64_t looked, steps, clock, used, sleeps;
         int runner;
-        bool watches;
     } watchdog; /* what the watchdog of the steps has seen last */
     atomic_uint_least32_t fault; /* the first status of the watch that wasn't to be */
     atomic_bool stops, is_late;  /* no round is to follow, since something is wrong, or since the time is up */

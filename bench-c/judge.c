@@ -66,8 +66,8 @@ static void judge(struct bench *b)
         steps = b->steps.steps;
         bool has_moved = judged > 0 || moved != moved_before;
         steps_moved = has_moved ? steps : steps_moved;
-        bool steps_on = steps != steps_before && steps - steps_moved < MOST_STEPS, is_watched = by_steps(b) && !b->is_over && b->watchdog.watches;
-        b->idle = has_moved || steps_on || is_watched ? 0 : b->idle + (passed < MOST_WAITED ? passed : MOST_WAITED);
+        bool steps_on = steps != steps_before && steps - steps_moved < MOST_STEPS;
+        b->idle = has_moved || steps_on ? 0 : b->idle + (passed < MOST_WAITED ? passed : MOST_WAITED);
         b->session->is_stuck = failure || (is_interrupted && b->idle >= INTERRUPTED_WAIT) ||
                                (b->plan.patience > 0 && b->idle / SECOND >= b->plan.patience);
         show_progress(b, now);

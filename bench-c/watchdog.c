@@ -19,7 +19,7 @@ static bool is_asleep(int tid)
     return has_read && after && after[1] == ' ' && after[2] == 'S';
 }
 
-/* Whether the runner has made no step for too long. Until then it is watched, if it made none since the last look. */
+/* Whether the runner has made no step for too long. */
 static bool is_blocked(struct bench *b, int runner, uint64_t steps)
 {
     struct steps *s = &b->steps;
@@ -27,7 +27,6 @@ static bool is_blocked(struct bench *b, int runner, uint64_t steps)
     bool is_new = runner != w->runner || steps != w->steps;
     w->runner = runner != NOBODY && s->awake == runner && !s->asks ? runner : NOBODY;
     w->steps = steps;
-    w->watches = false;
     clockid_t clock = CLOCK_MONOTONIC;
     if (w->runner == NOBODY || pthread_getcpuclockid(b->session->workers[runner]->thread, &clock) != 0)
         return false;
@@ -36,8 +35,7 @@ static bool is_blocked(struct bench *b, int runner, uint64_t steps)
     w->sleeps = !is_new && is_asleep(s->tid[runner]) ? w->sleeps + 1 : 0;
     w->used = is_new ? 0 : w->used + (passed < MOST_EACH ? passed : MOST_EACH);
     w->clock = used;
-    w->watches = !is_new && w->sleeps < (is_late ? LATER_SLEEPS : MOST_SLEEPS) && w->used < (is_late ? LATER_USED : MOST_USED);
-    return !is_new && !w->watches;
+    return w->sleeps >= (is_late ? LATER_SLEEPS : MOST_SLEEPS) || w->used >= (is_late ? LATER_USED : MOST_USED);
 }
 
 /* Looks at the runner, and rescues the others from one that is blocked. */
