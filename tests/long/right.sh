@@ -45,7 +45,7 @@ right() {
         shift
     done
     [ "${file##*.}" = c ] || compiler=("$cxx" -std=c++17)
-    "${compiler[@]}" -O2 -g -fsanitize=thread -Wno-tsan "-I$top/include" "${@:2}" -c -o "$folder/memory.o" "$top/$file"
+    "${compiler[@]}" -O2 -g -pthread -fsanitize=thread -Wno-tsan "-I$top/include" "${@:2}" -c -o "$folder/memory.o" "$top/$file"
     "${compiler[0]}" -pthread -o "$folder/memory" "$folder/memory.o" "${link[@]}"
     for way in "${ways[@]}"; do
         it=0
@@ -58,10 +58,10 @@ right() {
         done
         others+=("$(printf '%10d' $it)")
     done
-    row '%-46s %s' "$name" "${others[*]}" $passes
+    row '%-76s %s' "$name" "${others[*]}" $passes
 }
 
-printf '%-46s' "others of $seeds"
+printf '%-76s' "others of $seeds"
 printf ' %10s' "${ways[@]}"
 echo
 right 'NOrec' examples/c/norec.c
@@ -81,7 +81,6 @@ for lock in MUTEX READ_WRITE CONDITION; do
 done
 if has "$cxx" 'memories in C++'; then
     right 'C++, one lock' tests/c/bench_lock.cpp
-    right 'C++, TL2 as a class' tests/c/bench_class.cpp
     right 'C++, locks and marks' tests/c/bench_lost.cpp
     right 'C++, half of commits rolled back' tests/c/bench_lost.cpp -- -DFAULT=CHANCE
 fi
