@@ -32,7 +32,7 @@ run() {
 is_right() {
     local printed wrong='"rescues":[1-9]|"(race|unseen|delayed)"'
     printed=$(<"$folder/output")
-    [[ $printed == *'"verdict":"opaque so far"'* && $printed == *"\"rounds\":$rounds"[,}]* && ! $printed =~ $wrong ]]
+    [[ $printed == *'"verdict":"opaque so far"'* && $printed == *"\"rounds\":$rounds"[,\}]* && ! $printed =~ $wrong ]]
 }
 
 # The row of a memory: its name, its file, the words for the compiler after `--`, if any, and before it those for the bench.
