@@ -9,6 +9,7 @@
 # - CONTRIBUTING.md says in its table what each entry of the top folder is.
 # - The version of the program's specification, which builds and tests read, is that of the program's source, of the package in Rust and
 #   of the newest heading in CHANGELOG.md. No other file has it.
+# - What a wrong body of edits/ or must-fail/ replaces is there.
 # FILE is another crates.txt, which alone is checked.
 #
 # A row prints what is wrong. The last line is 'N passed, M failed', and the exit status is 1 if a row has failed.
@@ -49,6 +50,20 @@ unexplained() {
     done
 }
 
+# Prints each wrong body with a line to be replaced that its file doesn't have.
+unfit_edits() {
+    local edit crate file line
+    for edit in "$top"/edits/*/*.edit "$top"/crates/*/must-fail/*.edit; do
+        crate=${edit%/must-fail/*} crate=$top/crates/$(basename "${crate%/*.edit}")
+        while IFS= read -r line; do
+            case $line in
+            'file: '*) file=$crate/${line#file: } ;;
+            'old: '*) grep -qF -- "${line#old: }" "$file" || echo "${edit#"$top/"}: ${line#old: }" ;;
+            esac
+        done <"$edit"
+    done
+}
+
 # Fails if what sed finds in these files, by this expression, is not the version alone.
 is_of_version() {
     diff <(echo "$version") <(sed -n "s/$1/\1/p" "${@:2}" | sort -u)
@@ -64,6 +79,7 @@ ends 'edges of crates.txt' 0 edges_go_down "${1:-$top/crates.txt}"
 if [ $# -eq 0 ]; then
     ends 'links of pages' 0 python3 "$top/tests/links.py"
     ends 'entries of the top folder' 0 diff - <(unexplained) </dev/null
+    ends 'what wrong bodies replace' 0 diff - <(unfit_edits) </dev/null
     mapfile -t source < <(find "$top"/crates/*/src -name '*.rt')
     ends "version $version, in the program" 0 is_of_version '.*"tmwatch \([0-9][0-9.]*\), by .*' "${source[@]}"
     ends 'version, in the command line' 0 is_of_version '.*\.version("\(.*\)").*' "${source[@]}"
