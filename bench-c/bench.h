@@ -50,20 +50,20 @@ struct tmwatch_attempt {
     tmwatch_turn turn;
     atomic_uint inside;                  /* in which function of the memory it is, and with which register (a `place`, and 256 times it) */
     bool is_live, has_called, has_asked; /* an attempt is recorded and not ended; its calls are made; it has asked to abort */
-    bool is_put_off;          /* by permits, a look comes before its next attempt */
-    unsigned writes;          /* which registers the attempt has asked to write */
-    uint64_t tried;       /* how many attempts were begun, of all transactions */
-    uint64_t uses, left;  /* in this round: how many registers a transaction uses, and how many attempts are left */
-    atomic_uint_least64_t begun; /* by permits: how many transactions were begun */
-    uint64_t written;     /* how many values were drawn to be written */
-    atomic_uint_least64_t keeps; /* how many events it has kept: whoever reads this may read them */
-    uint64_t look_from, look_began; /* how many it had kept when its look began, and when that was */
-    uint64_t stores;      /* how many writes and adds were recorded */
-    uint64_t before;      /* how many commits were asked for when the attempt began */
-    uint64_t foreign;     /* the most commits of others within an attempt */
-    tmwatch_step_how how; /* its accesses are made */
-    const void *caller;   /* where its last step returns to */
-    uint64_t draws, addends, pauses; /* what is drawn for transactions, for what they add, and for pauses: each by the seed alone */
+    bool is_put_off;                     /* by permits, a look comes before its next attempt */
+    unsigned writes;                     /* which registers the attempt has asked to write */
+    uint64_t tried;                      /* how many attempts were begun, of all transactions */
+    uint64_t uses, left;                 /* in this round: how many registers a transaction uses, and how many attempts are left */
+    atomic_uint_least64_t begun;         /* by permits: how many transactions were begun */
+    uint64_t written;                    /* how many values were drawn to be written */
+    atomic_uint_least64_t keeps;         /* how many events it has kept: whoever reads this may read them */
+    uint64_t look_from, look_began;      /* how many it had kept when its look began, and when that was */
+    uint64_t stores;                     /* how many writes and adds were recorded */
+    uint64_t before;                     /* how many commits were asked for when the attempt began */
+    uint64_t foreign;                    /* the most commits of others within an attempt */
+    tmwatch_step_how how;                /* its accesses are made */
+    const void *caller;                  /* where its last step returns to */
+    uint64_t draws, addends, pauses;     /* what is drawn for transactions, for what they add, and for pauses: each by the seed alone */
 };
 
 /* By steps, one thread runs at a time: the runner. At a step it may hand over to another, as drawn from the seed. */
@@ -90,15 +90,15 @@ struct steps {
     uint64_t changes, change[MOST_CHANGES]; /* after which steps of the round the runner gets the lowest priority */
     uint64_t step, spin;                    /* the round's steps, and the pauses since the runner's last call or turn */
     uint64_t length[2];                     /* about how many steps a round has, times 16: an even one, a mixed one */
-    bool is_mixed, has_buffers; /* of the round: it is mixed; stores are buffered */
+    bool is_mixed, has_buffers;             /* of the round: it is mixed; stores are buffered */
     atomic_uint_least64_t steps, switches, rescues, waits;
     atomic_bool asks; /* the runner asks outside, so that no rescue comes */
     sem_t go[MOST_THREADS];
     atomic_int tid[MOST_THREADS];
     atomic_uint_least64_t recorded; /* how many events */
-    uint64_t starts[STARTS]; /* how many events precede a round */
-    atomic_uint_least64_t begun;   /* the round that has begun last */
-    atomic_uint_least64_t ordered; /* how many rounds were to have stale loads or delayed stores */
+    uint64_t starts[STARTS];        /* how many events precede a round */
+    atomic_uint_least64_t begun;    /* the round that has begun last */
+    atomic_uint_least64_t ordered;  /* how many rounds were to have stale loads or delayed stores */
     struct listed listed[LISTED];
     atomic_uint_least64_t inner; /* how many steps were the memory's own */
 };
@@ -121,12 +121,12 @@ struct session {
     struct worker *workers[MOST_THREADS];
     unsigned started; /* how many threads it has */
     uint64_t written[MOST_THREADS], looked;
-    uint64_t start[MOST_REGISTERS]; /* what the registers hold */
-    uint64_t began, shown;          /* when the session began, and when its progress was last shown: microseconds */
-    bool is_stuck, has_steps;       /* no event has come for too long; the memory has steps of its own */
-    bool asks, is_slow;             /* the memory asks elsewhere, and then a leg by steps has taken long */
-    uint64_t took;                  /* how long the last leg by steps has taken: microseconds */
-    tmwatch_benched all;            /* of all legs before this one */
+    uint64_t start[MOST_REGISTERS];  /* what the registers hold */
+    uint64_t began, shown;           /* when the session began, and when its progress was last shown: microseconds */
+    bool is_stuck, has_steps;        /* no event has come for too long; the memory has steps of its own */
+    bool asks, is_slow;              /* the memory asks elsewhere, and then a leg by steps has taken long */
+    uint64_t took;                   /* how long the last leg by steps has taken: microseconds */
+    tmwatch_benched all;             /* of all legs before this one */
     struct second_runs *second_runs; /* or null: none are to be made */
 };
 
@@ -151,21 +151,22 @@ struct bench {
     struct watchdog {
         uint64_t looked, steps, clock, used, sleeps;
         int runner;
-    } watchdog; /* what the watchdog of the steps has seen last */
-    atomic_uint_least32_t fault; /* the first status of the watch that wasn't to be */
-    atomic_bool stops, is_late;  /* no round is to follow, since something is wrong, or since the time is up */
-    atomic_bool has_no_time;     /* no leg is to follow, since the time of all is up */
-    atomic_bool is_over;         /* no round follows */
-    void (*_Atomic restart)(void *memory); /* after a crash, so that nothing is recorded but a look; or null */
-    atomic_bool has_asked;       /* the memory asks outside */
-    unsigned running;            /* how many threads have a part now */
-    uint64_t idle;               /* for how many microseconds no event has come, nor anything else */
+        bool computes;                      /* the runner makes no step, and doesn't sleep */
+    } watchdog;                             /* what the watchdog of the steps has seen last */
+    atomic_uint_least32_t fault;            /* the first status of the watch that wasn't to be */
+    atomic_bool stops, is_late;             /* no round is to follow, since something is wrong, or since the time is up */
+    atomic_bool has_no_time;                /* no leg is to follow, since the time of all is up */
+    atomic_bool is_over;                    /* no round follows */
+    void (*_Atomic restart)(void *memory);  /* after a crash, so that nothing is recorded but a look; or null */
+    atomic_bool has_asked;                  /* the memory asks outside */
+    unsigned running;                       /* how many threads have a part now */
+    uint64_t idle;                          /* for how many microseconds no event has come, nor anything else */
     atomic_uint_least64_t asked, committed; /* how many commits are recorded, or about to be; and how many are recorded */
     atomic_uint refused, stored; /* since the last look, which registers were written by attempts that were rolled back, or committed */
     uint64_t looked;             /* how many values looks have written */
     struct transaction rejected; /* of a look that was given up, since it was rolled back again and again; or no attempt */
     unsigned rejected_thread;    /* whose look that was */
-    uint64_t rejected_at;            /* how many events there were after the first attempts of the last look */
+    uint64_t rejected_at;        /* how many events there were after the first attempts of the last look */
 };
 
 #define TO(field) offsetof(tmwatch_plan, field)

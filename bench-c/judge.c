@@ -31,9 +31,9 @@ static uint64_t judge_some(struct bench *b)
     return judged;
 }
 
-/* A look at the time counts for MOST_WAITED at most, so that a debugger's stop is no wait. An interrupt waits for half a second at most. For
-   MOST_STEPS without an event no time counts: each other thread tries until it is held for one that waits, seconds on a loaded machine. */
-enum { MOST_WAITED = SECOND / 10, SHOWN_EACH = SECOND / 2, INTERRUPTED_WAIT = SECOND / 2, MOST_STEPS = MOST_THREADS * MOST_SPIN };
+/* A look counts for MOST_WAITED at most, and while the runner computes for what the process was given: neither a debugger's stop nor a load
+   is a wait. For MOST_STEPS or rescues without an event no time counts: each other thread tries until it is held for one that waits. */
+enum { MOST_WAITED = SECOND / 200, SHOWN_EACH = SECOND / 2, INTERRUPTED_WAIT = SECOND / 2, MOST_STEPS = MOST_THREADS * MOST_SPIN };
 
 static void show_progress(struct bench *b, uint64_t now)
 {
@@ -53,17 +53,19 @@ static void show_progress(struct bench *b, uint64_t now)
 /* Judges until all threads have ended, or nothing has come for too long, and then what is left. Meanwhile it looks whether a time is up. */
 static void judge(struct bench *b)
 {
-    uint64_t began = microseconds_of(CLOCK_MONOTONIC), looked = began, moved = 0, steps = 0, steps_moved = 0;
+    uint64_t began = microseconds_of(CLOCK_MONOTONIC), looked = began, used = 0, moved = 0, steps = 0, steps_moved = 0;
     while (b->ended < b->running && !b->session->is_stuck) {
         uint64_t judged = judge_some(b);
         if (judged == 0)
             nap(b->has_asked ? LONG_REST : REST);
         uint64_t now = microseconds_of(CLOCK_MONOTONIC), passed = now - looked, moved_before = moved, steps_before = steps;
-        looked = now;
+        uint64_t given = microseconds_of(CLOCK_PROCESS_CPUTIME_ID) - used;
+        looked = now, used += given;
         if (by_steps(b))
             watch_steps(b, now);
+        passed = b->watchdog.computes && !b->is_over && given < passed ? given : passed;
         moved = b->round + b->attempted + b->ended;
-        steps = b->steps.steps;
+        steps = b->steps.steps + b->steps.rescues;
         bool has_moved = judged > 0 || moved != moved_before;
         steps_moved = has_moved ? steps : steps_moved;
         bool steps_on = steps != steps_before && steps - steps_moved < MOST_STEPS;
@@ -71,11 +73,9 @@ static void judge(struct bench *b)
         b->session->is_stuck = failure || (is_interrupted && b->idle >= INTERRUPTED_WAIT) ||
                                (b->plan.patience > 0 && b->idle / SECOND >= b->plan.patience);
         show_progress(b, now);
-        if (is_interrupted || (b->plan.seconds > 0 && (now - b->session->began) / SECOND >= b->plan.seconds))
-            b->has_no_time = true;
+        b->has_no_time = is_interrupted || (b->plan.seconds > 0 && (now - b->session->began) / SECOND >= b->plan.seconds);
         bool is_timed = b->most_time > 0 && (!by_steps(b) || b->has_asked);
-        if (b->has_no_time || (is_timed && now - began >= b->most_time))
-            b->is_late = true;
+        b->is_late = b->has_no_time || (is_timed && now - began >= b->most_time);
     }
     /* What is stuck may come back: then it ends. */
     if (b->session->is_stuck)

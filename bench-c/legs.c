@@ -86,10 +86,10 @@ static uint64_t leg_after(struct session *session, uint64_t leg, const struct be
 
 /* The numbers of what came out that are added up over the legs. */
 #define OF(field) offsetof(tmwatch_benched, field)
-static const size_t summed[] = {
+static const size_t summed[] = {/* clang-format off */
     OF(told.events),         OF(counts.aborted), OF(counts.committed), OF(counts.cuts), OF(counts.live), OF(counts.overlapping),
     OF(counts.transactions), OF(counts.unasked), OF(rounds),           OF(steps),       OF(switches),    OF(rescues),
-    OF(waits),               OF(crashes),        OF(stores)};
+    OF(waits),               OF(crashes),        OF(stores)}; /* clang-format on */
 
 static void add_leg(tmwatch_benched *all, const tmwatch_benched *leg)
 {

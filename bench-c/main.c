@@ -135,7 +135,7 @@ static bool write_junit(const char *name, const char *program, uint32_t status, 
     if (has_failed || is_error) {
         const char *fault = status == TMWATCH_FAILED ? "failed" : has_run(status) ? "stuck" : "no verdict";
         fprintf(file, "<%s message=\"%s\">\n", has_failed ? "failure" : "error",
-                is_error ? fault : is_right ? "race" : verdicts[benched->told.verdict]);
+                is_error ? fault : (is_right ? "race" : verdicts[benched->told.verdict]));
         if (has_run(status))
             print_lines(file, benched, true);
         fprintf(file, "</%s>\n", has_failed ? "failure" : "error");

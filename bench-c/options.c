@@ -54,7 +54,8 @@ static const struct option options[] = {
     {"--junit", "FILE", IN(junit), "what came out, as CI systems read it"},
     {"--legs", "", IN(legs), "the plan of each leg on standard error"},
     {"--quiet", "", IN(quiet), "no progress on a terminal"},
-    {NULL, NULL, SIZE_MAX, NULL}};
+    {NULL, NULL, SIZE_MAX, NULL},
+};
 
 /* Reads an option's word, or that it is there: the word that is wrong, or none. A number has to fit, and a choice stands for its number. */
 static const char *read_option(struct given *given, const struct option *option, char **words)

@@ -31,11 +31,11 @@ static bool by_steps(const struct bench *b)
 /* What a plan may leave to be drawn: where it stands, what it is where nothing is drawn, and its range. */
 static const struct drawn {
     size_t to;
-    uint64_t usual, least, most;
+    uint64_t usual, least, most; /* clang-format off */
 } drawn[] = {{TO(threads), 4, 1, MOST_THREADS}, {TO(registers), 3, 1, MOST_REGISTERS}, {TO(calls), 3, 1, MOST_USES},
              {TO(writes), 50, 0, 100},          {TO(adds), 20, 0, 100},                {TO(aborts), 12, 0, 100},
              {TO(pause), 100, 0, 1 << 20},      {TO(mixes), 50, 0, 100},               {TO(blinds), 10, 0, 100},
-             {TO(orders), TMWATCH_SEQUENTIAL, 0, TMWATCH_CXX}};
+             {TO(orders), TMWATCH_SEQUENTIAL, 0, TMWATCH_CXX}}; /* clang-format on */
 enum { DRAWN = sizeof drawn / sizeof drawn[0] };
 
 /* The plan with what it leaves to be drawn: these numbers, or the usual ones. */

@@ -59,9 +59,9 @@ static void run_parts(struct bench *b, unsigned from, unsigned to)
     for (unsigned i = from; i < to; i++) {
         struct worker *it = b->session->workers[i];
         uint64_t draws = b->plan.seed * MOST_THREADS + i;
-        it->attempt = &b->parts[i];
+        it->attempt = &b->parts[i]; /* clang-format off */
         *it->attempt = (tmwatch_attempt){.bench = b, .recorder = &b->recorders[i], .thread = i, .tx = it->tx, .draws = draws, .addends = ~draws,
-                                         .pauses = draws ^ apart_rounds, .written = b->session->written[i]};
+                                         .pauses = draws ^ apart_rounds, .written = b->session->written[i]}; /* clang-format on */
         post(&it->goes);
     }
     judge(b);

@@ -27,6 +27,7 @@ static bool is_blocked(struct bench *b, int runner, uint64_t steps)
     bool is_new = runner != w->runner || steps != w->steps;
     w->runner = runner != NOBODY && s->awake == runner && !s->asks ? runner : NOBODY;
     w->steps = steps;
+    w->computes = false;
     clockid_t clock = CLOCK_MONOTONIC;
     if (w->runner == NOBODY || pthread_getcpuclockid(b->session->workers[runner]->thread, &clock) != 0)
         return false;
@@ -35,6 +36,7 @@ static bool is_blocked(struct bench *b, int runner, uint64_t steps)
     w->sleeps = !is_new && is_asleep(s->tid[runner]) ? w->sleeps + 1 : 0;
     w->used = is_new ? 0 : w->used + (passed < MOST_EACH ? passed : MOST_EACH);
     w->clock = used;
+    w->computes = !is_new && w->sleeps == 0;
     return w->sleeps >= (is_late ? LATER_SLEEPS : MOST_SLEEPS) || w->used >= (is_late ? LATER_USED : MOST_USED);
 }
 

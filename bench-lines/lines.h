@@ -24,10 +24,10 @@ struct options {
     const char *setup, *teardown;    /* commands, or null */
     const char *crash;               /* the same: kills the store and starts it again */
     uint64_t seed;
-    const char *whole;               /* the file of the whole run, or null */
-    uint64_t start, wait;            /* seconds until a program is ready; milliseconds until a call waits, or 0 if that is found out */
-    unsigned threads, registers;     /* how many at most */
-    char **program;                  /* its words, up to a null */
+    const char *whole;           /* the file of the whole run, or null */
+    uint64_t start, wait;        /* seconds until a program is ready; milliseconds until a call waits, or 0 if that is found out */
+    unsigned threads, registers; /* how many at most */
+    char **program;              /* its words, up to a null */
 };
 extern struct options options;
 

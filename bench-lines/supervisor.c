@@ -58,6 +58,14 @@ static void catch_signals(void (*by)(int))
             sigaction(signals[i], &action, NULL);
 }
 
+/* Signals end this process, also one that has come since it was started. */
+static void catch_none(void)
+{
+    catch_signals(SIG_DFL);
+    if (is_interrupted)
+        raise(SIGTERM);
+}
+
 /* Waits for a child, to which signals are handed on meanwhile, or to its group: the status of waitpid. */
 static int wait_for(pid_t pid, bool has_group)
 {
@@ -89,7 +97,7 @@ bool run_command(const char *name, const char *command)
     if (pid == 0) {
         int none = open("/dev/null", O_RDONLY);
         setpgid(0, 0);
-        catch_signals(SIG_DFL);
+        catch_none();
         dup2(none, STDIN_FILENO);
         dup2(STDERR_FILENO, STDOUT_FILENO);
         execl("/bin/sh", "sh", "-c", command, (char *)NULL);
@@ -166,7 +174,7 @@ static void end_run(void)
 
 static int run_bench(int (*run)(void))
 {
-    catch_signals(SIG_DFL);
+    catch_none();
     return run();
 }
 

@@ -137,7 +137,8 @@ typedef struct tmwatch_plan {
     uint64_t round;     /* by steps: before this round tmwatch_break is called; by all, one of the first 20000; 0: never */
     uint64_t orders;    /* ** (0) a tmwatch_orders; another than TMWATCH_SEQUENTIAL only by steps, or by all in its legs by steps */
     uint64_t plain;     /* 1: plain accesses are steps too (libtmwatch_steps.a); or 0 */
-    uint64_t patience;  /* after so many seconds without an event, or of a look that is rolled back, the run is given up; 0: never */
+    uint64_t patience;  /* after so many seconds without an event, under load later, or of a look that is rolled back, the run is given up;
+                           0: never */
     FILE *progress;     /* or null: here a line says twice a second how far the run is */
     uint64_t blinds;    /* ** (10) of 100 transactions, how many do nothing but write, unless `writes` is 0 */
     uint64_t event;     /* with `round`: tmwatch_break is called before this event of the round instead; 0: before the round */
@@ -151,9 +152,11 @@ typedef struct tmwatch_plan {
     uint64_t crashes;   /* 1: the memory calls tmwatch_bench_crash, so that a thread and one of eight attempts are left free; or 0 */
 } tmwatch_plan;
 
+/* clang-format off */
 #define TMWATCH_PLAN                                                                                                                     \
     {100000, 1, TMWATCH_DRAWN, TMWATCH_DRAWN, TMWATCH_DRAWN, 0, TMWATCH_DRAWN, TMWATCH_DRAWN, TMWATCH_DRAWN, TMWATCH_DRAWN, 0,             \
      TMWATCH_ALL, {0, 0, 0, 0, 0, 0, 0, 0}, NULL, TMWATCH_DRAWN, 0, TMWATCH_DRAWN, 0, 5, NULL, TMWATCH_DRAWN, 0, NULL, NULL, 0, 0, 0, 0}
+/* clang-format on */
 
 /* How many bytes tell what the orders of C++20 have shown, and a race or a delayed load. */
 enum { TMWATCH_MOST_SHOWN = 4096, TMWATCH_MOST_RACE = 1024 };
@@ -189,8 +192,8 @@ typedef struct tmwatch_benched {
     uint64_t rejected;     /* how many times a transaction that ran alone was rolled back, if the memory has lost progress; or 0 */
     tmwatch_plan leg;      /* the plan of the last leg */
     uint64_t unseen;       /* what was met that the bench doesn't see: bits of tmwatch_unseen */
-    char race[TMWATCH_MOST_RACE];   /* by the orders of C++20, if all is seen: the first race on plain data, and where it is; or empty */
-    char shown[TMWATCH_MOST_SHOWN]; /* by the orders of C++20, lines: which loads of a violated round did not return the newest value, where
+    char race[TMWATCH_MOST_RACE];    /* by the orders of C++20, if all is seen: the first race on plain data, and where it is; or empty */
+    char shown[TMWATCH_MOST_SHOWN];  /* by the orders of C++20, lines: which loads of a violated round did not return the newest value, where
                                        in the program, and which stores they missed; what isn't seen */
     char delayed[TMWATCH_MOST_RACE]; /* by the orders of C++20, if nothing is wrong: a load that might be delayed past later stores, so that
                                        it returned what another thread stores, which would be a violation; and where both are; or empty */

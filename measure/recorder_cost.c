@@ -1,5 +1,5 @@
-/* What recording an event costs by examples/recorders/recorder.h: nanoseconds, of one thread and of four, the median of 51 times. */
-#include "../examples/recorders/recorder.h"
+/* What recording an event costs by include/tmwatch/recorder.h: nanoseconds, of one thread and of four, the median of 51 times. */
+#include "tmwatch/recorder.h"
 #include <pthread.h>
 #include <time.h>
 

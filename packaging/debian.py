@@ -4,6 +4,7 @@ import os
 import re
 import subprocess
 
+import found
 import layout
 from tree import Tree
 
@@ -51,7 +52,7 @@ Priority: optional
 {text}"""
 CHANGES = """tmwatch ({version}) unstable; urgency=medium
 
-  * /usr/share/doc/tmwatch/CHANGELOG.md says what you can do.
+  * /usr/share/tmwatch/CHANGELOG.md says what you can do.
 
  -- {maintainer}  {date}
 """
@@ -65,10 +66,9 @@ class Unknown(Exception):
 
 def place(path):
     """Returns the package that has a file of the archive, and its path there."""
-    to = path.replace("usr/lib/", f"usr/{LIBRARIES}/")
-    if path.startswith("usr/lib/libtmwatch.so."):
-        return LIBRARY, to
-    return DEV if path.startswith(("usr/lib/", "usr/include/", "usr/share/man/man3/")) else PROGRAM, to
+    if path.startswith(("usr/lib/libtmwatch", "usr/lib/pkgconfig/", "usr/lib/cmake/")):
+        return LIBRARY if ".so." in path else DEV, path.replace("usr/lib/", f"usr/{LIBRARIES}/")
+    return DEV if path.startswith(("usr/include/", "usr/share/man/man3/")) else PROGRAM, path
 
 
 def split(tree):
@@ -80,8 +80,8 @@ def split(tree):
     for path, link in tree.links.items():
         name, to = place(path)
         trees[name].links[to] = link
-    for name in layout.PACKAGES:
-        trees[DEV].add(f"usr/{LIBRARIES}/pkgconfig/{name}.pc", layout.describe(name, "/usr", LIBRARIES).encode())
+    for path, text in found.packages("/usr", LIBRARIES):
+        trees[DEV].add(f"usr/{LIBRARIES}/{path}", text.encode())
     return trees
 
 
@@ -128,7 +128,7 @@ def write_deb(path, members, seconds):
 
 def write_debs(tree, to, binaries, seconds, date):
     """Writes all packages of the archive's tree into the folder."""
-    words = {"version": layout.read_version(), "maintainer": MAINTAINER, "date": date, "libc": read_libc(*binaries)}
+    words = {"version": found.read_version(), "maintainer": MAINTAINER, "date": date, "libc": read_libc(*binaries)}
     for name, own in split(tree).items():
         add_pages(own, name, words)
         control = control_of(own, name, words).pack(seconds)

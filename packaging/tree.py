@@ -7,6 +7,14 @@ import tarfile
 
 # A link of a page: its text, the file where it leads, and the heading there.
 LINK = re.compile(r"\[((?:[^][]|\[[^][]*\])*)\]\(([^)\s#]+)(#[^)\s]*)?\)")
+# What a page's commands have of a build, and what they have once that is installed.
+INSTALLED = (
+    (re.compile(r"^    \$ (\./tmwatch-c built|export PKG_CONFIG_PATH=built/.*)\n", re.M), ""),
+    (re.compile(r"^(    .*) -Ibuilt/include\b", re.M), r"\1"),
+    (re.compile(r"\bbuilt/lib/lib(\w+)\.a\b(?=.*\n)"), r"-l\1"),
+    (re.compile(r"\bTMWATCH_LIB=\S*built/lib "), ""),
+    (re.compile(r"\./tmwatch "), "tmwatch "),
+)
 
 
 def parents(path):
@@ -37,10 +45,11 @@ class Tree:
         for at, folders, names in os.walk(folder):
             folders[:] = sorted({*folders} - {"target", "__pycache__"})
             for name in names:
-                self.add_file(f"{path}{at[len(folder) :]}/{name}", f"{at}/{name}")
+                mode = 0o755 if os.access(f"{at}/{name}", os.X_OK) else 0o644
+                self.add_file(f"{path}{at[len(folder) :]}/{name}", f"{at}/{name}", mode)
 
     def adapt(self, pages):
-        """Fits these pages to what is installed: a link that leads to no file here becomes its text, and the program is on the PATH."""
+        """Fits these pages to what is installed: a link that leads to no file here becomes its text, and commands name no build."""
         there = {at for path in self.files for at in (path, *parents(path))}
         for page in [path for path in self.files if path.startswith(f"{pages}/") and path.endswith(".md")]:
 
@@ -49,7 +58,10 @@ class Tree:
                 return link[0] if "://" in link[2] or to in there else link[1]
 
             mode, data = self.files[page]
-            self.files[page] = (mode, LINK.sub(keep, data.decode().replace("./tmwatch ", "tmwatch ")).encode())
+            text = LINK.sub(keep, data.decode())
+            for words, to in INSTALLED:
+                text = words.sub(to, text)
+            self.files[page] = (mode, text.encode())
 
     def size(self):
         """Returns how many KiB the files take."""

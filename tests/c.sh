@@ -80,7 +80,7 @@ rounds=${ROUNDS:-2000}
 watched() {
     local words name="watched${1:+ $1} $2"
     read -r -a words <<<"$2"
-    ends "$name compiles" 0 "$cc" -std=gnu11 "${strict[@]}" ${1:+"$1"} -include "$top/examples/c/recorder.h" -o "$folder/watched" \
+    ends "$name compiles" 0 "$cc" -std=gnu11 "${strict[@]}" ${1:+"$1"} -include tmwatch/watched.h -o "$folder/watched" \
         "$top/examples/recorders/little.c" "${static[@]}"
     ends "$name" "$3" "$folder/watched" "${words[@]}" "$rounds" 1
 }
@@ -225,7 +225,7 @@ wrong_bench() {
     cp -r "$top/bench-c" "$folder/bench-c"
     sed -i "$2" "$folder"/bench-c/*.c
     ends "a bench that $1 compiles" 0 "$cc" -std=c11 "${strict[@]}" -o "$folder/wrong" \
-        "$top/examples/c/norec.c" "$folder/bench-c/tmwatch_bench.c" "$folder/waits.o" "${static[@]}"
+        "$top/examples/c/norec.c" "$folder/bench-c/tmwatch_bench.c" "$folder/lib/libtmwatch_bench.a" "${static[@]}"
     ends "a bench that $1" "$3" until_met "${run[@]}" "$folder/wrong" --rounds "$rounds" --mixes 0 --schedule "${schedule:-rounds}"
 }
 
@@ -250,7 +250,7 @@ for words in --rounds '--rounds x' '--rounds 0' '--mixes 101' '--schedule rounds
 done
 ends 'an empty word' 4 "${run[@]}" "$folder/norec_NONE" --rounds 9 --adds ''
 ends 'the words there are' 0 "${run[@]}" "$folder/norec_NONE" --help
-sed 's/ norec_commit, norec_abort/ NULL, norec_abort/; /^static bool norec_commit/,/^}/d' "$top/examples/c/norec.c" >"$folder/lacking.c"
+sed 's/ norec_commit, / NULL, /; /^static bool norec_commit/,/^}/d' "$top/examples/c/norec.c" >"$folder/lacking.c"
 ends 'a memory without a function compiles' 0 "$cc" -std=c11 -O2 -pthread "-I$built/include" "-I$top/examples/c" "${flags[@]}" \
     -o "$folder/lacking" "$folder/lacking.c" "${bench[@]}"
 ends 'a memory without a function' 4 "${run[@]}" "$folder/lacking"

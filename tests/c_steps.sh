@@ -92,6 +92,8 @@ done
 # (each look whether a thread sleeps gives its file back)
 ends 'a mutex that the bench does not see' 0 sh -c 'ulimit -n 40 && exec "$@"' sh "$folder/mutex_unseen" --schedule steps --rounds 20
 has_told 'a mutex that the bench does not see: rescues' '"rescues":[1-9]'
+# (of two threads a rescue lets the other one go)
+ends 'a mutex that the bench does not see, two threads' 0 "$folder/mutex_unseen" --schedule steps --rounds 20 --threads 2
 
 # A memory that asks elsewhere, and says so.
 ends 'a lock elsewhere' 0 "$folder/outside" --schedule steps --rounds 500
@@ -293,6 +295,14 @@ sleeps_unrescued() {
     return 1
 }
 ends 'a thread that sleeps often: no rescue' 0 sleeps_unrescued
+# Meanwhile the judge rests.
+rests() {
+    local TIMEFORMAT='%U %S %R'
+    { time "$folder/sleeping" --schedule steps --rounds 12 --threads 2 --mixes 100 >"$folder/printed" 2>&1; } 2>"$folder/times"
+    cat "$folder/times"
+    awk '{ exit !($1 + $2 < 0.4 * $3) }' "$folder/times"
+}
+ends 'a thread that sleeps often: little of a processor' 0 rests
 
 # What only more than four registers show is found by default too.
 paused stripes tests/c/bench_stripes.c NONE
@@ -541,10 +551,22 @@ paused stuck_TIRED tests/c/bench_stuck.c TIRED
 for seed in 2 3; do
     ends "a lock that is waited for in naps, seed $seed" 0 "$folder/stuck_TIRED" --schedule steps --rounds 6 --seed $seed --patience 1
 done
-# A memory that waits without a step, and a bench that doesn't see it.
+# Naps that are waited for in turns have an end.
+paused stuck_NAPS tests/c/bench_stuck.c NAPS
+ends 'a lock that is left held and waited for in naps' 4 timeout -s KILL 300 "$folder/stuck_NAPS" --schedule steps --threads 2 --patience 1
+# A memory that waits without a step, and a bench that doesn't see it, also where a busy loop leaves it little of a processor.
 ends 'a lock without a mark compiles' 0 "$cc" "${strict[@]}" -DPERCENT=0 -o "$folder/spins" "$top/tests/c/bench_spurious.c" "${bench[@]}"
 ends 'a lock without a mark' 0 "$folder/spins" --schedule steps --rounds 20 --patience 60
 has_told 'a lock without a mark: rescues' '"rescues":[1-9]'
+beside_loop() {
+    local loop status=0
+    taskset -c "$few" sh -c 'while :; do :; done' &
+    loop=$!
+    nice taskset -c "$few" "$@" || status=$?
+    kill "$loop"
+    return $status
+}
+ends 'a lock without a mark, beside a busy loop' 0 beside_loop "$folder/spins" --schedule steps --rounds 3 --threads 2 --patience 1
 ends 'rescues are told of' 0 grep -q "rescues: the memory waits for what the bench doesn't see" <("$folder/mutex_unseen" --schedule steps \
     --rounds 20 2>&1)
 

@@ -1,6 +1,6 @@
 #!/usr/bin/env bash
-# Runs memories by examples/ci/bench.sh, right and wrong ones, and programs that end in all other ways (ci.py); then a command of docs/CI.md
-# for traces.
+# Runs memories by examples/ci/bench.sh, right and wrong ones, and programs that end in all other ways (ci.py); then the shell of
+# packaging/action.yml, and a command of docs/CI.md for traces.
 #
 #   tests/ci.sh
 #
@@ -27,6 +27,8 @@ tested() {
     local name=$1 wanted=$2 lines=$3
     shift 3
     rm -rf out
+    # (as a run leaves it that is killed)
+    mkdir out && echo '<testcase/>' >out/junit.new
     ends "$name" "$wanted" "$top/examples/ci/bench.sh" out "$@"
     cp output tap
     ends "$name: its tests" 0 diff <(printf '%s\n' "$lines") <(sed -n '/^\(not \)\?ok/p' tap)
@@ -65,6 +67,26 @@ if has python3 'other ends'; then
     ends 'other ends' 0 "$top/tests/ci.py" "$top/examples/ci/bench.sh"
     cd "$folder"
 fi
+
+# The steps of packaging/action.yml, as a runner of GitHub runs their shell: its inputs are variables here.
+# shellcheck disable=SC2034 # (inputs are read by their names)
+act() {
+    local packages=debs build="cp norec-$1 norec" programs='./norec ./norec-NONE' each=1 again='' variable input command
+    mkdir -p bin
+    printf '%s\n' '#!/bin/sh' 'echo "$@" >installed' >bin/sudo && chmod +x bin/sudo
+    rm -rf out norec && mkdir -p debs && touch debs/one.deb debs/two.deb
+    while read -r variable input; do
+        export "$variable=${!input}"
+    done < <(sed -n 's/^ *\([A-Z]*\): \${{ inputs\.\([a-z]*\) }}$/\1 \2/p' "$top/packaging/action.yml")
+    while read -r command; do
+        GITHUB_ACTION_PATH=$top/packaging PATH=$PWD/bin:$PATH bash --noprofile --norc -eo pipefail -c "$command" || return
+    done < <(sed -n 's/^ *run: //p' "$top/packaging/action.yml")
+}
+ends 'the action' 0 act NONE
+ends 'the action: what it installs' 0 grep -qx 'dpkg -i debs/one.deb debs/two.deb' installed
+ends 'the action: its artifact' 0 test -s "$(sed -n 's/^ *path: //p' "$top/packaging/action.yml")/junit.xml"
+ends 'the action: its tests' 0 grep -q 'tests="2" failures="0"' out/junit.xml
+ends 'the action, a wrong memory' 1 act READS
 
 # As docs/CI.md judges a trace whose transactions have to overlap.
 shows() {

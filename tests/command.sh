@@ -518,4 +518,27 @@ status=0
 "$top/tmwatch" replay </dev/null >"$folder/output" 2>/dev/full || status=$?
 count 'replay 2> /dev/full' "4 '{\"fault\":\"usage\"}'" "$status '$(cat "$folder/output")'"
 
+# before a build, help, the version and wrong words take no kit, and a terminal is told what is compiled
+mkdir -p "$folder/unbuilt/crates/tmwatch" "$folder/unbuilt/crates/tmw_command/specs" "$folder/unbuilt/packaging" "$folder/kit"
+cp "$top/tmwatch" "$folder/unbuilt"
+cp "$top/packaging/help.txt" "$top/packaging/words.awk" "$folder/unbuilt/packaging"
+cp "$top/crates/tmw_command/specs/Version.antt" "$folder/unbuilt/crates/tmw_command/specs"
+printf '%s\n' '#!/bin/sh' 'echo compiled >&2' 'exit 3' >"$folder/kit/rt"
+chmod +x "$folder/kit/rt"
+unbuilt=$folder/unbuilt/tmwatch
+for command in '' judge show drive bench steps; do
+    count "the help of ${command:-the program}, before a build" "$("$program" $command --help | md5sum)" \
+        "$(PATH=$folder/kit:$PATH "$unbuilt" $command --help | md5sum)"
+done
+awk '/^tmwatch/ { row = ""; is_early = / (help|--help|-h|--version|-V)( |$)/ }
+    { row = row $0 "\n" }
+    /^> \{"fault":"usage"\}$/ { is_early = 1 }
+    /^= / && is_early { printf "%s", row }' "$top/tests/rows/words.rows" >"$folder/early.rows"
+count 'rows that need no program' enough "$([ "$(grep -c ^tmwatch "$folder/early.rows")" -ge 70 ] && echo enough)"
+program=$unbuilt PATH=$folder/kit:$PATH run_rows "$folder/early.rows"
+told=$(PATH=$folder/kit:$PATH script -qec "'$unbuilt' judge <'$top/examples/add.trace'" /dev/null </dev/null | tr -d '\r' || true)
+count 'what a terminal is told before a build' 'tmwatch: the program is not built: compiling it without its proofs, which takes about a minute' \
+    "$(head -n 1 <<<"$told")"
+count 'what is compiled before a build' compiled "$(PATH=$folder/kit:$PATH "$unbuilt" judge <"$top/examples/add.trace" 2>&1 | head -n 1)"
+
 end_rows

@@ -137,19 +137,9 @@ measure() {
     echo "$least $most $memory $status" | awk '{ printf "%.4f %.4f %d %s\n", $1 / 1000000, $2 / 1000000, $3, $4 }'
 }
 
-# Compiles the bench of this repository, by these words, into $folder/lib/libtmwatch_bench.a and libtmwatch_steps.a, as
-# packaging/layout.py does.
+# Compiles the bench of this repository, by these words, into $folder/lib/libtmwatch_bench.a and libtmwatch_steps.a.
 build_bench() {
-    local source
-    mkdir -p "$folder/lib" "$folder/steps"
-    "$@" -c -o "$folder/tmwatch_bench.o" "$top/bench-c/tmwatch_bench.c"
-    for source in "$top"/bench-c/instrumented/*.c; do
-        "$@" -c -o "$folder/steps/$(basename "$source" .c).o" "$source"
-    done
-    rm -f "$folder"/lib/libtmwatch_{bench,steps}.a
-    mv "$folder/steps/waits.o" "$folder"
-    ar rcs "$folder/lib/libtmwatch_bench.a" "$folder/tmwatch_bench.o" "$folder/waits.o"
-    ar rcs "$folder/lib/libtmwatch_steps.a" "$folder"/steps/*.o
+    "$top/packaging/layout.py" --bench "$folder/lib" "$@"
 }
 
 # The words by which the linker wraps the names of this kind.

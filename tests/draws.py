@@ -8,9 +8,10 @@ the plan says, with its registers and values, and each round has to have its sha
 one that reads all registers alone is a look, and one that writes one alone, with a value that only looks write, belongs to it. Prints how many attempts were compared, and how many values, all of which differ. Exit status: 0 all is so; 1 it is not.
 """
 import sys
+from copy import deepcopy
 
 WORD, SPLIT, ROUNDS, VALUES = 2**64, 0x9E3779B97F4A7C15, 0xD1342543DE82EF95, 0x9E3779B97F4A7C15
-MOST_ATTEMPTS, MOST_USES, PLACES = 8, 16, 8
+MOST_ATTEMPTS, MOST_USES, PLACES, SMALL_APART, SMALL_ADDENDS = 8, 16, 8, 16, 2**16
 UNVALUE = pow(VALUES, -1, WORD)
 
 
@@ -34,7 +35,7 @@ class Thread:
         self.number, self.plan, self.start, self.written, self.round = number, plan, start, 0, 0
         self.draws = Draws(plan[0] * PLACES + number)
         self.addends = Draws(~(plan[0] * PLACES + number))
-        self.left, self.most, self.made, self.is_mixed = 0, 0, 0, False
+        self.left, self.most, self.made, self.is_mixed, self.is_small = 0, 0, 0, False, False
 
     def draw_share(self):
         seed, threads, calls = self.plan[:3]
@@ -64,10 +65,10 @@ class Thread:
 
     def value_of(self, letter):
         if letter == "N":
-            return self.addends.below(WORD - 1)
+            return self.addends.below(SMALL_ADDENDS if self.is_small else WORD - 1)
         while letter == "W":
             self.written += 1
-            value = (self.written * PLACES + self.number) * VALUES % WORD
+            value = self.written * SMALL_APART + self.number if self.is_small else (self.written * PLACES + self.number) * VALUES % WORD
             if value not in self.start:
                 return value
 
@@ -110,24 +111,45 @@ def read_attempts(lines, registers):
             yield thread, calls, letter == "C" or calls[-1][0] == "X", alone
 
 
+def followed(thread, made, rounds):
+    """Returns how many of the attempts that a thread made are its plan's, and their values; or what is not so. What may be a look, and the
+    plan's too, is tried as both."""
+    todo, seen, wrong = [(0, thread, thread.next_attempt(), 0, [])], set(), ""
+    while todo:
+        at, thread, due, count, values = todo.pop()
+        for at, (calls, is_over, alone) in enumerate(made[at:], at + 1):
+            fits = due[: len(calls)] == calls and thread.round <= rounds
+            if not fits and not alone:
+                wrong = f"attempt {at}: thread {thread.number} has {calls}, and its plan {due}"
+                break
+            if not fits:
+                continue
+            if alone and (at, count) not in seen:
+                seen.add((at, count))
+                todo.append((at, deepcopy(thread), due, count, list(values)))
+            count += 1
+            values += [value for letter, _, value in calls if letter in "WN"]
+            thread.end_attempt(is_over)
+            due = thread.next_attempt()
+        else:
+            if thread.round > rounds:
+                return count, values
+            wrong = f"thread {thread.number} has come to round {thread.round}"
+    return wrong
+
+
 def compare(lines, rounds, plan):
     start = [int(it) for it in lines[0].split()[3:]]
-    threads = [Thread(number, plan, start) for number in range(plan[1])]
-    due = [it.next_attempt() for it in threads]
-    attempts, values = 0, []
-    for thread, calls, is_over, alone in read_attempts(lines[1:], len(start)):
-        if due[thread][: len(calls)] != calls or threads[thread].round > rounds:
-            if alone:
-                continue
-            return f"attempt {attempts}: thread {thread} has {calls}, and its plan {due[thread]}"
-        attempts += 1
-        values += [value for letter, _, value in calls if letter in "WN"]
-        threads[thread].end_attempt(is_over)
-        due[thread] = threads[thread].next_attempt()
+    made, attempts, values = [[] for _ in range(plan[1])], 0, []
+    for thread, *attempt in read_attempts(lines[1:], len(start)):
+        made[thread].append(attempt)
+    for number, its_own in enumerate(made):
+        found = followed(Thread(number, plan, start), its_own, rounds)
+        if isinstance(found, str):
+            return found
+        attempts, values = attempts + found[0], values + found[1]
     if len(set(values)) < len(values):
         return "a value comes twice"
-    if any(it.round <= rounds for it in threads):
-        return f"the threads have come to rounds {[it.round for it in threads]}"
     print(f"{attempts} attempts, {len(values)} values")
     return None
 

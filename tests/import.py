@@ -1,33 +1,42 @@
 #!/usr/bin/env python3
-"""Compares verdicts on random histories, turned into traces by examples/import, with those of all orders and completions. Keys and values
-are of either sign, and blanks, commas and further words stand as Jepsen may write them. Lines in which one word is spoiled are refused, or
-left out if they are none of a process.
+"""Compares verdicts on random histories, turned into traces by examples/import, and those of whole.py, with those of all orders and
+completions; and the transaction that whole.py names, with the event that tests/long/whole.py finds in the trace. Keys and values are of
+either sign, and blanks, commas and further words stand as Jepsen may write them. Lines in which one word is spoiled are refused.
 
     tests/import.py PROGRAM HISTORIES
+    tests/import.py FOLDER
 
 PROGRAM is the built tmwatch. Each history goes through intervals.py and through jepsen.py. The last line counts the histories and those
 that were violated. Exit status: 0 all agree; 1 one does not, which is printed.
+In each folder of FOLDER are the words of a command of examples/import, a line each, and its input. It gets output, errors and status.
 """
-import contextlib
-import io
+import importlib.util
 import json
 import os
 import random
+import runpy
 import subprocess
 import sys
 from itertools import permutations, product
 
-sys.path.insert(0, os.path.join(os.path.dirname(os.path.dirname(os.path.realpath(__file__))), "examples", "import"))
+TESTS = os.path.dirname(os.path.realpath(__file__))
+IMPORT = os.path.join(os.path.dirname(TESTS), "examples", "import")
+sys.path[:0] = [IMPORT, os.path.join(TESTS, "long")]
+import history  # noqa: E402
+import intervals  # noqa: E402
 import jepsen  # noqa: E402
-from intervals import write_trace  # noqa: E402
+import whole  # noqa: E402
+
+# (it has the name of an importer)
+loader = importlib.util.spec_from_file_location("definitions", os.path.join(TESTS, "long", "whole.py"))
+loader.loader.exec_module(definitions := importlib.util.module_from_spec(loader))
 
 MOST, FOREVER = 5, 10**9
-# Words of a line that say something else; and what may stand in place of a part of a line, whose words say then why the history is refused.
+# Words of a line that say something else; and what may stand in place of a part of a line, and why the history is refused then.
 OTHERS = [":old-value []", ":old-type :fail", ":old-process 99"]
 SPOILT = {
-    ":r": (":append", " is no transaction on read-write registers: "), "[[": ("[[[", " is no transaction on read-write registers: "),
-    "]]": ("]", " is no transaction on read-write registers: "), ":value": (":values", " is no transaction on read-write registers: "),
-    ":ok": (":invoke", " has an operation already"),
+    ":r": (":append", ": expected :value "), "[[": ("[[[", " closes nothing: "), "]]": ("]", " closes nothing: "),
+    ":value": (":values", ": expected :value "), ":ok": (":invoke", " has an operation already"),
 }  # fmt: skip
 
 
@@ -92,7 +101,7 @@ def write_edn(rng, ts):
     moments = [(t["begin"], "invoke", n) for n, t in enumerate(ts)] + [(t["end"], t["result"], n) for n, t in enumerate(ts)]
     numbers = rng.sample(range(30), len(ts))
     lines = [line_of(*moment) for moment in sorted(moments)]
-    for other in "{:type :info, :process :nemesis, :f :start, :value nil}", "", "{:type :pass, :process 1, :value [[:x]]}":
+    for other in "{:type :info, :process :nemesis, :f :start, :value nil}", "", "; {:type :ok, :process 1, :value [[:x]]}":
         lines.insert(rng.randrange(len(lines) + 1), other)
     return "\n".join(lines)
 
@@ -107,18 +116,48 @@ def is_refused_when_spoilt(rng, text):
         return True
     lines[number] = lines[number].replace(part, spoilt, 1)
     try:
-        jepsen.read_transactions(lines)
-    except SystemExit as it:
-        return str(it.code).startswith(f"line {number + 1}") and why in str(it.code)
+        jepsen.read("\n".join(lines))
+    except history.Refused as it:
+        return str(it).startswith(f"line {number + 1}: ") and why in str(it)
     return False
 
 
-def judge(program, ts):
-    trace = io.StringIO()
-    with contextlib.redirect_stdout(trace):
-        write_trace(ts, [])
-    told = subprocess.run([program, "judge", "--criterion", "strict"], input=trace.getvalue(), capture_output=True, text=True).stdout
+def judge(program, trace):
+    told = subprocess.run([program, "judge", "--criterion", "strict"], input=trace, capture_output=True, text=True).stdout
     return json.loads(told)["verdict"]
+
+
+def verdicts(program, ts):
+    """Returns the verdict of judge on the trace of a history, that of whole.py, and whether the definitions find that transaction too."""
+    keys, ts = history.limited(ts, [])
+    try:
+        ts = history.counted(ts)
+    except history.Refused:
+        return ["strict so far", "strict so far", True]
+    trace = "".join(history.trace_of(ts, keys)[0])
+    header, *lines = trace.splitlines()
+    at = definitions.first_violated("strict", int(header.split()[2]), lines)
+    ended = [n for _, is_end, n in history.moments_of(ts) if is_end]
+    found = ended[sum(line.endswith("C") for line in lines[:at]) - 1] if at else None
+    n, _ = whole.first_unplaced(whole.History(ts), whole.MOST)
+    return [judge(program, trace), "violated" if n is not None else "strict so far", n == found]
+
+
+def run_command(folder):
+    """Runs the command of a folder, in a process that is a copy of this one."""
+    with open(f"{folder}/words", encoding="utf-8") as it:
+        name, *words = it.read().splitlines()
+    process = os.fork()
+    if process:
+        with open(f"{folder}/status", "w", encoding="utf-8") as it:
+            print(os.waitstatus_to_exitcode(os.waitpid(process, 0)[1]), file=it)
+        return
+    os.dup2(os.open(f"{folder}/input", os.O_RDONLY), 0)
+    for number, file in (1, "output"), (2, "errors"):
+        os.dup2(os.open(f"{folder}/{file}", os.O_CREAT | os.O_WRONLY), number)
+    sys.argv = [os.path.join(IMPORT, name), *words]
+    runpy.run_path(sys.argv[0], run_name="__main__")
+    sys.exit(0)
 
 
 def main(program, histories):
@@ -131,13 +170,16 @@ def main(program, histories):
         if not is_refused_when_spoilt(rng, text):
             print(f"{text}\nis not refused, or for another reason")
             return 1
-        for converter, read in ("intervals.py", ts), ("jepsen.py", jepsen.read_transactions(text.split("\n"))):
-            if (verdict := judge(program, read)) != wanted:
-                print(f"{text}\n{converter}: {verdict}, and by all orders {wanted}")
+        for name, read in ("intervals.py", intervals.read("\n".join(map(json.dumps, ts)))), ("jepsen.py", jepsen.read(text)):
+            if (found := verdicts(program, read)) != [wanted, wanted, True]:
+                print(f"{text}\n{name}: by judge, whole.py, and with one place: {found}, and by all orders {wanted}")
                 return 1
     print(f"{histories} histories, {violated} violated")
     return 0
 
 
 if __name__ == "__main__":
-    sys.exit(main(sys.argv[1], int(sys.argv[2])))
+    if len(sys.argv) == 3:
+        sys.exit(main(sys.argv[1], int(sys.argv[2])))
+    for row in os.listdir(sys.argv[1]):
+        run_command(os.path.join(sys.argv[1], row))

@@ -317,6 +317,13 @@ has_told 'a weak order, without addr2line: the address' -E '^  stale load: threa
 ends 'a replay compiles' 0 "${strict[@]}" -o "$folder/replay" "$top/tests/c/bench_replay.c" "${link[@]}"
 ends 'what is made of a delayed load compiles' 0 "${strict[@]}" -o "$folder/moved" "$top/tests/orders/moved.c" "${link[@]}"
 ends 'what is made of a delayed load' 0 "$folder/moved"
+# (the wrong event is the load's answer, and what its thread has recorded since comes last)
+has_moved() {
+    local at
+    at=$("$folder/replay" <"$folder/one.delayed" 2>/dev/null | sed -n '1s/^{"at":\([0-9]*\),.*/\1/p')
+    awk -v thread="$(sed -n 's/^{"delayed":"thread \([0-3]\) .*/\1/p' "$folder/told")" -v at="$at" '
+        NR - 1 == at { is_answer = $2 == "V" } NR - 1 >= at && $1 != thread { exit is_answer = 0 } END { exit !is_answer }' "$folder/one.delayed"
+}
 place_of() {
     echo "$memory\\.c:$(line_of "${1%@*}" "$memory") \\(${1#*@}\\)"
 }
@@ -330,6 +337,7 @@ $(place_of "$store"), though it has read, at $(place_of "$met_load"), what that 
             "$folder/told"
     fi
     ends "$memory $wrong: its trace is violated" 1 "$folder/replay" <"$folder/one.delayed"
+    ends "$memory $wrong: the answer comes late" 0 has_moved
 done <<'END'
 readers 4 LOAD(words.reg..value@read STORE(words.reg..value,.value@write flags.i.,@has_readers LOWERED(it@commit
 readers 6 LOAD(words.reg..value@read STORE(words.reg..value,.value@write flags.i.,@has_readers LOWERED(it@commit
@@ -338,10 +346,33 @@ hazards 6 LOAD(it->root->words.reg@read STORE(mine->spare@commit LOAD(threads.i.
 sides 7 LOAD(words.it->side@read STORE(words.to@change LOAD(is_read.of@wait_for_readers false,.ORDER(7@cancel
 sides 8 LOAD(words.it->side@read STORE(words.to@change LOAD(is_read.of@wait_for_readers false,.ORDER(7@cancel
 END
+# One of a late round begins at a look.
+marked delayed memories/readers -DWRONG=6
+ends 'a delayed load of a late round' 0 "$folder/delayed" --schedule steps --orders c++ --rounds 1000 --seed 2 --trace "$folder/one"
+cp "$folder/output" "$folder/told"
+ends 'a delayed load of a late round: its trace begins at a look' 1 grep -qx 'opacity-trace 2 3 0 0 0' "$folder/one.delayed"
+ends 'a delayed load of a late round: the answer comes late' 0 has_moved
 marked right memories/readers -DWRONG=6 -DDEPENDS
 ends 'a later store that depends on the load' 0 "$folder/right" --schedule steps --orders c++ --rounds 1000
 cp "$folder/output" "$folder/told"
 ends 'a later store that depends on the load: no delayed load' 1 grep delayed "$folder/told"
+# The other process is not heard, and it is not there by other orders, nor if the memory may crash. A race leaves loads undefined, also later.
+tells() {
+    "$folder/right" --schedule steps --rounds 1000 "${@:2}" >"$folder/printed" 2>&1
+    [ "$(grep '^begins ' "$folder/printed")" = "begins $1"$'\n'"begins $1" ]
+}
+marked right memories/readers -DWRONG=6 -DTELLS
+ends 'a run that is made again' 0 tells 'with a child' --orders c++
+ends 'a run that is not made again' 0 tells 'without a child' --orders sequential
+ends 'a run that may crash is not made again' 0 tells 'without a child' --orders c++ --crashes
+marked right memories/readers -DWRONG=6 -DTELLS=2
+ends 'a delayed load, and then a race' 0 "$folder/right" --schedule steps --orders c++ --rounds 1000
+has_told 'a delayed load, and then a race: the race' '"race":'
+ends 'a delayed load, and then a race: that alone' 1 grep delayed "$folder/told"
+marked right memories/readers -DWRONG=6 -DTELLS=3
+ends 'a memory that asks elsewhere' 0 "$folder/right" --schedule steps --orders c++ --rounds 1000
+cp "$folder/output" "$folder/told"
+ends 'a memory that asks elsewhere: no delayed load' 1 grep delayed "$folder/told"
 
 # Plain data races where the lock that guards it is too weak; a right one does not.
 marked right memories/global -DLOCK=MCS -DPLAIN
@@ -387,8 +418,8 @@ has_told 'a mutex that is not wrapped: what is told' "^--orders: the program tak
 # What orders transactions, and what shows locks, is needed: without it right memories come out violated.
 planted() {
     local name=$1 file=$2 memory=$3
-    mkdir -p "$folder/planted/lib"
-    cp -r "$top/bench-c" "$folder/planted"
+    mkdir "$folder/planted"
+    cp -r "$top/bench-c" "$top/packaging" "$folder/planted"
     sed -i "$4" "$folder/planted/bench-c/$file"
     ends "$name: planted" 1 cmp -s "$top/bench-c/$file" "$folder/planted/bench-c/$file"
     top=$folder/planted folder=$folder/planted build_bench "$cc" -std=c11 -O0 -pthread "-I$top/include"

@@ -1,6 +1,8 @@
 #!/usr/bin/env bash
 # Makes the packages, installs them into folders, and uses there what was installed: the program, the library for C, the man pages and the
-# completions. Man pages and completions have the words of the program's help, and the functions and statuses of the library.
+# completions. Man pages and completions have the words of the program's help, and the functions and statuses of the library. Then
+# packaging/Dockerfile is followed in a root like that of a slim image (slim.py), of this machine's own files and without the kit: there the
+# commands of pages run as they are written (shown.py).
 #
 #   tests/package.sh
 #
@@ -74,24 +76,33 @@ if has dpkg-deb 'what dpkg-deb says'; then
     ends 'dpkg-deb reads each' 0 sh -c 'for it; do dpkg-deb -I "$it" && dpkg-deb -c "$it" || exit; done' sh "$folder"/once/*.deb
     tells 'the library that headers need' "libtmwatch0 (= $version)" 0 dpkg-deb -f "$folder/once/libtmwatch-dev_${version}_amd64.deb" Depends
 fi
-library=$root/usr/lib/x86_64-linux-gnu pages=$root/usr/share/doc/tmwatch
-# What a package has, but for pages.
+library=$root/usr/lib/x86_64-linux-gnu pages=$root/usr/share/tmwatch
+# What a package has, but for copyrights and the like.
 held() {
     data_of "$1" | tar -tzf - | grep -v '/$\|/share/doc/' | sed 's|^\./||' | LC_ALL=C sort
 }
 tells 'the shared library alone' "usr/lib/x86_64-linux-gnu/libtmwatch.so.0
 usr/lib/x86_64-linux-gnu/libtmwatch.so.$version
 usr/share/lintian/overrides/libtmwatch0" 0 held libtmwatch0
-tells 'what programs in C are built from' "$(printf 'usr/include/%s\n' tmwatch.h tmwatch_bench.h tmwatch_bench.hpp tmwatch_permits.h)
-$(printf 'usr/lib/x86_64-linux-gnu/%s\n' libtmwatch.a libtmwatch.so libtmwatch_bench.a libtmwatch_steps.a)
+tells 'what programs in C are built from' "$(printf 'usr/include/%s\n' tmwatch.h tmwatch/{kept,memory,recorder,rounds,store,watched}.h \
+    tmwatch_bench.h tmwatch_bench.hpp tmwatch_permits.h)
+$(printf 'usr/lib/x86_64-linux-gnu/%s\n' cmake/tmwatch/tmwatch-config{-version,}.cmake libtmwatch.a libtmwatch.so libtmwatch_{bench,steps}.a)
 $(printf 'usr/lib/x86_64-linux-gnu/pkgconfig/%s.pc\n' tmwatch tmwatch_bench tmwatch_steps)
 usr/share/man/man3/libtmwatch.3.gz" 0 held libtmwatch-dev
+tells 'what the program has among libraries' usr/lib/python3/dist-packages/tmwatch_store.py 0 sh -c 'grep ^usr/lib/ <<END
+$1
+END' sh "$(held tmwatch)"
 # The archive has the same files, in Debian's folders for one processor or in lib.
-for part in bin include share/man share/bash-completion share/zsh share/fish share/doc/tmwatch/{docs,examples,bindings,README.md}; do
+for part in bin include lib/python3 share/{man,bash-completion,zsh,fish,tmwatch}; do
     ends "tar and dpkg install the same $part" 0 diff -r --no-dereference "$root/usr/$part" "$prefix/$part"
 done
-ends 'tar and dpkg install the same libraries' 0 diff -r --no-dereference -x pkgconfig "$library" "$prefix/lib"
+ends 'tar and dpkg install the same libraries' 0 diff -r --no-dereference -x pkgconfig -x cmake -x python3 "$library" "$prefix/lib"
 tells 'nobody else may write there' '' 0 find "$root/usr" ! -type l -perm /022
+# What may be run in the tree may be where it is installed.
+ends 'scripts may be run' 0 diff <(cd "$top" && find examples -type f -perm -u+x | sort) <(cd "$pages" && find examples -type f -perm -u+x | sort)
+ends 'a script runs' 4 "$pages/examples/ci/bench.sh"
+has_told 'a script runs: what is told' '^usage: bench.sh OUT PROGRAM'
+tells 'links from /usr/share/doc' '' 0 find "$root/usr/share/doc" -xtype l
 ends 'links of the pages' 0 python3 "$top/tests/links.py" "$pages"
 ends 'links of the README' 0 grep -q '](docs/C-BENCH.md)' "$pages/README.md"
 installed=$root/usr/bin/tmwatch examples=$pages/examples
@@ -135,7 +146,11 @@ compile() {
     tells "$name loads the library: $loads" "$loads" $((1 - loads)) grep -c "(NEEDED).*\[$soname\]" "$folder/dynamic"
 }
 
-# What pkg-config says of a package in the root, or in the prefix.
+# The names that the linker wraps are those that the archives have.
+wrapped=$(sed '/^#/d; s/^[a-z]* //' "$top/packaging/wrapped.txt" | tr ' ' '\n' | LC_ALL=C sort)
+tells 'what is wrapped' "$wrapped" 0 sh -c 'nm "$@" | sed -n "s/.* [TW] __wrap_//p" | LC_ALL=C sort' sh "$library"/libtmwatch_{bench,steps}.a
+
+# What pkg-config says of a package in the root, in the prefix, or in the folder that was built.
 in_root() {
     PKG_CONFIG_SYSROOT_DIR=$root PKG_CONFIG_ALLOW_SYSTEM_CFLAGS=1 PKG_CONFIG_ALLOW_SYSTEM_LIBS=1 PKG_CONFIG_LIBDIR=$library/pkgconfig \
         pkg-config "$@"
@@ -143,31 +158,68 @@ in_root() {
 in_prefix() {
     PKG_CONFIG_LIBDIR=$prefix/lib/pkgconfig pkg-config "$@"
 }
+in_built() {
+    PKG_CONFIG_LIBDIR=$built/lib/pkgconfig pkg-config "$@"
+}
 rounds=${ROUNDS:-500}
 tells 'no package for pkg-config leads out of its folder' '' 1 grep -F .. "$library/pkgconfig" -r
 if has pkg-config 'programs in C'; then
     tells 'what a program in C needs, installed' '-ltmwatch_bench -pthread -ltmwatch' 0 env "PKG_CONFIG_LIBDIR=$library/pkgconfig" \
         sh -c 'echo $(pkg-config --cflags --libs tmwatch_bench | sed "s/ -Wl,--wrap=pthread_mutex_lock,[^ ]*//")'
-    for at in in_root in_prefix; do
+    for at in in_root in_prefix in_built; do
         tells "pkg-config, $at" "$version"$'\n'"$version"$'\n'"$version" 0 "$at" --modversion tmwatch tmwatch_bench tmwatch_steps
         read -r -a cflags < <("$at" --cflags tmwatch)
         read -r -a libs < <("$at" --libs tmwatch)
         read -r -a bench < <("$at" --libs tmwatch_bench)
         folder_of=$library
         [ "$at" = in_root ] || folder_of=$("$at" --variable=libdir tmwatch)
-        # (the system's loader knows no folder but its own: in a prefix pkg-config names the archive)
-        shared=$([ "$at" = in_root ] && echo 1 || echo 0)
+        # (the system's loader knows no folder but its own: elsewhere pkg-config names the archive)
+        shared=0 loader=()
+        [ "$at" != in_root ] || shared=1 loader=(env "LD_LIBRARY_PATH=$folder_of")
         compile "an audited bank, $at, by pkg-config" audit.c "$shared" "${cflags[@]}" "${libs[@]}"
-        ends "an audited bank, $at, by pkg-config" 0 env LD_LIBRARY_PATH="$folder_of" "$folder/program" "$rounds"
-        ends "a broken audited bank, $at, by pkg-config" 1 env LD_LIBRARY_PATH="$folder_of" "$folder/program" "$rounds" broken
+        ends "an audited bank, $at, by pkg-config" 0 "${loader[@]}" "$folder/program" "$rounds"
+        ends "a broken audited bank, $at, by pkg-config" 1 "${loader[@]}" "$folder/program" "$rounds" broken
         compile "an audited bank, $at, static" audit.c 0 "${cflags[@]}" "$folder_of/libtmwatch.a"
         ends "an audited bank, $at, static" 0 "$folder/program" "$rounds"
         ends "a broken audited bank, $at, static" 1 "$folder/program" "$rounds" broken
         compile "a memory on the bench, $at, by pkg-config" norec.c "$shared" "${cflags[@]}" "${bench[@]}"
-        ends "a memory on the bench, $at, by pkg-config" 0 env LD_LIBRARY_PATH="$folder_of" "$folder/program" --rounds "$rounds"
+        ends "a memory on the bench, $at, by pkg-config" 0 "${loader[@]}" "$folder/program" --rounds "$rounds"
         compile "a memory on the bench, $at, static" norec.c 0 "${cflags[@]}" "$folder_of/libtmwatch_bench.a" "$folder_of/libtmwatch.a"
         ends "a memory on the bench, $at, static" 0 "$folder/program" --rounds "$rounds"
     done
+fi
+
+# A project of CMake finds the libraries in the root and in the prefix, and its programs start.
+cmake_project() {
+    mkdir -p "$folder/project"
+    cat >"$folder/project/CMakeLists.txt" <<END
+cmake_minimum_required(VERSION 3.13)
+project(try C)
+find_package(tmwatch ${2:-$version} CONFIG REQUIRED)
+set(CMAKE_C_FLAGS "-O2 -Wall -Werror")
+add_executable(audit "$examples/c/audit.c")
+target_link_libraries(audit tmwatch::tmwatch)
+add_executable(norec "$examples/c/norec.c")
+target_link_libraries(norec tmwatch::tmwatch_bench)
+target_compile_definitions(norec PRIVATE TMWATCH_PAUSES)
+add_executable(marked "$examples/c/norec.c")
+target_link_libraries(marked tmwatch::tmwatch_steps)
+target_compile_options(marked PRIVATE -fsanitize=thread)
+END
+    rm -rf "$folder/cmake"
+    cmake -DCMAKE_C_COMPILER="$cc" -DCMAKE_PREFIX_PATH="$1" -S "$folder/project" -B "$folder/cmake" && cmake --build "$folder/cmake"
+}
+if has cmake 'projects of CMake'; then
+    for at in "$root/usr" "$prefix" "$built"; do
+        ends "CMake, ${at##*/}" 0 cmake_project "$at"
+        ends "CMake, ${at##*/}: a watch" 0 "$folder/cmake/audit" "$rounds"
+        ends "CMake, ${at##*/}: a bench" 0 "$folder/cmake/norec" --rounds "$rounds"
+        ends "CMake, ${at##*/}: steps" 0 "$folder/cmake/marked" --schedule steps --rounds "$rounds"
+        has_told "CMake, ${at##*/}: steps are seen" '"rescues":0,.*"switches":[1-9]'
+        tells "CMake, ${at##*/}: what is wrapped" "$wrapped" 0 sh -c 'grep -o -e "--wrap=[^, ]*" "$1" | cut -d= -f2 | LC_ALL=C sort' \
+            sh "$folder/cmake/CMakeFiles/marked.dir/link.txt"
+    done
+    ends 'CMake, a later version' 1 cmake_project "$prefix" 99
 fi
 
 # The man pages: no warning, and the words of the program and the library.
@@ -337,6 +389,56 @@ fi
 if has fish 'completion of tmwatch-bench by fish'; then
     tells 'fish: options of tmwatch-bench' "$listed" 0 env "PATH=$root/usr/bin:$PATH" sh -c 'fish --no-config -c '\''source $argv[1]
         complete -C "tmwatch-bench --"'\'' "$1" | cut -f1 | sort | xargs' sh "$root/usr/share/fish/vendor_completions.d/tmwatch-bench.fish"
+fi
+
+# What packaging/Dockerfile makes, in a root of this machine's files.
+slim=$folder/slim home=/root/tmwatch apart=(unshare --mount)
+[ "$(id -u)" -eq 0 ] || apart=(unshare --map-root-user --mount)
+in_slim() {
+    "${apart[@]}" sh -c 'mount --rbind /dev "$0/dev" && mount --rbind /proc "$0/proc" && exec chroot "$0" env -i \
+        PATH=/usr/sbin:/usr/bin:/sbin:/bin HOME=/root LC_ALL=C.UTF-8 "$@"' "$slim" "$@"
+}
+
+# Whether there is such a root, with what the image gets from Debian. If not, a line says why.
+has_slim() {
+    local packages
+    has unshare 'a slim image' && has dpkg-query 'a slim image' && has python3 'a slim image' || return
+    read -r -a packages < <(sed -n 's/.*--no-install-recommends \([^&]*\) &&.*/\1/p' "$top/packaging/Dockerfile")
+    if ! { "$top/tests/slim.py" "$slim" "${packages[@]}" && in_slim ldconfig; } >"$folder/told" 2>&1; then
+        echo "a slim image: skipped, since it can't be made here: $(tail -n 1 "$folder/told")"
+        return 1
+    fi
+}
+
+# Runs the commands of a page in a folder of the image, and compares what they print with what the page shows.
+page_holds() {
+    local page=$slim/usr/share/tmwatch/$1
+    python3 "$top/tests/shown.py" "$page" script >"$slim/tmp/script"
+    in_slim sh -c 'mkdir -p "$0" && cd "$0" && bash /tmp/script /tmp/out' "$2"
+    python3 "$top/tests/shown.py" "$page" compare "$slim/tmp/out"
+    rm -r "$slim/tmp/out"
+}
+if has_slim; then
+    cp "$folder"/once/*.deb "$slim/tmp"
+    while read -r command; do
+        ends "Dockerfile: $command" 0 in_slim sh -c "$command"
+    done < <(sed -n '/apt-get/d; s/^RUN //p' "$top/packaging/Dockerfile")
+    tells 'the image begins with the pages' "WORKDIR $home" 0 grep WORKDIR "$top/packaging/Dockerfile"
+    ends 'a slim image leaves out' 2 in_slim ls /usr/share/doc/tmwatch/changelog.gz /usr/share/man/man1/tmwatch.1.gz
+    ends 'a slim image has no kit' 127 in_slim sh -c 'rt version'
+    ends "a module on Python's path" 0 in_slim sh -c 'cd / && python3 -c "import tmwatch_store"'
+    # (the README says in words how its memory is compiled)
+    ends "the README's memory" 0 in_slim sh -c "cd $home && $(grep -o 'cc .*-DFAULT=READS .*' "$slim/$home/docs/C-BENCH.md")"
+    ends 'README.md, in a slim image' 0 page_holds README.md $home
+    ends 'C-BENCH.md, in a slim image' 0 page_holds docs/C-BENCH.md $home
+    ends 'C.md, in a slim image' 0 page_holds docs/C.md $home
+    # What these pages take as yours: a run, and a recorder.
+    mkdir "$slim/work"
+    cp "$pages/examples/two_writers.trace" "$slim/work/run.trace"
+    cp "$pages/examples/two_writers.trace" "$slim/$home/run.trace"
+    printf '%s\n' '#!/bin/sh' 'cat run.trace' >"$slim/work/record" && chmod +x "$slim/work/record"
+    ends 'LINES.md, in a slim image' 0 page_holds docs/LINES.md $home
+    ends 'CI.md, in a slim image' 0 page_holds docs/CI.md /work
 fi
 
 # What lintian finds, and what is left when the package goes.

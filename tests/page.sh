@@ -60,12 +60,12 @@ pictures=${PICTURES:-$folder/pictures}
 mkdir -p "$pictures"
 traces=("$top"/examples/*.trace "$folder"/*.trace)
 
-# Adds what tests/page.py counts of these words to the rows.
+# Adds what tests/page.py counts of these words to the rows. If it counts nothing, that is one that has failed.
 compare_pages() {
     python3 "$top/tests/page.py" "$program" "$browser" "$@" >"$folder/pages" || true
     sed '$d' "$folder/pages"
     read -r well _ badly _ <<<"$(tail -n 1 "$folder/pages")"
-    passed=$((passed + well)) failed=$((failed + badly))
+    passed=$((passed + well)) failed=$((failed + ${badly:-1}))
 }
 
 compare_pages "${traces[@]}" "${traces[@]/%/ --criterion strict}" "${traces[@]/%/ --why}" "${traces[@]/%/ --why #all}" \

@@ -318,11 +318,18 @@ known_row 'show, a window of 2,002 events' 1 5000 "$folder/window" show
 traced_window 1000 >"$folder/wanted"
 known_row 'show, a window of 2,002 events, as a trace' 1 5000 "$folder/window" show --trace
 
-# Behind a million bytes.
-kinds='growth growths read interrupted_read' after=1000000
-{ echo 'opacity-trace 2 2 7 0' && yes $'3 T\n3 C' | head -n 250000 && many_windows 3 | sed 1d; } >"$folder/long"
+# Behind a million bytes. Windows take no memory then: growth is refused as often without them.
+kinds=growth after=1000000
+{ echo 'opacity-trace 2 2 7 0' && yes $'3 T\n3 C' | head -n 250000; } >"$folder/quiet"
+opaque 250000 >"$folder/wanted"
+known_row 'judge, 1,000,000 bytes' 0 1000 "$folder/quiet" judge
+often=$refused
+kinds='growths read interrupted_read growth'
+{ cat "$folder/quiet" && many_windows 3 | sed 1d; } >"$folder/long"
 opaque 250042 >"$folder/wanted"
 known_row 'judge, 1,000,000 bytes and three windows' 0 1000 "$folder/long" judge
+count_run $((refused != often)) 'growth, as often as without windows'
+kinds='growth growths read interrupted_read'
 least=1000000
 long_window 66000 >"$folder/long"
 drawn_window 66000 >"$folder/wanted"

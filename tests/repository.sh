@@ -10,6 +10,7 @@
 # - The version of the program's specification, which builds and tests read, is that of the program's source, of the package in Rust and
 #   of the newest heading in CHANGELOG.md. No other file has it.
 # - What a wrong body of edits/ or must-fail/ replaces is there.
+# - Sources in C and C++ are laid out as .clang-format says. (Only version 14 of clang-format is asked: others lay some lines out otherwise.)
 # FILE is another crates.txt, which alone is checked.
 #
 # A row prints what is wrong. The last line is 'N passed, M failed', and the exit status is 1 if a row has failed.
@@ -64,6 +65,11 @@ unfit_edits() {
     done
 }
 
+# Prints the sources in C and C++, but for tests.
+sources_in_c() {
+    find "$top"/{bench-c,bench-lines,examples,include} -name '*.[ch]' -o -name '*.cc' -o -name '*.hpp'
+}
+
 # Fails if what sed finds in these files, by this expression, is not the version alone.
 is_of_version() {
     diff <(echo "$version") <(sed -n "s/$1/\1/p" "${@:2}" | sort -u)
@@ -80,6 +86,12 @@ if [ $# -eq 0 ]; then
     ends 'links of pages' 0 python3 "$top/tests/links.py"
     ends 'entries of the top folder' 0 diff - <(unexplained) </dev/null
     ends 'what wrong bodies replace' 0 diff - <(unfit_edits) </dev/null
+    if has clang-format 'the style of C'; then
+        case $(clang-format --version) in
+        *' version 14.'*) ends 'the style of C' 0 xargs clang-format --dry-run --Werror < <(sources_in_c) ;;
+        *) echo "the style of C: skipped, since this is $(clang-format --version)" ;;
+        esac
+    fi
     mapfile -t source < <(find "$top"/crates/*/src -name '*.rt')
     ends "version $version, in the program" 0 is_of_version '.*"tmwatch \([0-9][0-9.]*\), by .*' "${source[@]}"
     ends 'version, in the command line' 0 is_of_version '.*\.version("\(.*\)").*' "${source[@]}"

@@ -30,6 +30,7 @@ DEFAULTS = {
     "attempts": 0, "orders": UNDRAWN, "plain": 0, "races": "tell", "small": 0, "go-on": 0,
     "crashes": 0, "patience": 5,
 }  # fmt: skip
+FLAGS = ("plain", "small", "go-on", "crashes")
 USUAL = dict(zip(legs.NAMES, legs.USUAL)) | {"orders": "sequential"}
 LACKS = {
     "threads": "one thread ran: no two transactions can overlap",
@@ -43,8 +44,9 @@ MEETS, NOBODYS = object(), 12345
 
 
 def read_options(words):
-    plan = dict(DEFAULTS)
-    for name, value in zip(words[::2], words[1::2]):
+    plan, left = dict(DEFAULTS), iter(words)
+    for name in left:
+        value = "1" if name[2:] in FLAGS else next(left)
         plan[name[2:]] = int(value) if value.isdigit() else value
     if plan["seconds"] and "--rounds" not in words:
         plan["rounds"] = UNDRAWN
@@ -57,7 +59,7 @@ def words_of(plan):
     left = {"patience"}
     left |= {"rounds"} if plan["round"] or plan["rounds"] == UNDRAWN else set()
     left |= {"orders"} if plan["schedule"] != "all" and plan["orders"] == "sequential" else set()
-    return " ".join(f"--{name} {plan[name]}" for name in DEFAULTS
+    return " ".join(f"--{name}" if name in FLAGS else f"--{name} {plan[name]}" for name in DEFAULTS
                     if name not in left and (plan[name] != DEFAULTS[name] or name == "seed"))
 
 
@@ -153,7 +155,7 @@ class Thread(draws.Thread):
         # (a memory without `add` is asked for none)
         given = plan | ({"adds": 0} if os.environ.get("LACKS") == "add" else {})
         super().__init__(number, [given[name] for name in names], start)
-        self.written, self.tx, self.has_permits = written, {}, plan["schedule"] == "permits"
+        self.written, self.tx, self.has_permits, self.is_small = written, {}, plan["schedule"] == "permits", plan["small"] == 1
 
     def draw_share(self):
         if not self.has_permits:
@@ -384,7 +386,7 @@ class Session:
 
     def look_value(self):
         self.looked += 1
-        return (2**63 + self.looked) * draws.VALUES % WORD
+        return self.looked * draws.SMALL_APART + THREADS if self.plan["small"] else (2**63 + self.looked) * draws.VALUES % WORD
 
     def plans(self):
         """Yields the plan of each leg."""

@@ -26,7 +26,7 @@ ends 'the memory compiles' 0 "${marks[@]}" -o "$folder/marks" "${bench[@]}"
 # A run by these options is as it has to be: the fault, the options, and the program, if it has another name.
 made() {
     local options
-    read -r -a options <<<"$2"
+    read -r -a options <<<"${2//$'\n'/ }"
     ends "$1 $2" 0 timeout 600 "$top/tests/runs.py" "${3:-$folder/marks}" "$folder/replay" "$1" "${options[@]}"
 }
 made READS ''
@@ -60,6 +60,8 @@ for fault in BEGIN COMMIT CANCEL RUN-RUNS CANCEL-RUNS COMMIT-RUNS; do
     made $fault '--patience 1 --schedule steps'
 done
 LACKS=add made NONE '--schedule steps --rounds 50 --seed 7'
+made NONE '--schedule steps --rounds 50 --adds 60 --small --seed 8'
+made REFUSED '--schedule rounds --threads 1 --rounds 200 --attempts 2 --registers 8 --writes 100 --small'
 # Runs that show little.
 made NONE '--schedule steps --rounds 20 --writes 0 --adds 0 --blinds 0'
 made NONE '--schedule steps --rounds 20 --threads 2 --registers 8 --calls 1 --aborts 100 --mixes 0'
@@ -67,11 +69,13 @@ made LEFT '--schedule steps --rounds 20 --threads 2 --mixes 0'
 # Several legs, by each schedule; and a run of which not all events are kept.
 made NONE '--rounds 1100 --legs --seed 20'
 made REFUSED '--rounds 1200 --threads 2 --registers 8 --calls 1 --aborts 90 --writes 100'
+# (of just as many events as are kept)
+made NONE '--schedule rounds --rounds 20968 --threads 1 --registers 7 --calls 1 --writes 100 --adds 0 --aborts 0 --mixes 0 --blinds 0'
 # (of this copy of the bench a leg in rounds or by permits has any time, as else on a quiet machine)
 cp -r "$top/bench-c" "$folder"
 sed -i 's/LEG_MICROSECONDS = SECOND \/ 10/LEG_MICROSECONDS = 1000 * SECOND/' "$folder/bench-c/legs.c"
 ends 'legs of any time: planted' 1 cmp -s "$top/bench-c/legs.c" "$folder/bench-c/legs.c"
-ends 'legs of any time compile' 0 "${marks[@]}" -o "$folder/timeless" "$folder/bench-c/tmwatch_bench.c" "$folder/waits.o" "$built/lib/libtmwatch.a"
+ends 'legs of any time compile' 0 "${marks[@]}" -o "$folder/timeless" "$folder/bench-c/tmwatch_bench.c" "$folder/lib/libtmwatch_bench.a" "$built/lib/libtmwatch.a"
 made NONE '--rounds 30050 --threads 1 --calls 1 --registers 1 --legs' "$folder/timeless"
 made NONE '--schedule rounds --threads 1 --calls 16 --mixes 0 --rounds 3000'
 # Threads that run as they may keep to their rounds, and to their permits.

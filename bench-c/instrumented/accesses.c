@@ -116,7 +116,7 @@ void __tsan_func_entry(void *caller UNUSED) {}
 void __tsan_func_exit(void) {}
 void __tsan_vptr_update(void **at UNUSED, void *to UNUSED) {}
 void __tsan_vptr_read(void **at UNUSED) {}
-void __tsan_atomic_signal_fence(int order UNUSED) {}
+void __tsan_atomic_signal_fence(int order UNUSED) {} /* clang-format off */
 
 #define PLAIN(infix, bytes, is_volatile)                                                              \
     void __tsan_##infix##read##bytes(const void *at) { before_plain(at, bytes, is_volatile, false); } \
@@ -127,13 +127,9 @@ void __tsan_atomic_signal_fence(int order UNUSED) {}
     PLAIN(unaligned_, bytes, false) \
     PLAIN(volatile_, bytes, true)   \
     PLAIN(unaligned_volatile_, bytes, true)
-PLAINS(1)
-PLAINS(2)
-PLAINS(4)
-PLAINS(8)
-PLAINS(16)
+PLAINS(1) PLAINS(2) PLAINS(4) PLAINS(8) PLAINS(16)
 void __tsan_read_range(const void *at, unsigned long bytes) { before_plain(at, bytes, false, false); }
-void __tsan_write_range(const void *at, unsigned long bytes) { before_plain(at, bytes, false, true); }
+void __tsan_write_range(const void *at, unsigned long bytes) { before_plain(at, bytes, false, true); } /* clang-format on */
 
 #define COPY(name)                                                \
     void *__tsan_##name(void *to, const void *from, size_t bytes) \

@@ -41,10 +41,10 @@ WIDE(wide, compare_exchange_val, volatile wide *at, wide held, wide value, int o
 WIDE_CHANGE(exchange, value)
 WIDE_CHANGE(fetch_add, seen + value)
 WIDE_CHANGE(fetch_sub, seen - value)
-WIDE_CHANGE(fetch_and, seen & value)
+WIDE_CHANGE(fetch_and, seen &value)
 WIDE_CHANGE(fetch_or, seen | value)
 WIDE_CHANGE(fetch_xor, seen ^ value)
-WIDE_CHANGE(fetch_nand, ~(seen & value))
+WIDE_CHANGE(fetch_nand, ~(seen &value))
 
 WIDE(void, store, volatile wide *at, wide value, int order)
 {

@@ -19,7 +19,7 @@ extern char __executable_start, _end;
 /* The size of a block of operator new: not known if the program has operators of its own. */
 static size_t size_of(void *block, void (*delete)(void *))
 {
-    uintptr_t it = (uintptr_t)delete;
+    uintptr_t it = (uintptr_t) delete;
     bool is_own = it >= (uintptr_t)&__executable_start && it < (uintptr_t)&_end;
     return is_own ? 0 : malloc_usable_size(block);
 }

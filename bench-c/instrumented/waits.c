@@ -82,12 +82,12 @@ void tmwatch_lock_returning(const volatile void *lock)
             status = over ? (errno = ETIMEDOUT, over) : __real_##name(lock);                          \
         return has_locked(status, lock, is_shared);                                                   \
     }                                                                                                 \
-    STEPPED(int, return, name, (lock), name##_by_steps(lock, 0), lock_type *lock)
+    STEPPED(int, return, name, (lock), name##_by_steps(lock, 0), lock_type * lock)
 #define UNTIL const struct timespec *until
 #define TIMED(name, lock_name, lock_type, over) \
-    STEPPED(int, return, name, (lock, until), lock_name##_by_steps(lock, over), lock_type *lock, UNTIL)
+    STEPPED(int, return, name, (lock, until), lock_name##_by_steps(lock, over), lock_type * lock, UNTIL)
 #define CLOCKED(name, lock_name, lock_type, over) \
-    STEPPED(int, return, name, (lock, clock, until), lock_name##_by_steps(lock, over), lock_type *lock, clockid_t clock, UNTIL)
+    STEPPED(int, return, name, (lock, clock, until), lock_name##_by_steps(lock, over), lock_type * lock, clockid_t clock, UNTIL)
 /* It is given back: those that wait for it are able to run then. */
 #define UNLOCK(name, lock_type)                           \
     WRAPPED(int, name, lock_type *lock)                   \
@@ -185,7 +185,7 @@ SIGNAL(void, , _ZNSt18condition_variable10notify_oneEv, pthread_cond_t, true)
 SIGNAL(void, , _ZNSt18condition_variable10notify_allEv, pthread_cond_t, false)
 
 /* What is being made once: others wait meanwhile, and acquire what was made. One thread runs at a time, so that nothing guards the table. What
-   finds no room there shares the last place, and may be waited for unseen. */
+   finds no room there shares the last place, and may be waited for unseen. What has thrown leaves its place, and its control at 0. */
 enum { MOST_MADE = 16 };
 static const void *made_now[MOST_MADE + 1];
 
@@ -199,9 +199,9 @@ static const void **find_made(const void *it)
 
 static void begin_making(const void *it)
 {
-    while (*find_made(it) == it && tmwatch_step_wait(it, false))
+    while (*find_made(it) == it && *(const volatile int *)it != 0 && tmwatch_step_wait(it, false))
         ;
-    *find_made(NULL) = it;
+    *find_made(*find_made(it) == it ? it : NULL) = it;
 }
 
 /* It is made: by this thread, or before. */

@@ -7,7 +7,7 @@ The little memory of examples/recorders (after NOrec) on the bench: all that you
 -DFAULT=READS leaves the validation of reads out of the memory; COMMIT and PLACE are other faults (memory.h).
 */
 #include "tmwatch_bench.h"
-#include "../recorders/memory.h"
+#include "tmwatch/memory.h"
 
 #ifndef FAULT
 #define FAULT NONE
@@ -60,7 +60,7 @@ static void norec_abort(void *memory, void *tx)
     memory_undo(tx);
 }
 
-static const tmwatch_memory memory = {NULL,       sizeof(struct tx), norec_begin, norec_read, norec_write, norec_add,
-                                      norec_commit, norec_abort,      NULL};
+static const tmwatch_memory memory = {NULL,      sizeof(struct tx), norec_begin, norec_read, norec_write,
+                                      norec_add, norec_commit,      norec_abort, NULL};
 
 TMWATCH_BENCH_MAIN(memory)

@@ -20,6 +20,7 @@ fi
 out=$1 each=${EACH:-60} seed=${SEED:-$(date -u +%Y%m%d)} tmwatch=${TMWATCH:-tmwatch}
 shift
 mkdir -p "$out"
+: >"$out/junit.new"
 tests=()
 if [ -n "${AGAIN:-}" ]; then
     mapfile -t tests < <(sed 's/ *\(#.*\)\?$//; /^$/d' "$AGAIN")

@@ -37,7 +37,7 @@ needs() {
 # Compiles a program of C as $program: its name, and how it is linked.
 compile() {
     program=$folder/$1
-    "${CC:-cc}" -std=gnu11 -O2 -Wall -Wextra -pthread "-I$top/examples/field" -o "$program" "$here/$1.c" "${@:2}"
+    "${CC:-cc}" -std=gnu11 -O2 -Wall -Wextra -pthread "-I$top/include" -o "$program" "$here/$1.c" "${@:2}"
 }
 
 # Runs the bench by these words. What stands in registers.sql makes the table, by any database's own program.

@@ -2,7 +2,7 @@
 The little memory under GCC's interface of transactional memory, to be linked in the place of libitm, on x86-64. FAULT is the part that is
 left out of it: NONE, READS, COMMIT or PLACE. It has the six functions of the interface that transaction.c calls for.
 */
-#include "../recorders/memory.h"
+#include "tmwatch/memory.h"
 #include <setjmp.h>
 
 /* What a begun transaction's return tells its block: run once more, or go on behind it. */

@@ -5,7 +5,7 @@ Runs rounds of transactions on a memory under GCC's interface of transactional m
 
 PLACING is where events are recorded: right, or in one of three wrong places.
 */
-#include "../recorders/rounds.h"
+#include "tmwatch/rounds.h"
 #include "attempts.h"
 #include <string.h>
 

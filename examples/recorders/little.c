@@ -6,8 +6,8 @@ Runs rounds of transactions on the little memory, and writes the trace of the ru
 FAULT is the part that is left out of the memory: none, reads, commit or place. PLACING is where events are recorded: right, or in one of
 six wrong places.
 */
-#include "memory.h"
-#include "rounds.h"
+#include "tmwatch/memory.h"
+#include "tmwatch/rounds.h"
 #include <string.h>
 
 enum placing { RIGHT, LATE_CALL, LATE_REQUEST, EARLY_COMMIT, AT_END, LATE_ABORT, NO_ABORT };

@@ -4,7 +4,7 @@ Bench: `run`. By -DFAULT=READS the validation of reads is left out. By -DWRONG=1
 it makes the calls twice.
 */
 #include "tmwatch_bench.h"
-#include "../../examples/recorders/memory.h"
+#include "tmwatch/memory.h"
 #include <setjmp.h>
 
 #ifndef FAULT

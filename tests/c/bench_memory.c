@@ -1,6 +1,6 @@
 /* The bench while each call for memory, or for a thread, is refused in turn, or the watch has no place left, and whether any memory stays. */
 #include "tmwatch_bench.h"
-#include "../../examples/recorders/memory.h"
+#include "tmwatch/memory.h"
 #include "check.h"
 #include "heap.h"
 #include <pthread.h>
@@ -60,6 +60,8 @@ static void cancel(void *memory, void *tx)
 
 static const tmwatch_memory memory = {NULL, sizeof(struct tx), begin, read, write, NULL, commit, cancel, NULL};
 
+static uint64_t schedule = TMWATCH_ALL;
+
 /* Runs some rounds, of which nothing may stay behind. */
 static uint32_t run(void)
 {
@@ -67,6 +69,7 @@ static uint32_t run(void)
     tmwatch_benched benched, before;
     memset(&benched, 7, sizeof benched);
     memcpy(&before, &benched, sizeof before);
+    plan.schedule = schedule;
     plan.rounds = 20;
     plan.threads = THREADS;
     for (unsigned reg = 0; reg < REGISTERS; reg++)
@@ -91,8 +94,10 @@ int main(void)
     for (refused_thread = 1; refused_thread <= THREADS; refused_thread++)
         CHECK(run() == TMWATCH_MEMORY);
     CHECK(run() == TMWATCH_DONE && peak < 4 << 20);
-    spent = asked + 10;
-    CHECK(run() == TMWATCH_DONE);
+    for (schedule = TMWATCH_ROUNDS; schedule <= TMWATCH_ALL; schedule++) {
+        spent = asked + 10;
+        CHECK(run() == TMWATCH_DONE);
+    }
     printf("%lu refusals\n", refusals);
     return 0;
 }

@@ -342,6 +342,17 @@ static void run_for_a_second(void)
     tmwatch_pause();
 }
 
+/* A look that is not over when the time is up says nothing of the memory. */
+static void end_a_look(void)
+{
+    tmwatch_memory it = memory;
+    tmwatch_plan plan = one_thread();
+    it.begin = never;
+    plan.seconds = 1;
+    plan.patience = 30;
+    CHECK(run(&it, plan).rejected == 0);
+}
+
 /* Results of each verdict, of a run that shows nothing, of one in which none has committed, and of steps. */
 static const tmwatch_benched results[] = {
     {.told = {12, 0, TMWATCH_OPAQUE_SO_FAR, 0}, .counts = {1, 2, 3, 4, 5, 6, 7, 8, 0}, .rounds = 9, .stores = 1},
@@ -394,5 +405,6 @@ int main(int count, char **given)
     refuse_writes();
     begin_rarely();
     run_for_a_second();
+    end_a_look();
     return 0;
 }

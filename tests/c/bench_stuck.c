@@ -3,7 +3,7 @@ A memory of one lock on the bench, in which thread 1 forgets to unlock: by -DFAU
 it waits for a mutex; by READ thread 1 never returns from a read of register 2, and by ADD from an add to it. By UNLOCKED thread 2 takes no
 lock, so that the memory isn't opaque. By BOTH thread 1 reads a wrong value and then never returns. By SLOW a read takes three tenths of a second, by LONG
 one. By TIRED a thread that waits for the lock sleeps for ten milliseconds before it tries again. By MEETS there is no lock, and two reads at
-once return a wrong value. By these, and by NONE, nothing is forgotten.
+once return a wrong value. By these, and by NONE, nothing is forgotten. By NAPS it is, and waited for as by TIRED.
 */
 #define _GNU_SOURCE
 #include "tmwatch_bench.h"
@@ -16,13 +16,14 @@ once return a wrong value. By these, and by NONE, nothing is forgotten.
 #endif
 
 enum { REGISTERS = 8 };
-enum fault { NONE, SPIN, MUTEX, READ, ADD, UNLOCKED, BOTH, SLOW, LONG, TIRED, MEETS };
+enum fault { NONE, SPIN, MUTEX, READ, ADD, UNLOCKED, BOTH, SLOW, LONG, TIRED, NAPS, MEETS };
 
 struct tx {
     uint64_t before[REGISTERS];
 };
 
 static const enum fault fault = FAULT;
+static const bool spins = FAULT == SPIN || FAULT == TIRED || FAULT == NAPS;
 static atomic_uint_least64_t words[REGISTERS]; /* where threads take no lock, they race on none */
 static pthread_mutex_t mutex = PTHREAD_MUTEX_INITIALIZER;
 static atomic_bool is_locked;
@@ -40,10 +41,10 @@ static void lock(void)
 {
     if (is_unlocked())
         return;
-    if (fault == SPIN || fault == TIRED)
+    if (spins)
         while (atomic_exchange(&is_locked, true)) {
             TMWATCH_PAUSE();
-            if (fault == TIRED)
+            if (fault != SPIN)
                 nanosleep(&moment, NULL);
         }
     else
@@ -52,12 +53,12 @@ static void lock(void)
 
 static void unlock(void)
 {
-    bool forgets = tmwatch_thread() == 1 && ++begun[1] > 20 && (fault == SPIN || fault == MUTEX);
-    if (is_unlocked())
+    bool forgets = tmwatch_thread() == 1 && ++begun[1] > 20 && (fault == SPIN || fault == MUTEX || fault == NAPS);
+    if (is_unlocked() || forgets)
         return;
-    if (fault == TIRED || (fault == SPIN && !forgets))
+    if (spins)
         is_locked = false;
-    else if (!forgets)
+    else
         pthread_mutex_unlock(&mutex);
 }
 

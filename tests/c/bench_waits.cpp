@@ -1,7 +1,7 @@
 /*
 A memory of one lock on the bench, as bench_waits.c, with the locks of C++20: one of the table below, as the environment's LOCK says; the
-word `names` alone prints those that the bench sees. By -DPLAIN its words are plain data. By CALL_ONCE and STATIC transactions also look for
-what one in four of them makes. By PROMISE the lock is one that the bench doesn't see.
+word `names` alone prints those that the bench sees. By -DPLAIN its words are plain data. By CALL_ONCE, CALL_ONCE_THROWS and STATIC
+transactions also look for what one in four of them makes. By PROMISE the lock is one that the bench doesn't see.
 */
 #include "tmwatch_bench.hpp"
 #include <array>
@@ -54,6 +54,7 @@ using Timed = std::unique_lock<std::timed_mutex>;
     KIND(FLAG_WAIT, while (flag.test_and_set(std::memory_order_acquire)) flag.wait(true, std::memory_order_relaxed),                       \
          (flag.clear(std::memory_order_release), flag.notify_one()))                                                                       \
     KIND(CALL_ONCE, take_once(), mutex.unlock())                                                                                           \
+    KIND(CALL_ONCE_THROWS, take_thrown(), mutex.unlock())                                                                                  \
     KIND(STATIC, take_static(), mutex.unlock())                                                                                            \
     KIND(PROMISE, promises[MINE].get_future().wait(), promises[NEXT].set_value())
 #define KIND(name, take, give) name,
@@ -133,6 +134,27 @@ void take_once()
 {
     unsigned now = draw_ticket(4, many);
     std::call_once(onces[now], [now] { made[now] = now + 1; });
+    if (made[now] != now + 1)
+        std::abort();
+    mutex.lock();
+}
+
+/* One try in two throws. */
+void take_thrown()
+{
+    static std::atomic<unsigned> tries;
+    unsigned now = draw_ticket(4, many);
+    auto make = [now] {
+        if (tries.fetch_add(1, std::memory_order_relaxed) % 2 == 0)
+            throw now;
+        made[now] = now + 1;
+    };
+    for (bool is_made = false; !is_made;)
+        try {
+            std::call_once(onces[now], make);
+            is_made = true;
+        } catch (unsigned) {
+        }
     if (made[now] != now + 1)
         std::abort();
     mutex.lock();

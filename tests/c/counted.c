@@ -5,7 +5,7 @@ What runs of two threads have shown, counted. The numbers were worked out by han
     counted NUMBER    writes the trace of this run, and then its counts as `judge --summary` does
 */
 #define _POSIX_C_SOURCE 200809L
-#include "../../examples/c/kept.h"
+#include "tmwatch/kept.h"
 #include "check.h"
 #include <pthread.h>
 

@@ -1,5 +1,5 @@
 /* A run of each kind of event that is kept, judged, and written as a trace up to where it is violated, and then whole. */
-#include "../../examples/c/kept.h"
+#include "tmwatch/kept.h"
 #include "check.h"
 
 static tmwatch watch;

@@ -4,7 +4,7 @@ Now and then one takes all permits. The watch is to decide the run, and the log 
 */
 #define _POSIX_C_SOURCE 200809L
 #include "tmwatch_permits.h"
-#include "../../examples/recorders/memory.h"
+#include "tmwatch/memory.h"
 #include "check.h"
 #include <pthread.h>
 

@@ -1,9 +1,9 @@
 /*
-Records each kind of event by examples/recorders/recorder.h, until that is full, and writes them; then one more event, and writes it. With a
+Records each kind of event by include/tmwatch/recorder.h, until that is full, and writes them; then one more event, and writes it. With a
 word, one more than there is room for.
 */
 #define ROOM 9
-#include "../../examples/recorders/recorder.h"
+#include "tmwatch/recorder.h"
 
 int main(int count, char **words)
 {

@@ -13,7 +13,7 @@ set -eu
 runs=${RUNS:-5} rounds=${ROUNDS:-1000}
 has_transactions "${CC:-gcc}" libitm.sh || exit 2
 . "$top/tests/long/recorded.sh"
-compile=("${CC:-gcc}" -std=gnu11 -O2 -Wall -Wextra -pthread)
+compile=("${CC:-gcc}" -std=gnu11 -O2 -Wall -Wextra -pthread "-I$top/include")
 build_libitm
 "${compile[@]}" -DATTEMPTS=1000 -c -o "$folder/unbounded.o" "$top/examples/libitm/run.c"
 "${compile[@]}" -o "$folder/unbounded" "$folder/unbounded.o" "$folder/transaction.o" -litm

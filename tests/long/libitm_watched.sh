@@ -13,7 +13,7 @@ set -eu
 runs=${RUNS:-5} rounds=${ROUNDS:-1000}
 has_transactions "${CC:-gcc}" libitm_watched.sh || exit 2
 use_library
-compile=("${CC:-gcc}" -std=gnu11 -O2 -Wall -Wextra -pthread "-I$built/include" -include "$top/examples/c/recorder.h")
+compile=("${CC:-gcc}" -std=gnu11 -O2 -Wall -Wextra -pthread "-I$built/include" -include tmwatch/watched.h)
 build_libitm "$built/lib/libtmwatch.a"
 
 declare -A statuses=(['opaque so far']=0 [violated]=1 [undecided]=2 [malformed]=3)

@@ -16,6 +16,13 @@ BUILT=$(cd "$built" && pwd)
 export BUILT TMWATCH_LIB=$BUILT/lib
 unset CARGO_TARGET_DIR
 
+# (a compiler refuses words of another type, as the tests compile)
+compile='cc -std=c11 -O2 -Werror=incompatible-pointer-types -Werror=int-conversion -Iinclude'
+# What c.sh runs of a bench that gets no memory, thread or place.
+# shellcheck disable=SC2016
+refused='linked="bench-c/tmwatch_bench.c bench-c/instrumented/waits.c $BUILT/lib/libtmwatch.a" &&
+    cc -std=c11 -pthread -Iinclude -o refused tests/c/bench_memory.c $linked \
+        -Wl,--wrap=malloc,--wrap=calloc,--wrap=realloc,--wrap=free,--wrap=pthread_create,--wrap=tmwatch_room && ./refused'
 # The tests of a group notice its mistakes: its name, further words of plant.py and the files, `--` and the command.
 planted() {
     local status=0
@@ -27,10 +34,10 @@ plant_bench() {
     local files=(attempts draws legs main options plan quiet_look report run_leg schedule_permits schedule_rounds schedule_steps trace)
     files=("${files[@]/#/bench-c/}")
     # shellcheck disable=SC2016
-    local then='cc -std=c11 -pthread -Iinclude -o plans tests/c/bench_plans.c bench-c/tmwatch_bench.c bench-c/instrumented/waits.c \
-        "$BUILT/lib/libtmwatch.a" && ./plans && ./plans print 2>&1 | diff - tests/c/bench_plans.lines'
+    local then=$refused' && cc -std=c11 -pthread -Iinclude -o plans tests/c/bench_plans.c $linked && ./plans &&
+        ./plans print 2>&1 | diff - tests/c/bench_plans.lines'
     # shellcheck disable=SC2016
-    planted bench --build 'cc -std=c11 -O2 -Iinclude -c -o "$OBJECT" bench-c/tmwatch_bench.c' --then "$then${THEN:+ && $THEN}" \
+    planted bench --build "$compile"' -c -o "$OBJECT" bench-c/tmwatch_bench.c' --then "$then${THEN:+ && $THEN}" \
         "${files[@]/%/.c}" -- tests/runs.sh
 }
 # (one object of all, so that a mistake that changes nothing is known by it)
@@ -39,16 +46,19 @@ plant_steps() {
     files=("${files[@]/#/bench-c/}")
     # shellcheck disable=SC2016
     planted steps --build 'for it in bench-c/tmwatch_bench.c bench-c/instrumented/*.c; do
-            cc -std=c11 -O2 -Iinclude -c -o "$OBJECT.o" "$it" && cat "$OBJECT.o" || exit
-        done >"$OBJECT"' --then 'tests/c_waits.sh && tests/orders.sh' "${files[@]/%/.c}" -- tests/c_steps.sh
+            '"$compile"' -c -o "$OBJECT.o" "$it" && cat "$OBJECT.o" || exit
+        done >"$OBJECT"' --then "$refused && tests/c_waits.sh && tests/orders.sh" "${files[@]/%/.c}" -- tests/c_steps.sh
 }
 plant_model() {
     local files=(clocks delayed findings lines model races sequence simulation)
     files=("${files[@]/#/bench-c/instrumented/orders/}")
     # shellcheck disable=SC2016
-    planted model --build 'cc -std=c11 -O2 -Iinclude -c -o "$OBJECT" bench-c/instrumented/orders.c' "${files[@]/%/.c}" -- sh -c '
+    planted model --build "$compile"' -c -o "$OBJECT" bench-c/instrumented/orders.c' "${files[@]/%/.c}" -- sh -c '
         for test in told plain delayed litmus "exact 2000" "random 50000"; do
             cc -std=c11 -g -O1 -w -Iinclude -o model "tests/orders/${test%% *}.c" && ./model "${test#* }" || exit
+        done
+        for test in told plain delayed; do
+            cc -std=c11 -g -O1 -w -fsanitize=address,undefined -fno-sanitize-recover -Iinclude -o model "tests/orders/$test.c" && ./model || exit
         done'
 }
 plant_rust() {
@@ -62,12 +72,14 @@ plant_ci() {
     planted ci examples/ci/bench.sh -- sh -c 'top=$PWD && cd "$(mktemp -d)" && "$top/tests/ci.py" "$top/examples/ci/bench.sh"'
 }
 plant_import() {
-    planted import examples/import/jepsen.py examples/import/intervals.py -- sh -c "mkdir -p crates/tmwatch/out &&
+    local files=(edn history intervals jepsen whole)
+    files=("${files[@]/#/examples/import/}")
+    planted import "${files[@]/%/.py}" -- sh -c "mkdir -p crates/tmwatch/out &&
         ln -sf '$program' crates/tmwatch/out && HISTORIES=60 tests/import.sh"
 }
 plant_recorder() {
     # shellcheck disable=SC2016
-    planted recorder --build 'cc -std=gnu11 -O2 -o "$OBJECT" tests/c/recorded.c' examples/recorders/recorder.h -- sh -c '
+    planted recorder --build 'cc -std=gnu11 -O2 -Iinclude -o "$OBJECT" tests/c/recorded.c' include/tmwatch/recorder.h -- sh -c '
         "$OBJECT" | diff tests/c/recorded.lines - && ! "$OBJECT" more 2>said && grep -qx "recorder: no room for the event" said'
 }
 

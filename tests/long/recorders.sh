@@ -16,7 +16,7 @@ runs=${RUNS:-10} rounds=${ROUNDS:-5000}
 . "$top/tests/long/recorded.sh"
 source=$top/examples/recorders
 
-compile=("${CC:-gcc}" -std=gnu11 -O2 -Wall -Wextra -pthread)
+compile=("${CC:-gcc}" -std=gnu11 -O2 -Wall -Wextra -pthread "-I$top/include")
 "${compile[@]}" -o "$folder/little" "$source/little.c"
 "${compile[@]}" -DWAIT_EVERY=100 -o "$folder/seldom" "$source/little.c"
 "${compile[@]}" -o "$folder/cost" "$top/measure/recorder_cost.c"

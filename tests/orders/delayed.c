@@ -119,7 +119,7 @@ static void check_second_runs(void)
         struct made others[] = {steps[i], steps[i], steps[i], {0, BEGINS, X, 0, 0}, steps[i]};
         others[0].thread = 2;
         others[1].order = SEQUENTIAL;
-        others[2].value++;
+        others[2].value += UINT64_C(1) << 40;
         others[2].order = steps[i].kind == WRITE ? RELAXED : ACQUIRE;
         others[4].word = Z;
         for (unsigned k = 0; k < sizeof others / sizeof others[0] - (steps[i].kind == FENCE) && steps[i].kind != ANSWERS; k++) {
@@ -138,16 +138,17 @@ static void check_second_runs(void)
     CHECK(delays.stored > 0 && delays.count == 0);
 }
 
-/* Whether the plainest program, in a round of its own and in this line, is kept. */
-static bool keeps(unsigned at)
+/* Whether the plainest program, in a round of its own, is kept: it loads in this line, and all else is in that. */
+static bool keeps(unsigned load, unsigned other)
 {
     static const struct made steps[MOST_STEPS] = {PLAINEST};
     unsigned before = delays.count;
-    line = at;
     begin_run(orders);
     tmwatch_orders_still(orders);
-    for (unsigned i = 0; steps[i].kind != END; i++)
+    for (unsigned i = 0; steps[i].kind != END; i++) {
+        line = i == 0 ? load : other;
         make_step(&steps[i]);
+    }
     return delays.count == before + 1;
 }
 
@@ -156,14 +157,17 @@ static void check_bounds(void)
 {
     memset(&delays, 0, sizeof delays);
     orders = tmwatch_orders_new(1, &event, &delays);
-    for (unsigned at = 0; at < TMWATCH_MOST_DELAYS / MOST_ALIKE; at++)
-        for (unsigned i = 0; i < 2 * MOST_ALIKE; i++)
-            CHECK(keeps(at) == (i < MOST_ALIKE));
-    CHECK(!keeps(MOST_LINES - 1) && delays.count == TMWATCH_MOST_DELAYS);
+    for (unsigned other = 0; other < 2; other++) {
+        delays.count = 0;
+        for (unsigned at = 0; at < TMWATCH_MOST_DELAYS / MOST_ALIKE; at++)
+            for (unsigned i = 0; i < 2 * MOST_ALIKE; i++)
+                CHECK(keeps(at, other * at) == (i < MOST_ALIKE));
+    }
+    CHECK(!keeps(MOST_LINES - 1, 0) && delays.count == TMWATCH_MOST_DELAYS);
     delays.count = 0;
     while (orders->round + 1 < FOLLOWED_ROUNDS)
         begin_run(orders);
-    CHECK(keeps(0) && !keeps(0));
+    CHECK(keeps(0, 0) && !keeps(0, 0));
     free(orders);
 }
 

@@ -142,6 +142,8 @@ static const struct litmus all[] = {
      {{O(SHARE), W(X, 1, RLX), O(UNLOCK), W(Y, 1, RLX)}, {R(Y, RLX, 0), O(LOCK), R(X, RLX, 1)}}},
     {"MP between shared locks", ALLOWED, READS(1, 0, ANY, ANY),
      {{O(SHARE), W(X, 1, RLX), O(UNLOCK), W(Y, 1, RLX)}, {R(Y, RLX, 0), O(SHARE), R(X, RLX, 1)}}},
+    {"MP by a lock that was shared before", FORBIDDEN, READS(1, 0, ANY, ANY),
+     {{O(SHARE), O(UNLOCK), W(X, 1, RLX), O(UNLOCK), W(Y, 1, RLX)}, {R(Y, RLX, 0), O(SHARE), R(X, RLX, 1)}}},
 };
 
 static uint64_t results[RESULTS];

@@ -71,6 +71,12 @@ static void check_races(void)
     CHECK(!orders->has_race);
     stores(3, bytes + 9, 1);
     CHECK(orders->has_race);
+    begin();
+    stores(0, bytes + 8, 8);
+    makes(0, READ, X, 0, RELAXED);
+    stores(0, bytes, 8);
+    loads(1, bytes + 8, 8);
+    CHECK(orders->has_race);
 }
 
 /* What is stored plainly just before a lock is given back, a transaction ends, an untracked access or a fence is known after. */
@@ -250,6 +256,19 @@ static void check_blocks(void)
     }
 }
 
+/* Of a block that takes all cells none keeps anything. */
+static void check_cells(void)
+{
+    static uint64_t many[2 * CELLS];
+    begin();
+    for (unsigned i = 0; i < 2 * CELLS; i++)
+        stores(0, &many[i], WORD_BYTES);
+    tmwatch_orders_forget(orders, many, sizeof many);
+    for (unsigned i = 0; i < 2 * CELLS; i++)
+        loads(1, &many[i], WORD_BYTES);
+    CHECK(!orders->has_race);
+}
+
 /* Each byte of a word has its own history, and each size its own value. */
 static void check_bytes(void)
 {
@@ -299,16 +318,40 @@ static void check_past(void)
     }
 }
 
-/* Those of an object that is no more come before nothing. */
+/* Those of an object that is no more come before nothing; nor does the oldest one that is told apart. */
 static void check_no_past(void)
 {
-    unsigned stale = 0;
+    unsigned stale = 0, after = 0;
     for (unsigned i = 0; i < 1000; i++) {
         begin();
         makes(0, WRITE, X, 1, SEQUENTIAL);
         makes(0, WRITE, Z, 1, SEQUENTIAL);
         tmwatch_orders_forget(orders, &words[Z], sizeof words[Z]);
         stale += makes(1, READ, X, 0, SEQUENTIAL) == 0;
+        begin();
+        makes(0, READ, Y, 0, SEQUENTIAL);
+        makes(0, WRITE, Z, 1, SEQUENTIAL);
+        for (unsigned k = 1; k < MOST_SEQUENTIAL; k++)
+            makes(0, READ, X, 0, SEQUENTIAL);
+        after += makes(1, READ, Z, 0, SEQUENTIAL) == 0;
+    }
+    CHECK(stale > 0 && after > 0);
+}
+
+/* Nor does a thread's first operation come before a relaxed load by one who knows it, and has made a fence before: it is no fence. */
+static void check_no_fence(void)
+{
+    unsigned stale = 0;
+    for (unsigned i = 0; i < 1000; i++) {
+        begin();
+        makes(2, WRITE, Z, 1, SEQUENTIAL);
+        makes(2, READ, X, 0, SEQUENTIAL);
+        makes(0, WRITE, X, 1, SEQUENTIAL);
+        makes(0, WRITE, Y, 1, RELEASE);
+        makes(1, FENCE, X, 0, SEQUENTIAL);
+        while (makes(1, READ, Y, 0, ACQUIRE) == 0)
+            ;
+        stale += makes(1, READ, Z, 0, RELAXED) == 0;
     }
     CHECK(stale > 0);
 }
@@ -324,6 +367,32 @@ static void check_sizes(void)
         CHECK(tmwatch_orders_load(&half) == 0x44444444);
         CHECK(makes(1, READ, X, 0, RELAXED) == 0x3333333344444444);
     }
+}
+
+/* Of many stores the last ones are kept, and a load finds any of them. */
+static void check_stores(void)
+{
+    uint64_t oldest = UINT64_MAX;
+    for (unsigned i = 0; i < 1000; i++) {
+        begin();
+        for (uint64_t value = 1; value <= 2 * MOST_STORES; value++)
+            makes(0, WRITE, X, value, RELAXED);
+        uint64_t found = makes(1, READ, X, 0, SEQUENTIAL);
+        oldest = found < oldest ? found : oldest;
+    }
+    CHECK(oldest == MOST_STORES + 1);
+}
+
+/* A place that is emptied is used again, by any of its word. */
+static void check_used(void)
+{
+    const tmwatch_access whole = {orders, 0, words, words, 8, RELAXED}, half = {orders, 0, words, (const volatile uint8_t *)words + 4, 4, RELAXED};
+    begin();
+    tmwatch_orders_load(&whole);
+    tmwatch_orders_forget(orders, words, sizeof words[X]);
+    tmwatch_orders_load(&half);
+    tmwatch_orders_load(&whole);
+    CHECK(orders->used == 1);
 }
 
 /* What a store of 8 bytes releases, a load of its half acquires. */
@@ -382,7 +451,7 @@ static void check_wide(void)
         makes(1, WRITE, X, 1, RELEASE);
         wide.thread = 2;
         tmwatch_orders_wide(&wide);
-        CHECK(makes(2, READ, Z, 0, RELAXED) == 2);
+        CHECK(look_up(orders, (uintptr_t)&words[Z], sizeof words[Z])->count > 1 && makes(2, READ, Z, 0, RELAXED) == 2);
     }
 }
 
@@ -440,10 +509,14 @@ int main(void)
     check_unmarked();
     check_stale_end();
     check_blocks();
+    check_cells();
     check_bytes();
     check_past();
     check_no_past();
+    check_no_fence();
     check_sizes();
+    check_stores();
+    check_used();
     check_halves();
     check_full();
     check_wide();

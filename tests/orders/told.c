@@ -14,7 +14,7 @@ static _Atomic uint64_t words[WORDS];
 static uint64_t plain;
 
 /* Places in the program, each in a line of its own: where a call returns to is in the next one. */
-enum mark { NEWER, LATER, LATEST, READS_LATER, READS_LATEST, MISSES, STORES_LATE, UNSEEN, PASSED_IN_CXX, PASSED_IN_RUST, MARKS };
+enum mark { NEWER, LATER, LATEST, READS_LATER, READS_LATEST, MISSES, STORES_LATE, UNSEEN, PASSED_IN_CXX, PASSED_IN_RUST, QUOTED, MARKS };
 static const void *places[MARKS];
 static unsigned first_line;
 
@@ -29,7 +29,9 @@ __attribute__((noinline)) static void keep(enum mark mark)
 PASS pass_in_cxx(enum mark mark) { keep(mark); }
 #line 1 "/rust/src/sync/atomic.rs"
 PASS pass_in_rust(enum mark mark) { keep(mark); }
-#line 33 "told.c"
+#line 1 "a \"file\\"
+__attribute__((noinline)) static void keep_quoted(void) { keep(QUOTED); __asm__ volatile(""); }
+#line 35 "told.c"
 
 __attribute__((noinline)) static void keep_all(void)
 {
@@ -145,6 +147,26 @@ static char *told_race(void)
     return text;
 }
 
+/* What is told of a load by thread 2 that is delayed past the store which thread 5 has met, in a file whose name has quotes. */
+static char *told_delay(void)
+{
+    const tmwatch_delay delay = {.load = places[NEWER], .store = places[QUOTED], .met_stored = places[LATEST], .met_loaded = places[MISSES],
+                                 .loader = 2, .storer = 5};
+    char *text = calloc(1, MOST_TEXT);
+    tmwatch_orders_tell_delay(&delay, text, MOST_TEXT);
+    return text;
+}
+
+/* A line that addr2line has printed, as it is told. */
+static char *told_line(const char *printed)
+{
+    char *line = calloc(1, MOST_LINE);
+    FILE *file = fmemopen((void *)(uintptr_t)printed, strlen(printed), "r");
+    CHECK(read_line(file, line));
+    fclose(file);
+    return line;
+}
+
 /* What is told of these kinds, which the call answers with as bits. */
 static char *told_unseen(bool is_wrong, uint64_t kinds)
 {
@@ -161,6 +183,7 @@ int main(void)
     static const uint64_t all_kinds = 1 << UNMARKED_STORE | 1 << UNMARKED_LOCK;
     orders = tmwatch_orders_new(1, &event, NULL);
     keep_all();
+    keep_quoted();
     CHECK(is_text(told_unseen(true, 0), "") && is_text(told_race(), ""));
     meets_all();
     CHECK(is_text(told(FIRST, LAST), "the orders of C++20 allow this, in this round before what went wrong:\n"
@@ -173,6 +196,9 @@ int main(void)
                                       "  stale load: thread 2 at %5 does not see the store of thread 0 at %0\n"));
     CHECK(is_text(told(0, EARLY), "") && is_text(told(LAST + 1, LAST + 2), ""));
     CHECK(is_text(told_race(), "thread 1 loads plainly at %1, thread 0 stores plainly at %0"));
+    CHECK(is_text(told_delay(), "thread 2 loads at %0, thread 5 stores at a 'file':1 (keep_quoted), though it has read, at %5, what that "
+                                "thread stored later, at %2"));
+    CHECK(is_text(told_line("told.c:9 (discriminator 3)\n"), "told.c:9"));
     CHECK(is_text(told_unseen(false, all_kinds), ""));
     CHECK(is_text(told_unseen(true, all_kinds),
                   "code that the compiler has not marked, or a thread of the memory's own, stores to what is loaded at %7: what that orders is "

@@ -30,7 +30,7 @@ static void keep_delay(const tmwatch_access *a, struct load *load, uint64_t valu
 static void follow(const tmwatch_access *a, uint64_t value, uint32_t place)
 {
     uint64_t *all = &a->orders->accesses, what = (uint64_t)place << 32 | (unsigned)a->order << 8 | a->thread;
-    *all = ((*all ^ value) * apart_words ^ what) * apart_words + 1;
+    *all = ((*all ^ value) * apart_words ^ what) * apart_words;
 }
 
 /* An access of a place, maybe a store that becomes the newest and isn't sequentially consistent. */

@@ -10,7 +10,7 @@ static void keep_deviation(const tmwatch_access *a, const struct place *it, unsi
     const struct met *met = &o->met[a->thread][next->thread];
     bool is_later = met->step > next->seen.at[next->thread];
     o->deviations[o->deviated++ % KEPT_DEVIATIONS] = (struct deviation){
-        *o->recorded, a->caller, next->caller, is_later ? *met : (struct met){0, NULL, NULL},
+        *o->recorded,  a->caller,          next->caller, is_later ? *met : (struct met){0, NULL, NULL},
         (uint8_t)kind, (uint8_t)a->thread, next->thread, (uint8_t)(it->count - 1 - found)};
 }
 

@@ -113,7 +113,7 @@ struct tmwatch_simulation {
     struct lock locks[MOST_LOCKS];
     struct place places[MOST_PLACES];
     struct sequential operations[THREADS][MOST_SEQUENTIAL];
-    struct clock made; /* the last sequentially consistent operations that come before who comes after this access */
+    struct clock made;   /* the last sequentially consistent operations that come before who comes after this access */
     struct place *taken; /* of the read-modify-write that is under way: its place, or null, and which store it has read */
     unsigned taken_store;
     uint64_t draws, deviated;

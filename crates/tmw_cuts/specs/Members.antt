@@ -1,5 +1,5 @@
 -- The states of a set, in rising order: register 0 is compared first.
-use Rattle.std.specs.Prelude.{◌≡◌, ◌↔◌, ◌⊎◌, List}
+use Rattle.std.specs.Prelude.{◌≡◌, ◌↔◌, ◌⊎◌, ◌≤◌, ℕ, List, vec_capacity}
 use Rattle.std.specs.List.{Contains}
 use Rattle.tmw_defs.specs.Opaque.{State}
 use Rattle.tmw_cuts.specs.declared.states.States.{States}
@@ -10,3 +10,11 @@ members states = states.items.items
 -- The one list has the states of the other and this one.
 abbrev pub AddsMember : List State → List State → State → Type 0
 AddsMember old new state = (s : State) → Contains new s ↔ ((s ≡ state) ⊎ Contains old s)
+
+-- for how many states it has memory
+abbrev pub room_of : States → ℕ
+room_of states = vec_capacity states.items
+
+-- It has memory for as many as a history may have at a cut, and one more.
+abbrev pub HasRoom : States → Type 0
+HasRoom states = 65 ≤ room_of states

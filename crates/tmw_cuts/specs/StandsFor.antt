@@ -1,19 +1,17 @@
 -- Which events a window stands for: it shows their transactions, in the order of their first events.
-use Rattle.std.specs.Prelude.{◌≡◌, ◌+◌, ◌*◌, ◌<◌, ℕ, List, [], ◌∷◌, length, map, take, slice_get, slice_index_or, Some, None, Ok, false, true, IsTrue, Bool, Option, option_map}
+use Rattle.std.specs.Prelude.{◌≡◌, ◌+◌, ◌*◌, ◌<◌, ℕ, List, [], ◌∷◌, length, map, take, slice_index_or, Ok, false, true, IsTrue, Bool, Option, option_map}
 use Rattle.tmw_events.specs.declared.event.Event.{Event}
 use Rattle.tmw_events.specs.declared.event.Kind.{Kind}
 use Rattle.tmw_defs.specs.History.{Txn, operations, status_of, transactions, is_well_formed}
 use Rattle.tmw_defs.specs.Opaque.{precedes}
 use Rattle.tmw_wellformed.specs.Faults.{lacks_register}
-use Rattle.tmw_events.specs.declared.ix.Ix.{Ix}
-use Rattle.tmw_cuts.specs.declared.undo_mark.Mark.{Mark}
 use Rattle.tmw_cuts.specs.declared.turn.Move.{Move}
 use Rattle.tmw_cuts.specs.declared.turn.Move.TheVariants.{Begin, End}
 use Rattle.tmw_cuts.specs.declared.turn.Turn.{Turn}
 use Rattle.tmw_cuts.specs.declared.txn.Txn as cuts
 use Rattle.tmw_cuts.specs.declared.window.Window.{Window}
-use Rattle.tmw_cuts.specs.Turns.{Turns, between, change, Found, after_call, find_open, found_in, kept_in}
-use Rattle.tmw_cuts.specs.Views.{View, view, bit, completed_mask, next_view}
+use Rattle.tmw_cuts.specs.Turns.{between, Found, after_call, find_open, found_in, kept_in}
+use Rattle.tmw_cuts.specs.Views.{View, view, bit, completed_mask}
 
 -- The number whose bit j says that transaction j of these precedes this one in real time.
 abbrev pub before_of : List Txn → Txn → ℕ
@@ -80,17 +78,3 @@ pub record Follows (registers : ℕ) (history : List Event) (window : Window) : 
   pub number : window.registers.number ≡ registers
   pub formed : IsTrue (is_well_formed registers history)
   pub calls : (thread : ℕ) → thread < 8 → calls_in (found_in (turn_at window thread)) ≡ calls_in (find_open thread (transactions history))
-
--- The one window is the other but for an event that has ended the transaction at the place.
-pub record HasEnded (before after : Window) (event : Event) (place : Ix) : Type 0 where
-  pub registers : after.registers ≡ before.registers
-  pub turns : Turns before.turns after.turns event.thread None
-  pub shows : views after ≡ change place.number (next_view event.kind []) (views before)
-
--- What of the window an event changes that ends the transaction at the place of the thread: this is as the mark has it.
-pub record Marks (mark : Mark) (window : Window) (thread place : Ix) : Type 0 where
-  pub of_thread : mark.thread ≡ thread
-  pub at_place : mark.place ≡ place
-  pub turn : mark.turn ≡ turn_at window thread.number
-  pub completed : mark.completed ≡ completed_of window
-  pub status : (v : View) → slice_get (views window) place.number ≡ Some v → v.status ≡ mark.status

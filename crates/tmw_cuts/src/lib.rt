@@ -8,7 +8,6 @@ mod operation_and_status;
 mod states;
 mod turn;
 mod txn;
-mod undo_mark;
 mod window;
 
 pub use effect::Effect;
@@ -18,5 +17,4 @@ pub use operation_and_status::{operation, status_after};
 pub use states::{State, States};
 pub use turn::{Move, Stage, Turn};
 pub use txn::{MOST_TRANSACTIONS, Txn};
-pub use undo_mark::Mark;
 pub use window::Window;

@@ -1,4 +1,4 @@
-ghost use Rattle.std.specs.Prelude.{◌≡◌, ◌↔◌, ◌+◌, ℕ, [], ◌∷◌, get_or, IfOk, OnOk, OnErr, IsTrue, Contains, length, slice_get};
+ghost use Rattle.std.specs.Prelude.{◌≡◌, ◌↔◌, ◌+◌, ◌<◌, ◌≤◌, ℕ, [], ◌∷◌, get_or, IfOk, OnOk, OnErr, IsTrue, Contains, length, slice_get};
 ghost use Rattle.std.specs.List.Sorted.{IsStrictlySortedBy};
 ghost use Rattle.std.specs.Cmp.Lexicographic.{slice_cmp};
 ghost use Rattle.std.specs.Ordering.{nat_cmp};
@@ -13,6 +13,9 @@ use tmw_events::MOST_REGISTERS;
 /// What each register holds. Registers that the run does not have hold 0.
 pub type State = [u64; MOST_REGISTERS];
 
+/// The room of a set that needs no more memory: for the most outcomes that a history may have at a cut, and one more.
+const ROOM: usize = 65;
+
 /// A set of states.
 #[derive(Debug, Drop)]
 pub struct States {
@@ -22,7 +25,7 @@ pub struct States {
 }
 
 impl States {
-    ghost use Rattle.tmw_cuts.specs.Members.{members, AddsMember};
+    ghost use Rattle.tmw_cuts.specs.Members.{members, AddsMember, HasRoom, room_of};
 
     /// Makes the set of no state.
     pub fn empty(alloc: Global) -> States
@@ -33,6 +36,17 @@ impl States {
         }
     }
 
+    /// Makes the set of no state, with room for more than `most` states, and for 65 at least.
+    pub fn roomy(alloc: Global, most: u8) -> Result<States, AllocError>
+        ensures members { IfOk result (λ states. members states ≡ []) }
+        ensures room { IfOk result HasRoom }
+        ensures more { IfOk result (λ states. most < room_of states) }
+    {
+        Ok(States {
+            items: Vec::with_capacity(alloc, ROOM.max(most as usize + 1))?,
+        })
+    }
+
     /// Makes the set of the state in which each register holds 0.
     pub fn zeros(alloc: Global) -> Result<States, AllocError>
         ensures { IfOk result (λ states. members states ≡ zeros ∷ []) }
@@ -40,12 +54,13 @@ impl States {
         States::only(alloc, [0; MOST_REGISTERS])
     }
 
-    /// Makes the set of this state.
+    /// Makes the set of this state, with room.
     pub fn only(alloc: Global, state: State) -> Result<States, AllocError>
-        ensures { IfOk result (λ states. members states ≡ state ∷ []) }
+        ensures members { IfOk result (λ states. members states ≡ state ∷ []) }
+        ensures room { IfOk result HasRoom }
     {
-        let mut one = Vec::new(alloc);
-        one.push(state)?;
+        let mut one = Vec::with_capacity(alloc, ROOM)?;
+        one.push_reserved(state);
         Ok(States { items: one })
     }
 
@@ -102,6 +117,8 @@ impl States {
     pub fn insert(&mut self, state: State) -> Result<(), AllocError>
         ensures ok { OnOk result (AddsMember (members self.old) (members self.new) state) }
         ensures err { OnErr result (members self.new ≡ members self.old) }
+        ensures full { OnErr result (room_of self.old ≤ length (members self.old)) }
+        ensures room { room_of self.old ≤ room_of self.new }
     {
         // Ends are mostly found in rising order.
         if self.are_below(&state) {
@@ -118,9 +135,18 @@ impl States {
     #[inline(always)]
     pub fn put_only(&mut self, state: &State)
         requires { length (members self.old) ≡ 1 }
-        ensures { members self.new ≡ state.now ∷ [] }
+        ensures members { members self.new ≡ state.now ∷ [] }
+        ensures room { room_of self.new ≡ room_of self.old }
     {
         self.items[0] = *state;
+    }
+
+    /// Removes all states. The room stays.
+    pub fn clear(&mut self)
+        ensures members { members self.new ≡ [] }
+        ensures room { room_of self.new ≡ room_of self.old }
+    {
+        self.items.clear();
     }
 
     /// Makes a set of the same states.

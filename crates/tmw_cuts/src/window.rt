@@ -6,7 +6,6 @@ ghost use Rattle.tmw_cuts.specs.Views.{view, with_op, with_status};
 use crate::operation_and_status::status_after;
 use crate::turn::{self, Move, Turn};
 use crate::txn::{MOST_TRANSACTIONS, Txn};
-use crate::undo_mark::Mark;
 use tmw_defs::{Op, Status};
 use tmw_events::{Event, Ix, Kind, MOST_THREADS, Registers};
 use tmw_wellformed::{Malformed, Note};
@@ -104,7 +103,7 @@ impl Window {
     ghost use Rattle.tmw_wellformed.specs.Faults.{Refuses};
     ghost use Rattle.tmw_wellformed.specs.Notes.{Notes};
     ghost use Rattle.tmw_cuts.specs.declared.turn.Move.TheVariants.{Answer, Ask, Begin, End};
-    ghost use Rattle.tmw_cuts.specs.StandsFor.{Follows, HasEnded, IsNext, Marks, StandsFor, begun_by, completed_of, count_of, turn_at, views, views_of};
+    ghost use Rattle.tmw_cuts.specs.StandsFor.{Follows, IsNext, StandsFor, begun_by, completed_of, count_of, turn_at, views, views_of};
 
     /// Makes the window of no event.
     pub fn open(registers: Registers) -> Window
@@ -245,38 +244,11 @@ impl Window {
     pub fn end(&mut self, event: Event, place: Ix)
         ensures stands { (events : List Event) → StandsFor self.old events
             → IsNext self.old event (End place) → StandsFor self.new (events ++ event ∷ []) }
-        ensures ended { HasEnded self.old self.new event place }
         ensures registers { self.new.registers ≡ self.old.registers }
     {
         put_status(&mut self.slots, place, status_after(event.kind));
         turn::end(&mut self.turns, event.thread);
         self.completed |= bit_of(place);
-    }
-
-    /// Notes what an event changes that ends the transaction at the place of the thread, so that it can be taken back.
-    #[inline(always)]
-    pub fn mark(&self, thread: Ix, place: Ix) -> Mark
-        ensures { Marks result self.now thread place }
-    {
-        Mark {
-            thread,
-            place,
-            turn: self.turn_of(thread),
-            status: self.slot(place).status,
-            completed: self.completed,
-        }
-    }
-
-    /// Takes back the event that ended a transaction, before which the mark was made.
-    pub fn take_back(&mut self, mark: Mark)
-        ensures stands { (before : Window) (event : Event) (events : List Event) (place : Ix)
-            → Marks mark before event.thread place → HasEnded before self.old event place
-            → StandsFor before events → StandsFor self.new events }
-        ensures registers { self.new.registers ≡ self.old.registers }
-    {
-        put_status(&mut self.slots, mark.place, mark.status);
-        self.turns[mark.thread.get() as usize] = mark.turn;
-        self.completed = mark.completed;
     }
 
     /// Takes the next event, which is this to its thread.

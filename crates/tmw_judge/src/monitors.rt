@@ -95,14 +95,14 @@ fn feed_each(monitors: &mut ByCriterion<Monitor>, event: Event) -> Result<(), Al
 {
     match monitors {
         ByCriterion::Opacity(monitor) => {
-            monitor.feed(event)?;
+            monitor.take(event);
         }
         ByCriterion::Strict(monitor) => {
-            monitor.feed(event)?;
+            monitor.take(event);
         }
         ByCriterion::Both(opacity, strict) => {
-            opacity.feed(event)?;
-            strict.feed(event)?;
+            opacity.take(event);
+            strict.take(event);
         }
     }
     Ok(())

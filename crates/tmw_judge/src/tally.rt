@@ -71,7 +71,7 @@ impl Tally for NoTally {
     #[inline(always)]
     fn feed(monitors: &mut ByCriterion<Monitor>, event: Event) -> Result<(), AllocError> {
         if let ByCriterion::Opacity(monitor) = monitors {
-            monitor.feed(event)?;
+            monitor.take(event);
             return Ok(());
         }
         feed_copy(monitors, event)
@@ -104,7 +104,7 @@ impl Tally for StrictNoTally {
     #[inline(always)]
     fn feed(monitors: &mut ByCriterion<Monitor>, event: Event) -> Result<(), AllocError> {
         if let ByCriterion::Strict(monitor) = monitors {
-            monitor.feed(event)?;
+            monitor.take(event);
             return Ok(());
         }
         feed_copy(monitors, event)

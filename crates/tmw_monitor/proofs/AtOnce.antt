@@ -71,14 +71,14 @@ last-fine rules h e old new keeps p end next formed_rest at_cut same some one on
     follows-told rules h e old keeps (length h + 1) rules.states quiet new Outcome refl refl formed number narrow refl (inr closes)
 
 -- another order of the same transactions is kept
-pub keeps-order : (rules : Rules) (h : List Event) (old : HistoryDigest) (w : Witness) (keeps : Keeps rules h old)
-    → Witnesses (members old.states) (views_of (drop keeps.cut h)) w → Keeps rules h (record old { witness = w })
-keeps-order rules h old w keeps witness = record {
+pub keeps-order : (rules : Rules) (h : List Event) (old new : HistoryDigest) (keeps : Keeps rules h old) → new.states ≡ old.states
+    → new.window ≡ old.window → Witnesses (members old.states) (views_of (drop keeps.cut h)) new.witness → Keeps rules h new
+keeps-order rules h old new keeps states window witness = record {
   cut = keeps.cut;
-  sums_up = keeps.sums_up;
-  number = keeps.number;
-  stands = keeps.stands;
-  witness = witness;
+  sums_up = rw states keeps.sums_up;
+  number = rw window keeps.number;
+  stands = rw window keeps.stands;
+  witness = rw states witness;
 }
 
 -- an event that goes on and is explained leaves the history fine

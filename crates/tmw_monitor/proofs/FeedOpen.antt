@@ -36,7 +36,7 @@ fits-wrong rules h e old verdict kept left broken fits told ended breaks = recor
   breaks = λ final. breaks;
 }
 
--- where memory was refused
+-- where what is kept stays of the history
 pub fits-kept : (rules : Rules) (h : List Event) (old : Monitor) (kept : HistoryDigest) → Fits rules h old → old.verdict ≡ so_far old.criterion
     → (Keeps rules h old.kept → Keeps rules h kept) → Fits rules h (record old { kept = kept })
 fits-kept rules h old kept fits fine keeps = record {

@@ -66,10 +66,6 @@ pub record Fits (rules : Rules) (history : List Event) (monitor : Monitor) : Typ
   pub forgets : (IsOpen monitor → ⊥) → KeepsNothing (kept_of monitor)
   pub breaks : (IsOpen monitor → ⊥) → TellsFollowed rules.registers history (kept_of monitor).window (broken_of monitor)
 
--- What fitted the monitor before fits it still.
-abbrev pub StaysFit : Monitor → Monitor → Type 0
-StaysFit old new = (rules : Rules) (history : List Event) → Fits rules history old → Fits rules history new
-
 -- What fitted it before fits it with this event more.
 abbrev pub FeedsOne : Event → Monitor → Monitor → Type 0
 FeedsOne event old new = (rules : Rules) (history : List Event) → Fits rules history old → Fits rules (history ++ event ∷ []) new

@@ -35,11 +35,7 @@ pub record KeepsOnlyOpen (rules : Rules) (history : List Event) (monitor : Monit
   pub holds : IsOpen monitor → HoldsOpen rules history (kept_of monitor)
   pub ended : (IsOpen monitor → ⊥) → KeepsNothing (kept_of monitor)
 
--- The monitor holds only the open window of what fitted it before.
-abbrev pub HoldsStill : Monitor → Monitor → Type 0
-HoldsStill old new = (rules : Rules) (history : List Event) → Fits rules history old → KeepsOnlyOpen rules history new
-
--- It holds only that of what fitted it before, with this event more.
+-- The monitor holds only the open window of what fitted it before, with this event more.
 abbrev pub HoldsWith : Event → Monitor → Monitor → Type 0
 HoldsWith event old new = (rules : Rules) (history : List Event) → Fits rules history old → KeepsOnlyOpen rules (history ++ event ∷ []) new
 

@@ -1,7 +1,8 @@
 ghost use Rattle.std.specs.Prelude.{List, ℕ};
+ghost use Rattle.tmw_cuts.specs.Members.{HasRoom};
 
-use std::alloc::Global;
 use tmw_cuts::{States, Window};
+use tmw_search::EndSet;
 use tmw_witness::Witness;
 
 /// What is kept of a history in which nothing is wrong: no event.
@@ -9,10 +10,13 @@ use tmw_witness::Witness;
 pub struct HistoryDigest {
     /// The history's outcomes at its last cut.
     pub states: States,
+    /// Where the outcomes at the next cut are gathered.
+    pub found: EndSet,
     /// The transactions since, and where each thread is.
     pub window: Window,
     /// A serial order of these transactions, where one is known.
     pub witness: Witness,
+    pub ghost room: { HasRoom states },
 }
 
 impl HistoryDigest {
@@ -20,15 +24,15 @@ impl HistoryDigest {
     ghost use Rattle.tmw_cuts.specs.StandsFor.{Follows};
     ghost use Rattle.tmw_monitor.specs.Fits.{KeepsNothing};
 
-    /// Forgets the history, and frees what was kept of it. Where the threads are stays.
+    /// Forgets the history. Where the threads are stays.
     #[cold]
     #[inline(never)]
-    pub fn forget(&mut self, alloc: Global)
+    pub fn forget(&mut self)
         ensures nothing { KeepsNothing self.new }
         ensures follows { (registers : ℕ) (history : List Event)
             → Follows registers history self.old.window → Follows registers history self.new.window }
     {
-        self.states = States::empty(alloc);
+        self.states.clear();
         self.window.clear();
         self.witness.forget();
     }

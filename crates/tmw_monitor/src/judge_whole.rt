@@ -53,7 +53,7 @@ pub fn judge_for(
 {
     let mut monitor = Monitor::for_criterion(alloc, criterion, registers, *start, bounds)?;
     for event in events {
-        monitor.feed(*event)?;
+        monitor.take(*event);
     }
     Ok(monitor.verdict())
 }

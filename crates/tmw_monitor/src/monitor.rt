@@ -1,4 +1,4 @@
-ghost use Rattle.std.specs.Prelude.{◌≡◌, ◌↔◌, ◌<◌, ◌^◌, List, [], ◌∷◌, ◌++◌, IfOk, OnOk, OnErr, Ok, IsOk, IsTrue, length};
+ghost use Rattle.std.specs.Prelude.{◌≡◌, ◌↔◌, ◌<◌, ◌^◌, List, [], ◌∷◌, ◌++◌, IfOk, Ok, IsTrue, length};
 ghost use Rattle.tmw_events.specs.declared.event.Event.{Event};
 ghost use Rattle.tmw_defs.specs.declared.criterion.Criterion.TheVariants.{Opacity};
 ghost use Rattle.tmw_cuts.specs.Members.{members};
@@ -16,6 +16,7 @@ use std::alloc::{AllocError, Global};
 use tmw_cuts::{State, States, Window};
 use tmw_defs::{Criterion, Verdict};
 use tmw_events::{Event, MOST_REGISTERS, Registers};
+use tmw_search::EndSet;
 use tmw_witness::Witness;
 
 /// A judge of a history as its events come, by the definition of its criterion at each of its prefixes: opacity
@@ -23,7 +24,6 @@ use tmw_witness::Witness;
 /// the outcomes at the last cut and the transactions since, and neither after a final verdict.
 #[derive(Debug, Drop)]
 pub struct Monitor {
-    alloc: Global,
     criterion: Criterion,
     bounds: Bounds,
     count: u64,
@@ -35,8 +35,8 @@ pub struct Monitor {
 
 impl Monitor {
     ghost use Rattle.tmw_monitor.specs.BrokenRule.{TellsBroken};
-    ghost use Rattle.tmw_monitor.specs.Fits.{FeedsOne, Fits, StaysFit, rules_for, rules_of};
-    ghost use Rattle.tmw_monitor.specs.HoldsOpen.{AreLastOutcomes, HoldsStill, HoldsWith, KeepsOnlyOpen};
+    ghost use Rattle.tmw_monitor.specs.Fits.{FeedsOne, Fits, rules_for, rules_of};
+    ghost use Rattle.tmw_monitor.specs.HoldsOpen.{AreLastOutcomes, HoldsWith, KeepsOnlyOpen};
     ghost use Rattle.tmw_monitor.specs.Monitor.{IsOpen, criterion_of, fed_of, verdict_of};
 
     /// Makes a monitor that judges by opacity a run whose registers all begin at 0, before its first event.
@@ -81,14 +81,15 @@ impl Monitor {
         ensures criterion { IfOk result (λ monitor. criterion_of monitor ≡ criterion) }
     {
         let states = States::only(alloc, start)?;
+        let found = EndSet::none(alloc, bounds.states)?;
         Ok(Monitor {
-            alloc,
             criterion,
             bounds,
             count: 0,
             verdict: criterion.so_far(),
             kept: HistoryDigest {
                 states,
+                found,
                 window: Window::open(registers),
                 witness: Witness::new(start),
             },
@@ -96,85 +97,85 @@ impl Monitor {
         })
     }
 
-    /// Takes the next event and returns the verdict on all events so far. A verdict that something is wrong is final,
-    /// and from then on each call succeeds. After a failed allocation the event is not taken: feed it again.
+    /// Takes the next event and returns the verdict on all events so far. A verdict that something is wrong is final.
+    /// It takes no memory, so it always succeeds.
     #[inline(always)]
     pub fn feed(&mut self, event: Event) -> Result<Verdict, AllocError>
         requires room { fed_of self.old < 2 ^ 40 }
-        ensures ok { OnOk result (FeedsOne event self.old self.new) }
-        ensures verdict { IfOk result (λ verdict. verdict ≡ verdict_of self.new) }
-        ensures err { OnErr result (StaysFit self.old self.new) }
-        ensures stays { (IsOpen self.old → ⊥) → result ≡ Ok (verdict_of self.old) }
+        ensures ok { result ≡ Ok (verdict_of self.new) }
+        ensures feeds { FeedsOne event self.old self.new }
+        ensures stays { (IsOpen self.old → ⊥) → verdict_of self.new ≡ verdict_of self.old }
         ensures criterion { criterion_of self.new ≡ criterion_of self.old }
+        ensures keeps { HoldsWith event self.old self.new }
+    {
+        Ok(self.take(event))
+    }
 
-        // What is kept, whether the event was taken or not.
-        ensures keeps { OnOk result (HoldsWith event self.old self.new) }
-        ensures keeps_err { OnErr result (HoldsStill self.old self.new) }
+    /// Takes the next event and returns the verdict on all events so far. A verdict that something is wrong is final.
+    #[inline(always)]
+    pub fn take(&mut self, event: Event) -> Verdict
+        requires room { fed_of self.old < 2 ^ 40 }
+        ensures feeds { FeedsOne event self.old self.new }
+        ensures stays { (IsOpen self.old → ⊥) → verdict_of self.new ≡ verdict_of self.old }
+        ensures criterion { criterion_of self.new ≡ criterion_of self.old }
+        ensures keeps { HoldsWith event self.old self.new }
+        ensures verdict { result ≡ verdict_of self.new }
     {
         // A serial order is known only while nothing is wrong.
         if self.kept.witness.is_known() && take_at_once(&mut self.kept, &self.bounds, event) {
             self.count += 1;
-            return Ok(self.verdict);
+            return self.verdict;
         }
-        self.take_copy(event)?;
-        Ok(self.verdict)
+        self.take_copy(event);
+        self.verdict
     }
 
     /// Takes the next event, whatever it needs: the call gets a copy, so that the event mostly stays in registers of the processor.
     #[inline(always)]
-    fn take_copy(&mut self, event: Event) -> Result<(), AllocError>
+    fn take_copy(&mut self, event: Event)
         requires room { fed_of self.old < 2 ^ 40 }
-        ensures ok { OnOk result (FeedsOne event self.old self.new) }
-        ensures err { OnErr result (StaysFit self.old self.new) }
-        ensures stays { (IsOpen self.old → ⊥)
-            → IsOk result × (verdict_of self.new ≡ verdict_of self.old) }
+        ensures feeds { FeedsOne event self.old self.new }
+        ensures stays { (IsOpen self.old → ⊥) → verdict_of self.new ≡ verdict_of self.old }
         ensures criterion { criterion_of self.new ≡ criterion_of self.old }
-        ensures keeps { OnOk result (HoldsWith event self.old self.new) }
-        ensures keeps_err { OnErr result (HoldsStill self.old self.new) }
+        ensures keeps { HoldsWith event self.old self.new }
     {
         let copied = Event {
             thread: event.thread,
             kind: event.kind,
         };
-        self.take(copied)
+        self.take_whole(copied);
     }
 
     /// Takes the next event, whatever it needs. The verdict is then in the monitor.
     #[cold]
     #[inline(never)]
-    fn take(&mut self, event: Event) -> Result<(), AllocError>
+    fn take_whole(&mut self, event: Event)
         requires room { fed_of self.old < 2 ^ 40 }
-        ensures ok { OnOk result (FeedsOne event self.old self.new) }
-        ensures err { OnErr result (StaysFit self.old self.new) }
-        ensures stays { (IsOpen self.old → ⊥)
-            → IsOk result × (verdict_of self.new ≡ verdict_of self.old) }
+        ensures feeds { FeedsOne event self.old self.new }
+        ensures stays { (IsOpen self.old → ⊥) → verdict_of self.new ≡ verdict_of self.old }
         ensures criterion { criterion_of self.new ≡ criterion_of self.old }
-        ensures keeps { OnOk result (HoldsWith event self.old self.new) }
-        ensures keeps_err { OnErr result (HoldsStill self.old self.new) }
+        ensures keeps { HoldsWith event self.old self.new }
     {
         let at = self.count + 1;
+        self.count = at;
         // Each prefix is judged, so a verdict that something is wrong is final. Later events are only tracked.
         if !is_so_far(self.criterion, self.verdict) {
             follow(&mut self.kept.window, &mut self.broken, at, event);
-            self.count = at;
-            return Ok(());
+            return;
         }
         let wrong = next_wrong(
-            self.alloc,
             self.criterion,
             &mut self.kept,
             self.bounds,
             at,
             event,
             &mut self.broken,
-        )?;
-        self.count = at;
+        );
         if let Some(verdict) = wrong {
-            // After a final verdict no event needs what was kept, so its memory is freed.
-            self.kept.forget(self.alloc);
+            // After a final verdict no event needs what was kept.
+            self.kept.forget();
             self.verdict = verdict;
         }
-        Ok(())
     }
 
     /// Returns what the history is judged by.

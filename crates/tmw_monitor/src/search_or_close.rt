@@ -1,4 +1,4 @@
-ghost use Rattle.std.specs.Prelude.{◌≡◌, ℕ, [], Bool, List, IfOk, OnErr, IsTrue, IsFalse};
+ghost use Rattle.std.specs.Prelude.{◌≡◌, ◌≤◌, ℕ, [], Bool, List, IsTrue, IsFalse};
 ghost use Rattle.tmw_events.specs.declared.event.Event.{Event};
 ghost use Rattle.tmw_defs.specs.Cuts.{is_cut};
 ghost use Rattle.tmw_defs.specs.Opaque.{State};
@@ -10,7 +10,6 @@ ghost use Rattle.tmw_monitor.specs.OutcomeCheck.{Tells};
 
 use crate::history_digest::HistoryDigest;
 use crate::outcome_check::OutcomeCheck;
-use std::alloc::{AllocError, Global};
 use tmw_cuts::States;
 use tmw_defs::Criterion;
 use tmw_search::replace_by_outcomes;
@@ -37,31 +36,32 @@ pub fn search(criterion: Criterion, kept: &mut HistoryDigest) -> OutcomeCheck
 
 /// Weighs the events of a window at a cut, from the outcomes at its beginning. The set becomes that of the outcomes at the cut,
 /// if these are at most `cap`, and the window is cleared.
-pub fn close(
-    criterion: Criterion,
-    alloc: Global,
-    kept: &mut HistoryDigest,
-    cap: u8,
-) -> Result<OutcomeCheck, AllocError>
-    ensures ok { IfOk result (λ found. (quiet : Bool) (events : List Event)
+pub fn close(criterion: Criterion, kept: &mut HistoryDigest, cap: u8) -> OutcomeCheck
+    requires { cap ≤ 64 }
+    ensures tells { (quiet : Bool) (events : List Event)
         → StandsFor kept.old.window events → IsTrue (is_cut events)
         → Witnesses (members kept.old.states) (views_of events) kept.old.witness
-        → Tells criterion kept.old.states cap quiet events kept.new found) }
+        → Tells criterion kept.old.states cap quiet events kept.new result }
     ensures registers { kept.new.window.registers ≡ kept.old.window.registers }
-    ensures states { OnErr result (members kept.new.states ≡ members kept.old.states) }
-    ensures window { OnErr result (kept.new.window ≡ kept.old.window) }
 {
     // An outcome that is known is mostly the only one, and then nothing is searched.
     let known = kept.witness.known_end().copied();
-    if !replace_by_outcomes(criterion, alloc, &mut kept.states, &kept.window, cap, known)? {
-        return Ok(OutcomeCheck::TooMany);
+    if !replace_by_outcomes(
+        criterion,
+        &mut kept.states,
+        &mut kept.found,
+        &kept.window,
+        cap,
+        known,
+    ) {
+        return OutcomeCheck::TooMany;
     }
     if kept.states.is_empty() {
-        return Ok(OutcomeCheck::NoOutcome);
+        return OutcomeCheck::NoOutcome;
     }
     begin_again(&mut kept.witness, &kept.states);
     kept.window.clear();
-    Ok(OutcomeCheck::Outcome)
+    OutcomeCheck::Outcome
 }
 
 /// Begins with a window without a transaction, from the first of these states.

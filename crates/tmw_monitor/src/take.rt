@@ -1,56 +1,47 @@
-ghost use Rattle.std.specs.Prelude.{◌≡◌, ◌+◌, ◌≤◌, ◌++◌, ◌∷◌, [], List, IfOk, OnErr, IsTrue, IsFalse, Bool, ℕ};
+ghost use Rattle.std.specs.Prelude.{◌≡◌, ◌+◌, ◌≤◌, ◌++◌, ◌∷◌, [], List, IsTrue, IsFalse, Bool, ℕ};
 ghost use Rattle.tmw_events.specs.declared.event.Event.{Event};
 ghost use Rattle.tmw_defs.specs.declared.criterion.Criterion.{Criterion};
 ghost use Rattle.tmw_defs.specs.Criteria.{is_quiet_by};
 ghost use Rattle.tmw_defs.specs.Cuts.{is_cut};
 ghost use Rattle.tmw_defs.specs.History.{transactions};
 ghost use Rattle.tmw_cuts.specs.declared.turn.Move.TheVariants.{End};
-ghost use Rattle.tmw_cuts.specs.Members.{members};
-ghost use Rattle.tmw_cuts.specs.StandsFor.{IsNext, StandsFor, begun_by, count_of, views_of};
-ghost use Rattle.tmw_witness.specs.Witness.{Witnesses};
+ghost use Rattle.tmw_cuts.specs.StandsFor.{IsNext, StandsFor, begun_by, count_of};
 ghost use Rattle.tmw_monitor.specs.OutcomeCheck.{WeighsNext};
 
 use crate::history_digest::HistoryDigest;
 use crate::is_quiet::is_quiet;
 use crate::outcome_check::OutcomeCheck;
 use crate::search_or_close::{close, search};
-use std::alloc::{AllocError, Global};
 use tmw_cuts::Move;
 use tmw_defs::Criterion;
 use tmw_events::{Event, Ix};
 
 /// Takes the next event, which is this to its thread, into its window, and weighs the window's events from the outcomes at its
-/// beginning. After a failed allocation all is as before, but a known serial order may be forgotten.
+/// beginning.
 #[inline(always)]
 pub fn take_event(
     criterion: Criterion,
-    alloc: Global,
     kept: &mut HistoryDigest,
     cap: u8,
     event: Event,
     step: Move,
-) -> Result<OutcomeCheck, AllocError>
+) -> OutcomeCheck
     requires room { count_of kept.old.window + begun_by step ≤ 8 }
-    ensures ok { IfOk result (WeighsNext criterion cap event step
+    requires cap { cap ≤ 64 }
+    ensures tells { WeighsNext criterion cap event step
         (λ events. is_quiet_by criterion (transactions events) event.thread.number event.kind)
-        kept.old kept.new) }
+        kept.old kept.new result }
     ensures registers { kept.new.window.registers ≡ kept.old.window.registers }
-    ensures states { OnErr result (members kept.new.states ≡ members kept.old.states) }
-    ensures window { OnErr result ((events : List Event) → StandsFor kept.old.window events
-        → StandsFor kept.new.window events) }
-    ensures witness { OnErr result ((events : List Event)
-        → Witnesses (members kept.old.states) (views_of events) kept.old.witness
-        → Witnesses (members kept.old.states) (views_of events) kept.new.witness) }
 {
     if let Move::End(place) = step {
         if kept.window.is_cut_with(place) {
-            return take_last(criterion, alloc, kept, cap, event, place);
+            return take_last(criterion, kept, cap, event, place);
         }
     }
-    Ok(take_open(criterion, kept, event, step))
+    take_open(criterion, kept, event, step)
 }
 
-/// Takes an event at no cut. It needs no memory.
+/// Takes an event at no cut.
 #[inline(always)]
 fn take_open(
     criterion: Criterion,
@@ -75,36 +66,24 @@ fn take_open(
     search(criterion, kept)
 }
 
-/// Takes an event at a cut, which ends the transaction at the place, and takes it back after a failed allocation.
+/// Takes an event at a cut, which ends the transaction at the place.
 #[inline(always)]
 fn take_last(
     criterion: Criterion,
-    alloc: Global,
     kept: &mut HistoryDigest,
     cap: u8,
     event: Event,
     place: Ix,
-) -> Result<OutcomeCheck, AllocError>
+) -> OutcomeCheck
+    requires cap { cap ≤ 64 }
     requires cut { (events : List Event) → StandsFor kept.old.window events
         → IsNext kept.old.window event (End place) → IsTrue (is_cut (events ++ event ∷ [])) }
-    ensures ok { IfOk result (WeighsNext criterion cap event (End place)
+    ensures tells { WeighsNext criterion cap event (End place)
         (λ events. is_quiet_by criterion (transactions events) event.thread.number event.kind)
-        kept.old kept.new) }
+        kept.old kept.new result }
     ensures registers { kept.new.window.registers ≡ kept.old.window.registers }
-    ensures states { OnErr result (members kept.new.states ≡ members kept.old.states) }
-    ensures window { OnErr result ((events : List Event) → StandsFor kept.old.window events
-        → StandsFor kept.new.window events) }
-    ensures witness { OnErr result ((events : List Event)
-        → Witnesses (members kept.old.states) (views_of events) kept.old.witness
-        → Witnesses (members kept.old.states) (views_of events) kept.new.witness) }
 {
-    let mark = kept.window.mark(event.thread, place);
     kept.window.end(event, place);
     kept.witness.follow(&kept.window, event, Move::End(place));
-    let weighed = close(criterion, alloc, kept, cap);
-    if weighed.is_err() {
-        kept.window.take_back(mark);
-        kept.witness.forget();
-    }
-    weighed
+    close(criterion, kept, cap)
 }

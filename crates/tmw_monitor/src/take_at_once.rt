@@ -114,7 +114,10 @@ fn end_at_once(kept: &mut HistoryDigest, event: Event, place: Ix) -> bool
         kept.window.end(event, place);
         return true;
     }
-    if kept.window.count() != 1 || kept.states.len() != 1 {
+    if kept.window.count() != 1 {
+        return false;
+    }
+    if kept.states.len() != 1 {
         return false;
     }
     let Some(end) = kept.witness.known_end() else {

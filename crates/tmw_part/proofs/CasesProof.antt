@@ -1,5 +1,5 @@
 -- Cases that are made of candidates for each state are a reason; candidates that end nowhere from a state come to no contradiction.
-use Rattle.tmw_part.proofs.Shared.{All, All-contains, AllByRecursion, Asked, Contains, EndsNowhere, Err, IfOk, IsFalse, IsTrue, List, None, Ok, Option, Result, Some, [], arith, cases_Bool, cases_order, contradicts_in, eq-eqb, eqb-true, false, get_or, inl, inr, is_among, is_news, is_said_for, length, refl, states_at, suc, sym, tells, zero, ℕ, ◌++◌, ◌+◌, ◌<◌, ◌==◌, ◌∷◌, ◌≡◌}
+use Rattle.tmw_part.proofs.Shared.{All, All-contains, AllByRecursion, Asked, Contains, EndsNowhere, Err, IfOk, IsFalse, IsTrue, List, None, Ok, Option, Result, Some, [], arith, cases_Bool, cases_order, ne_eqb, contradicts_in, eq-eqb, false, get_or, inl, inr, is_among, is_news, is_said_for, length, refl, states_at, suc, zero, ℕ, ◌++◌, ◌+◌, ◌<◌, ◌==◌, ◌∷◌, ◌≡◌}
 use Rattle.std.proofs.lemmas.List.Elements.{All-from_recursion, All-push, recursion_from_All}
 use Rattle.std.proofs.Common.{append-nil}
 use Rattle.tmw_part.specs.declared.candidates.Candidates.{Candidates}
@@ -11,7 +11,8 @@ use Rattle.tmw_part.specs.DrawnSteps.{Drawn}
 use Rattle.tmw_part.specs.FindReason.{ComesToNone, FindsAmong, IsDrawnCase}
 use Rattle.tmw_part.specs.Reasons.{AreOnce, IsCase, said_places}
 use Rattle.tmw_part.proofs.PlacesProof.{once-push, once-said, said-more}
-use Rattle.tmw_part.proofs.ListFacts.{any-last, any-more, find-none, get_some}
+use Rattle.tmw_search.proofs.LayerSteps.{slice_get_some}
+use Rattle.tmw_part.proofs.ListFacts.{any-last, any-more, find-none}
 use Rattle.std.proofs.lemmas.Bool.{or_left, or_right}
 use Rattle.tmw_part.proofs.StatesAt.{contains-get}
 
@@ -19,6 +20,14 @@ among-contains : (places : List ℕ) (place : ℕ) → Contains places place →
 among-contains [] place (k, low, at) = absurd (omega (arith, low))
 among-contains (p ∷ places) place (zero, low, at) = or_left (p == place) _ (eq-eqb p place at)
 among-contains (p ∷ places) place (suc k, low, at) = or_right (p == place) _ (among-contains places place (k, omega (arith, low), at))
+
+-- what is so of the places before the next, and of this, is so of each before the one behind
+before-next : (P : ℕ → Type 0) (count place : ℕ) → place < count + 1 → ((k : ℕ) → k < count → P k) → P count → P place
+before-next P count place low before here = elim (cases_order place count) [
+  | inl same ↦ rw same here
+  | inr (inl less) ↦ before place less
+  | inr (inr more) ↦ absurd (omega (arith, low, more))
+]
 
 -- a case that has grown from one for the state at the next place
 pub said-push : (w : Asked) (candidates : Candidates) (count : ℕ) (cases : List ReasonCase) (old case : ReasonCase)
@@ -31,14 +40,9 @@ said-push w candidates count cases old case said low none one grows =
       are = All-push (IsMadeCase w candidates) cases case said.are grows.made;
       some = All-push (λ c. 0 < length c.states.items) cases case said.some (omega (arith, has.1));
       once = rw (said-more cases case) (grows.once (rw one (once-said (length w.states) count cases [] low refl none alone)));
-      each = λ place low. elim (cases_order place count) [
-        | inl same ↦
-            any-last (λ c. is_among place c.states.items) cases case (rw same (among-contains case.states.items count has))
-        | inr differ ↦ elim differ [
-          | inl before ↦ any-more (λ c. is_among place c.states.items) cases case (said.each place before)
-          | inr beyond ↦ absurd (omega (arith, low, beyond))
-        ]
-      ];
+      each = λ place low. before-next (λ k. IsTrue (is_said_for k (cases ++ case ∷ []))) count place low
+          (λ k before. any-more (λ c. is_among k c.states.items) cases case (said.each k before))
+          (any-last (λ c. is_among count c.states.items) cases case (among-contains case.states.items count has));
     }
 
 pub said-same : (w : Asked) (candidates : Candidates) (count : ℕ) (cases : List ReasonCase) → AreSaid w candidates count cases
@@ -47,13 +51,7 @@ said-same w candidates count cases said has = record {
   are = said.are;
   some = said.some;
   once = said.once;
-  each = λ place low. elim (cases_order place count) [
-    | inl same ↦ rw same has
-    | inr differ ↦ elim differ [
-      | inl before ↦ said.each place before
-      | inr beyond ↦ absurd (omega (arith, low, beyond))
-    ]
-  ];
+  each = λ place low. before-next (λ k. IsTrue (is_said_for k cases)) count place low said.each has;
 }
 
 among-some : (place : ℕ) (places : List ℕ) → IsTrue (is_among place places) → 0 < length places
@@ -63,11 +61,7 @@ among-some place (p ∷ places) among = omega arith
 -- none of the places below is this one
 beyond-each : (count : ℕ) (places : List ℕ) → AllByRecursion (λ p. p < count) places → is_among count places ≡ false
 beyond-each count [] all = refl
-beyond-each count (p ∷ places) all =
-    elim (cases_Bool (p == count)) [
-      | inl is ↦ let same = eqb-true p count is in absurd (omega (arith, same, all.0))
-      | inr other ↦ rw other (beyond-each count places all.1)
-    ]
+beyond-each count (p ∷ places) all = grind (arith, all.0, (ne_eqb p count), (beyond-each count places all.1))
 
 beyond-all : (count : ℕ) (places : List ℕ) → All (λ p. p < count) places → is_among count places ≡ false
 beyond-all count places all = beyond-each count places (recursion_from_All (λ p. p < count) places all)
@@ -75,13 +69,8 @@ beyond-all count places all = beyond-each count places (recursion_from_All (λ p
 -- places with one more
 pub first-push : (count : ℕ) (places : List ℕ) → AreFirst count places → AreFirst (count + 1) (places ++ count ∷ [])
 first-push count places first = record {
-  each = λ place low. elim (cases_order place count) [
-    | inl same ↦ any-last (λ p. p == place) places count (eq-eqb count place (sym same))
-    | inr differ ↦ elim differ [
-      | inl before ↦ any-more (λ p. p == place) places count (first.each place before)
-      | inr beyond ↦ absurd (omega (arith, low, beyond))
-    ]
-  ];
+  each = λ place low. before-next (λ k. IsTrue (is_among k (places ++ count ∷ []))) count place low
+      (λ k before. any-more (λ p. p == k) places count (first.each k before)) (any-last (λ p. p == count) places count (eq-eqb count count refl));
   once = once-push (count + 1) count places (record {
     apart = first.once.apart;
     within = λ k d low. let below = first.once.within k d low in omega (arith, below);
@@ -117,17 +106,14 @@ nowhere w drawn candidates of ends = record {
       let fails = All-contains (λ x. is_news w ends.steps x ≡ false) candidates.steps.items step
       (All-from_recursion (λ x. is_news w ends.steps x ≡ false) candidates.steps.items (find-none (is_news w ends.steps) candidates.steps.items ends.closed))
       (rw of.steps has) in
-      elim (cases_Bool (tells ends.steps step)) [
-        | inl told ↦ told
-        | inr untold ↦ let bad = rw (untold, new) at fails in absurd (cc)
-      ];
+      grind (arith, cases_Bool);
   none = λ end has. All-contains (λ x. IsFalse (contradicts_in w ends.steps x)) candidates.ends.items end ends.none (rw of.ends has);
 }
 
 finds : (w : Asked) (drawn : List Drawn) (candidates : Candidates) → AreCandidates drawn candidates → (found : Option Reason)
     → FindsCases w candidates found → FindsAmong w drawn found
 finds w drawn candidates of None (place, low, ends) =
-    let (s, at) = get_some w.states place low in
+    let (s, at) = slice_get_some w.states place low in
     let one : states_at w.states (place ∷ []) ≡ s ∷ [] = rw at refl in
     (s, contains-get w.states place s at, rw one at (nowhere (asked_at w (place ∷ [])) drawn candidates of ends))
 finds w drawn candidates of (Some reason) said = record {

@@ -1,8 +1,10 @@
 -- A step that follows from others can be put behind them, and is told by all.
-use Rattle.tmw_part.proofs.Shared.{Asked, DerivesIn, IsTrue, List, None, Option, ReasonStep, Some, [], and_from, and_parts, ap, arith, ends_before, eq-eqb, excludes, follows, gives, has_writer, inl, inr, is_known_rival, is_same_source, is_same_writer, length, orders, refl, slice_get, suc, take-append-le, tells, zero, ℕ, ◌++◌, ◌<◌, ◌==◌, ◌∷◌, ◌≡◌, ◌≤◌, ◌⊎◌}
+use Rattle.std.proofs.lemmas.List.Folds.{list_any-append}
+use Rattle.std.proofs.lemmas.Option.{slice_get_past}
+use Rattle.tmw_part.proofs.Shared.{Asked, DerivesIn, IsTrue, List, None, Option, ReasonStep, Some, [], and_from, and_parts, ap, arith, ends_before, eq-eqb, follows, has_writer, inl, inr, is_known_rival, is_same_source, is_same_writer, length, orders, refl, slice_get, suc, take-append-le, tells, zero, ℕ, ◌++◌, ◌<◌, ◌==◌, ◌∷◌, ◌≡◌, ◌⊎◌}
 use Rattle.std.proofs.Math.Seq.{take-append_seam}
-use Rattle.tmw_part.proofs.ListFacts.{any-last, any-more}
-use Rattle.tmw_part.specs.declared.reason_step.ReasonStep.TheVariants.{ChangedFirst, From, Overwritten, ReadFirst, RealTime, Through, TooLate}
+use Rattle.tmw_part.proofs.ListFacts.{any-last}
+use Rattle.tmw_part.specs.declared.reason_step.ReasonStep.TheVariants.{ChangedFirst}
 use Rattle.tmw_part.specs.declared.reason_step.ValueSource.{ValueSource}
 
 -- a place of a list with one more
@@ -19,12 +21,7 @@ last_or (z ∷ xs) x y (suc i) at =
 
 -- steps that are all assumed
 pub derives-assumed : (w : Asked) (steps : List ReasonStep) → DerivesIn w (length steps) steps
-derives-assumed w steps = λ i y low at. absurd (beyond steps y i low at)
-  where
-    beyond : (xs : List ReasonStep) (y : ReasonStep) (i : ℕ) → length xs ≤ i → slice_get xs i ≡ Some y → ⊥
-    beyond [] y i low at = cc
-    beyond (x ∷ xs) y zero low at = omega (arith, low)
-    beyond (x ∷ xs) y (suc i) low at = beyond xs y i (omega (arith, low)) at
+derives-assumed w steps = λ i y low at. absurd (let none = slice_get_past steps i low in cc)
 
 -- a step that follows can be added
 pub derives-push : (w : Asked) (assumed : ℕ) (steps : List ReasonStep) (x : ReasonStep) → DerivesIn w assumed steps
@@ -37,17 +34,12 @@ derives-push w assumed steps x derives new = λ i y low at.
 
 ends-more : (steps : List ReasonStep) (x : ReasonStep) (a : ℕ) (w : Option ℕ) → IsTrue (ends_before steps a w) → IsTrue (ends_before (steps ++ x ∷ []) a w)
 ends-more steps x a None is = absurd (cc)
-ends-more steps x a (Some b) is = any-more (orders a b) steps x is
+ends-more steps x a (Some b) is = grind (arith, list_any-append)
 
 -- what is told stays told
 pub tells-more : (steps : List ReasonStep) (x y : ReasonStep) → IsTrue (tells steps y) → IsTrue (tells (steps ++ x ∷ []) y)
-tells-more steps x (RealTime one other) is = any-more (orders one other) steps x is
-tells-more steps x (From s) is = any-more (gives s) steps x is
-tells-more steps x (TooLate s) is = any-more (excludes s) steps x is
-tells-more steps x (Overwritten s rival left) is = any-more (excludes s) steps x is
-tells-more steps x (ReadFirst s rival left) is = any-more (orders s.reader rival) steps x is
 tells-more steps x (ChangedFirst rival left s) is = ends-more steps x rival s.writer is
-tells-more steps x (Through one between other) is = any-more (orders one other) steps x is
+tells-more steps x y is = grind (arith, list_any-append)
 
 same : (n : ℕ) → IsTrue (n == n)
 same n = eq-eqb n n refl
@@ -57,10 +49,7 @@ same_writers None = refl
 same_writers (Some a) = same a
 
 itself : (s : ValueSource) → IsTrue (is_same_source s s)
-itself s =
-    and_from (s.reader == s.reader) _ (same s.reader)
-    (and_from (s.register.number == s.register.number) _ (same s.register.number)
-    (and_from (s.value == s.value) _ (same s.value) (same_writers s.writer)))
+itself s = grind (arith, same, same_writers)
 
 writer_told : (steps : List ReasonStep) (rival left : ℕ) (s : ValueSource) (w : Option ℕ) → s.writer ≡ w → IsTrue (has_writer s)
     → IsTrue (ends_before (steps ++ ChangedFirst rival left s ∷ []) rival w)
@@ -71,14 +60,7 @@ writer_told steps rival left s (Some b) is has =
 -- and a step that follows is told once it is added
 pub tells-itself : (w : Asked) (steps : List ReasonStep) (x : ReasonStep) → IsTrue (follows w.criterion w.states w.transactions steps x)
     → IsTrue (tells (steps ++ x ∷ []) x)
-tells-itself w steps (RealTime one other) new = any-last (orders one other) steps (RealTime one other) (and_from (one == one) _ (same one) (same other))
-tells-itself w steps (From s) new = any-last (gives s) steps (From s) (itself s)
-tells-itself w steps (TooLate s) new = any-last (excludes s) steps (TooLate s) (itself s)
-tells-itself w steps (Overwritten s rival left) new = any-last (excludes s) steps (Overwritten s rival left) (itself s)
-tells-itself w steps (ReadFirst s rival left) new =
-    any-last (orders s.reader rival) steps (ReadFirst s rival left) (and_from (s.reader == s.reader) _ (same s.reader) (same rival))
 tells-itself w steps (ChangedFirst rival left s) new =
     let more = (and_parts (is_known_rival w.transactions steps s rival left) _ new).1 in
     writer_told steps rival left s s.writer refl (and_parts (has_writer s) _ more).0
-tells-itself w steps (Through one between other) new =
-    any-last (orders one other) steps (Through one between other) (and_from (one == one) _ (same one) (same other))
+tells-itself w steps x new = grind (arith, list_any-append, same, itself)

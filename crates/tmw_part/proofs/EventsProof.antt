@@ -1,7 +1,6 @@
 -- The transactions of a history begin apart, so that a reason tells of it.
-use Rattle.tmw_part.proofs.Shared.{All, All-from_recursion, AllByRecursion, Bool, Contains, Criterion, Event, ExplainsBy, HoldsIn, IsTrue, List, None, Option, Placed, ReasonStep, ReasonTells, Some, State, Txn, [], add_event, add_event_here, add_event_past, and_from, and_parts, arith, begin_apart, begun, cases_Bool, eqb-true, filter, from_else, inl, inr, is_among, is_asked, joins, length, list_all, list_any, map, may_come_from, nat_lt, ne_eqb, not, range_with_len, refl, slice_get, states_at, suc, take, transactions, transactions_from, true, zero, ℕ, ◌+◌, ◌<◌, ◌==◌, ◌∷◌, ◌≡◌}
+use Rattle.tmw_part.proofs.Shared.{All, All-from_recursion, AllByRecursion, Bool, Contains, Criterion, Event, ExplainsBy, HoldsIn, IsTrue, List, None, Option, Placed, ReasonStep, ReasonTells, Some, State, Txn, [], add_event, and_parts, arith, begin_apart, cases_Bool, eqb-true, filter, from_else, inl, inr, is_among, is_asked, length, list_all, list_any, map, may_come_from, nat_lt, ne_eqb, not, range_with_len, refl, slice_get, states_at, suc, take, transactions, transactions_from, true, zero, ℕ, ◌+◌, ◌<◌, ◌==◌, ◌∷◌, ◌≡◌}
 use Rattle.std.proofs.lemmas.List.Elements.{Contains-append_right, recursion_from_All}
-use Rattle.std.proofs.lemmas.Bool.{or_left, or_right}
 use Rattle.tmw_defs.proofs.Places.{Lies, lies-add}
 use Rattle.tmw_part.specs.declared.reason_case.Derivation.{Derivation}
 use Rattle.tmw_part.specs.declared.reason_step.ReasonStep.TheVariants.{From}
@@ -16,27 +15,14 @@ elsewhere t u = not (u.first == t.first)
 
 elsewhere-add : (place : ℕ) (e : Event) (t : Txn) (ts : List Txn) → t.first < place → IsTrue (list_all (elsewhere t) ts)
     → IsTrue (list_all (elsewhere t) (add_event place e ts))
-elsewhere-add place e t [] low all =
-    let new : IsTrue (elsewhere t (begun place e)) = rw (ne_eqb place t.first (λ same. omega (arith, low, same))) refl in and_from _ true new refl
-elsewhere-add place e t (u ∷ us) low all =
-    let (first, rest) = and_parts (elsewhere t u) _ all in
-    elim (cases_Bool (joins e u)) [
-      | inl here ↦ rw (add_event_here place e u us here) (and_from (elsewhere t u) _ first rest)
-      | inr past ↦ rw (add_event_past place e u us past) (and_from (elsewhere t u) _ first (elsewhere-add place e t us low rest))
-    ]
+elsewhere-add place e t [] low all = grind (arith, (ne_eqb place t.first))
+elsewhere-add place e t (u ∷ us) low all = grind (arith, (elsewhere-add place e t us low))
 
 apart-add : (place : ℕ) (e : Event) (ts : List Txn) → AllByRecursion (Lies 0 place) ts → IsTrue (begin_apart ts)
     → IsTrue (begin_apart (add_event place e ts))
 apart-add place e [] all apart = refl
 apart-add place e (u ∷ us) all apart =
-    let (other, others) = and_parts (list_all (elsewhere u) us) _ apart in
-    elim (cases_Bool (joins e u)) [
-      | inl here ↦ rw (add_event_here place e u us here) (and_from (list_all (elsewhere u) us) _ other others)
-      | inr past ↦
-          let l = all.0 in
-          rw (add_event_past place e u us past) (and_from (list_all (elsewhere u) (add_event place e us)) _
-          (elsewhere-add place e u us (omega (arith, l.ordered, l.high)) other) (apart-add place e us all.1 others))
-    ]
+    grind (arith, all.0.ordered, all.0.high, (elsewhere-add place e u us), (apart-add place e us all.1))
 
 apart-from : (place : ℕ) (ts : List Txn) (es : List Event) → AllByRecursion (Lies 0 place) ts → IsTrue (begin_apart ts)
     → IsTrue (begin_apart (transactions_from place ts es))
@@ -84,11 +70,10 @@ assumed_by : (s : ValueSource) (origins : List (Option ℕ)) (ds : List Derivati
     → IsTrue (assume_each s origins ds) → Contains origins w → IsTrue (list_any (assumes (from_else s w)) ds)
 assumed_by s [] ds w same each (k, low, at) = absurd (omega (arith, low))
 assumed_by s (o ∷ origins) [] w same each has = absurd (omega (arith, same))
-assumed_by s (o ∷ origins) (d ∷ ds) w same each (zero, low, at) =
-    or_left (assumes (from_else s w) d) _ (rw at at (and_parts (assumes (from_else s o) d) _ each).0)
+assumed_by s (o ∷ origins) (d ∷ ds) w same each (zero, low, at) = grind arith
 assumed_by s (o ∷ origins) (d ∷ ds) w same each (suc k, low, at) =
-    or_right (assumes (from_else s w) d) _
-    (assumed_by s origins ds w (omega (arith, same)) (and_parts (assumes (from_else s o) d) _ each).1 (k, omega (arith, low), at))
+    let later = assumed_by s origins ds w (omega (arith, same)) in
+    grind (arith, (later (and_parts (assumes (from_else s o) d) _ each).1 (k, omega (arith, low), at)))
 
 -- the only one
 only : (P : Derivation → Type 0) (ds : List Derivation) → AllByRecursion P ds → IsTrue (is_one ds) → Found P assumes_none

@@ -1,7 +1,7 @@
 -- Members and places of lists, and how many pass a test.
-use Rattle.tmw_part.proofs.Shared.{All, All-from_recursion, All-more, AllByRecursion, AreAmong, Bool, Contains, IfNone, IsTrue, List, None, Option, ReasonStep, Some, [], and_parts, ap, arith, cases_Bool, false, get_or, inl, inr, length, list_all, list_any, or_cases, range_with_len, refl, remove, slice_get, suc, sym, take, take_all, true, zero, ℕ, ◌++◌, ◌+◌, ◌<◌, ◌∙◌, ◌∷◌, ◌≡◌, ◌≤◌}
+use Rattle.tmw_part.proofs.Shared.{All, All-from_recursion, All-more, AllByRecursion, AreAmong, Bool, Contains, IfNone, IsTrue, List, None, Option, ReasonStep, Some, [], ap, arith, cases_Bool, false, get_or, inl, inr, length, list_all, list_any, or_cases, range_with_len, remove, slice_get, suc, sym, take, take_all, true, zero, ℕ, ◌++◌, ◌+◌, ◌<◌, ◌∙◌, ◌∷◌, ◌≡◌, ◌≤◌}
 use Rattle.std.specs.List.{filter, find}
-use Rattle.std.proofs.lemmas.Bool.{or_left, or_right}
+use Rattle.std.proofs.lemmas.List.Folds.{list_any-append}
 use Rattle.std.proofs.lemmas.List.Elements.{recursion_from_All}
 
 -- one that passes the test, of those of which each has P
@@ -18,23 +18,11 @@ find_any P test (x ∷ xs) all any =
       | inr later ↦ find_any P test xs all.1 later
     ]
 
--- a place that passes the test
-pub find_place : (test : ℕ → Bool) (from n : ℕ) → IsTrue (list_any test (range_with_len from n)) → (a : ℕ) × IsTrue (test a)
-find_place test from zero any = absurd (cc)
-find_place test from (suc n) any =
-    elim (or_cases (test from) _ any) [
-      | inl here ↦ (from, here)
-      | inr later ↦ find_place test (from + 1) n later
-    ]
-
 -- each place passes
 pub each_place : (test : ℕ → Bool) (from n a : ℕ) → IsTrue (list_all test (range_with_len from n)) → a < n → IsTrue (test (from + a))
 each_place test from zero a all low = absurd (omega (arith, low))
-each_place test from (suc n) zero all low =
-    let same : from ≡ from + 0 = omega arith in rw (← same) (and_parts (test from) _ all).0
-each_place test from (suc n) (suc a) all low =
-    let same : from + 1 + a ≡ from + suc a = omega arith in
-    rw (← same) (each_place test (from + 1) n a (and_parts (test from) _ all).1 (omega (arith, low)))
+each_place test from (suc n) zero all low = grind arith
+each_place test from (suc n) (suc a) all low = grind (arith, (each_place test (from + 1) n a))
 
 pub none_all : {A : Type 0} (P : A → Type 0) (xs : List A) → AllByRecursion P (take 0 xs)
 none_all P [] = tt
@@ -46,11 +34,6 @@ pub all-more : {A : Type 0} (P : A → Type 0) (xs : List A) (n : ℕ) (x : A) �
 all-more P [] n x at holds all = absurd (cc)
 all-more P (y ∷ ys) zero x at holds all = let same : y ≡ x = cc in (rw same holds, none_all P ys)
 all-more P (y ∷ ys) (suc n) x at holds all = (all.0, all-more P ys n x at holds all.1)
-
-pub get_some : {A : Type 0} (xs : List A) (n : ℕ) → n < length xs → (x : A) × (slice_get xs n ≡ Some x)
-get_some [] n low = absurd (omega (arith, low))
-get_some (x ∷ xs) zero low = (x, refl)
-get_some (x ∷ xs) (suc n) low = get_some xs n (omega (arith, low))
 
 -- what each is, each is but for one that is removed
 all-remove : {A : Type 0} (P : A → Type 0) (xs : List A) (i : ℕ) → AllByRecursion P xs → AllByRecursion P (remove xs i)
@@ -66,15 +49,7 @@ among-remove steps i = λ all are. All-from_recursion (Contains all) (remove ste
 -- where each that passes the one test passes the other, no more pass; and fewer, where one that passes this does not pass that
 count-most : {A : Type 0} (p q : A → Bool) (xs : List A) → ((x : A) → p x ≡ true → q x ≡ true) → length (filter p xs) ≤ length (filter q xs)
 count-most p q [] most = omega arith
-count-most p q (x ∷ xs) most =
-    let rest = count-most p q xs most in
-    elim (cases_Bool (p x)) [
-      | inl is ↦ rw (is, most x is) (omega (arith, rest))
-      | inr no_p ↦ elim (cases_Bool (q x)) [
-        | inl is ↦ rw (no_p, is) (omega (arith, rest))
-        | inr no_q ↦ rw (no_p, no_q) (omega (arith, rest))
-      ]
-    ]
+count-most p q (x ∷ xs) most = grind (arith, (most x), (count-most p q xs most))
 
 some_same : {A : Type 0} {x y : A} → Some x ≡ Some y → x ≡ y
 some_same e = cc
@@ -83,23 +58,7 @@ pub count-fewer : {A : Type 0} (p q r : A → Bool) (xs : List A) (x : A) → ((
     → q x ≡ true → p x ≡ false → length (filter p xs) < length (filter q xs)
 count-fewer p q r [] x most found has out = absurd (cc)
 count-fewer p q r (y ∷ xs) x most found has out =
-    elim (cases_Bool (r y)) [
-      | inl is ↦
-          let same : y ≡ x = some_same (rw is at found) in
-          let rest = count-most p q xs most in
-          let in_q : q y ≡ true = ap q same ∙ has in
-          let no_p : p y ≡ false = ap p same ∙ out in
-          rw (in_q, no_p) (omega (arith, rest))
-      | inr no_r ↦
-          let rest = count-fewer p q r xs x most (rw no_r at found) has out in
-          elim (cases_Bool (p y)) [
-            | inl is ↦ rw (is, most y is) (omega (arith, rest))
-            | inr no_p ↦ elim (cases_Bool (q y)) [
-              | inl is ↦ rw (no_p, is) (omega (arith, rest))
-              | inr no_q ↦ rw (no_p, no_q) (omega (arith, rest))
-            ]
-          ]
-    ]
+    grind (arith, (most y), (count-most p q xs most), (count-fewer p q r xs x most))
 
 -- what is found passes, and is a member; where nothing is found none passes
 pub find-some : {A : Type 0} (p : A → Bool) (xs : List A) (x : A) → find p xs ≡ Some x → (p x ≡ true) × Contains xs x
@@ -112,11 +71,7 @@ find-some p (y ∷ xs) x found =
 
 pub find-none : {A : Type 0} (p : A → Bool) (xs : List A) → find p xs ≡ None → AllByRecursion (λ x. p x ≡ false) xs
 find-none p [] none = tt
-find-none p (y ∷ xs) none =
-    elim (cases_Bool (p y)) [
-      | inl is ↦ let bad = rw is at none in absurd (cc)
-      | inr no_p ↦ (no_p, find-none p xs (rw no_p at none))
-    ]
+find-none p (y ∷ xs) none = grind (arith, (find-none p xs))
 
 -- where nothing is found, each of the first so many has P
 pub none-more : {A B : Type 0} (best : Option B) (P : A → Type 0) (xs : List A) (i : ℕ) (d : A) → i < length xs → IfNone best (All P (take i xs))
@@ -131,13 +86,7 @@ none-whole (Some x) P xs i all_seen all = tt
 
 -- one that passes the test passes among more
 pub any-more : {A : Type 0} (p : A → Bool) (xs : List A) (x : A) → IsTrue (list_any p xs) → IsTrue (list_any p (xs ++ x ∷ []))
-any-more p [] x any = absurd (cc)
-any-more p (y ∷ xs) x any =
-    elim (cases_Bool (p y)) [
-      | inl is ↦ or_left (p y) _ is
-      | inr no_p ↦ or_right (p y) _ (any-more p xs x (rw no_p at any))
-    ]
+any-more p xs x any = grind (arith, list_any-append)
 
 pub any-last : {A : Type 0} (p : A → Bool) (xs : List A) (x : A) → IsTrue (p x) → IsTrue (list_any p (xs ++ x ∷ []))
-any-last p [] x is = or_left (p x) _ is
-any-last p (y ∷ xs) x is = or_right (p y) _ (any-last p xs x is)
+any-last p xs x is = grind (arith, list_any-append)

@@ -1,26 +1,17 @@
 -- With more events a history has as many transactions as before or more, and does not become well-formed.
-use Rattle.tmw_part.proofs.Shared.{AreUnfit, Bool, Event, List, Txn, [], add_event, add_event_here, add_event_past, and_from, and_parts, answers, ap, arith, cases_Bool, drop, ends, false, get_or, inl, inr, is_call, is_text, is_well_formed, joins, length, length-add_event, list_all, not, refl, subst, sym, take, take-append-drop, take_more, transactions, transactions_from, true, ℕ, ◌&&◌, ◌++◌, ◌+◌, ◌<◌, ◌∙◌, ◌∷◌, ◌≡◌, ◌≤◌}
+use Rattle.tmw_part.proofs.Shared.{AreUnfit, Bool, Event, List, Txn, [], add_event, add_event_here, add_event_past, and_from, and_parts, ap, arith, cases_Bool, drop, get_or, inl, inr, is_text, is_well_formed, joins, length, length-add_event, list_all, refl, subst, sym, take, take-append-drop, take_more, transactions, transactions_from, true, ℕ, ◌++◌, ◌+◌, ◌<◌, ◌∙◌, ◌∷◌, ◌≡◌, ◌≤◌}
 use Rattle.tmw_events.specs.declared.event.Kind.{Kind}
 use Rattle.tmw_defs.proofs.Places.{transactions_from-append}
 
 length-more : (place : ℕ) (ts : List Txn) (es : List Event) → length ts ≤ length (transactions_from place ts es)
 length-more place ts [] = omega arith
-length-more place ts (e ∷ es) =
-    let more = length-more (place + 1) (add_event place e ts) es in
-    elim (length-add_event place e ts) [
-      | inl same ↦ omega (arith, more, same)
-      | inr grown ↦ omega (arith, more, grown)
-    ]
+length-more place ts (e ∷ es) = grind (arith, (length-more (place + 1) (add_event place e ts) es), (length-add_event place e ts))
 
 text-before : (registers : ℕ) (text : List Kind) (k : Kind) → is_text registers (text ++ k ∷ []) ≡ true → is_text registers text ≡ true
 text-before registers [] k formed = refl
-text-before registers (c ∷ []) k formed = (and_parts (is_call registers c) (answers c k) formed).0
-text-before registers (c ∷ a ∷ []) k formed =
-    let (front, rest) = and_parts (is_call registers c && answers c a && not (ends a)) (is_text registers (k ∷ [])) formed in
-    (and_parts (is_call registers c && answers c a) (not (ends a)) front).0
-text-before registers (c ∷ a ∷ b ∷ more) k formed =
-    let (front, rest) = and_parts (is_call registers c && answers c a && not (ends a)) (is_text registers (b ∷ more ++ k ∷ [])) formed in
-    and_from (is_call registers c && answers c a && not (ends a)) (is_text registers (b ∷ more)) front (text-before registers (b ∷ more) k rest)
+text-before registers (c ∷ []) k formed = grind arith
+text-before registers (c ∷ a ∷ []) k formed = grind arith
+text-before registers (c ∷ a ∷ b ∷ more) k formed = grind (arith, (text-before registers (b ∷ more) k))
 
 abbrev are_texts : ℕ → List Txn → Bool
 are_texts registers ts = list_all (λ t. is_text registers t.text) ts
@@ -64,9 +55,4 @@ take-next events place event within is =
 
 -- what is unfit stays so with more events
 pub unfit-begun : (registers n : ℕ) (h : List Event) → AreUnfit registers (take n h) → AreUnfit registers h
-unfit-begun registers n h (inl ill_formed) =
-    elim (cases_Bool (is_well_formed registers h)) [
-      | inl formed ↦ let bad : true ≡ false = sym (formed-begun registers n h formed) ∙ ill_formed in absurd (cc)
-      | inr stays ↦ inl stays
-    ]
-unfit-begun registers n h (inr many) = let more = fewer-begun n h in inr (omega (arith, many, more))
+unfit-begun registers n h unfit = grind (arith, cases_Bool, (formed-begun registers n h), (fewer-begun n h))

@@ -1,5 +1,5 @@
 -- What holds of the transactions that a serial order places.
-use Rattle.tmw_part.proofs.Shared.{Bool, Committed, Criterion, ExplainsBy, IsTrue, List, Opacity, Placed, PlacesEach, Some, State, Strict, Txn, [], and_from, and_parts, ap, arith, begin_apart, cases_Bool, eq-eqb, eqb-true, false, inl, inr, is_legal, keeps_order, list_all, may_be, may_hold, not, not-true, precedes, refl, remove, slice_get, status_of, suc, sym, zero, ℕ, ◌<◌, ◌==◌, ◌∙◌, ◌∷◌, ◌≡◌, ◌⊎◌}
+use Rattle.tmw_part.proofs.Shared.{begin_apart, Bool, Committed, Criterion, ExplainsBy, IsTrue, List, Opacity, Placed, PlacesEach, Some, State, Strict, Txn, [], and_parts, ap, arith, eq-eqb, false, inl, inr, is_legal, keeps_order, list_all, may_be, not, precedes, refl, remove, slice_get, status_of, suc, sym, zero, ℕ, ◌<◌, ◌==◌, ◌∙◌, ◌∷◌, ◌≡◌, ◌⊎◌}
 use Rattle.tmw_defs.specs.Strict.{AreHeld}
 use Rattle.tmw_defs.proofs.Completions.{list_all-held}
 use Rattle.tmw_defs.proofs.Removals.{list_all-remove}
@@ -7,8 +7,8 @@ use Rattle.tmw_defs.proofs.Removals.{list_all-remove}
 -- what holds of each holds of the one at a place
 pub all_at : {A : Type 0} (p : A → Bool) (xs : List A) (i : ℕ) (x : A) → IsTrue (list_all p xs) → slice_get xs i ≡ Some x → IsTrue (p x)
 all_at p [] i x all at = absurd (cc)
-all_at p (y ∷ ys) zero x all at = let same : y ≡ x = cc in rw (← same) (and_parts (p y) _ all).0
-all_at p (y ∷ ys) (suc i) x all at = all_at p ys i x (and_parts (p y) _ all).1 at
+all_at p (y ∷ ys) zero x all at = grind arith
+all_at p (y ∷ ys) (suc i) x all at = grind (arith, (all_at p ys i x))
 
 -- the test that a transaction begins elsewhere
 abbrev elsewhere : Txn → Txn → Bool
@@ -22,14 +22,9 @@ pub apart : (ts : List Txn) → IsTrue (begin_apart ts) → (a b : ℕ) (t u : T
     → t.first ≡ u.first → a ≡ b
 apart [] all a b t u at there same = absurd (cc)
 apart (x ∷ ts) all zero zero t u at there same = refl
-apart (x ∷ ts) all zero (suc b) t u at there same =
-    let is : x ≡ t = cc in
-    absurd (not_elsewhere x u (all_at (elsewhere x) ts b u (and_parts (list_all (elsewhere x) ts) _ all).0 there) (sym same ∙ rw is refl))
-apart (x ∷ ts) all (suc a) zero t u at there same =
-    let is : x ≡ u = cc in
-    absurd (not_elsewhere x t (all_at (elsewhere x) ts a t (and_parts (list_all (elsewhere x) ts) _ all).0 at) (same ∙ rw is refl))
-apart (x ∷ ts) all (suc a) (suc b) t u at there same =
-    ap (λ n. suc n) (apart ts (and_parts (list_all (elsewhere x) ts) _ all).1 a b t u at there same)
+apart (x ∷ ts) all zero (suc b) t u at there same = grind (arith, (all_at (elsewhere x) ts b u))
+apart (x ∷ ts) all (suc a) zero t u at there same = grind (arith, (all_at (elsewhere x) ts a t))
+apart (x ∷ ts) all (suc a) (suc b) t u at there same = grind (arith, (apart ts (and_parts (list_all (elsewhere x) ts) _ all).1 a b t u at there same))
 
 -- a member is the one that is taken out, or among the rest
 in_rest : {A : Type 0} (xs : List A) (i a : ℕ) (y : A) → slice_get xs a ≡ Some y → (a ≡ i) ⊎ ((b : ℕ) × (slice_get (remove xs i) b ≡ Some y))
@@ -55,20 +50,8 @@ of_rest (x ∷ xs) (suc i) (suc b) y at = let more = of_rest xs i b y at in (suc
 apart-remove : (ts : List Txn) (i : ℕ) (t : Txn) → IsTrue (begin_apart ts) → slice_get ts i ≡ Some t
     → IsTrue (list_all (elsewhere t) (remove ts i)) × IsTrue (begin_apart (remove ts i))
 apart-remove [] i t all at = absurd (cc)
-apart-remove (x ∷ ts) zero t all at =
-    let is : x ≡ t = cc in rw (← is) (and_parts (list_all (elsewhere x) ts) _ all)
-apart-remove (x ∷ ts) (suc i) t all at =
-    let (first, more) = and_parts (list_all (elsewhere x) ts) _ all in
-    let (others, rest) = apart-remove ts i t more at in
-    let (far, left) = and_parts (elsewhere x t) _ (sym (list_all-remove (elsewhere x) ts i t at) ∙ first) in
-    (and_from (elsewhere t x) _ (turned far) others, and_from (list_all (elsewhere x) (remove ts i)) _ left rest)
-  where
-    turned : IsTrue (elsewhere x t) → IsTrue (elsewhere t x)
-    turned far =
-        elim (cases_Bool (x.first == t.first)) [
-          | inl is ↦ absurd (not_elsewhere x t far (sym (eqb-true x.first t.first is)))
-          | inr is ↦ rw is refl
-        ]
+apart-remove (x ∷ ts) zero t all at = grind arith
+apart-remove (x ∷ ts) (suc i) t all at = grind (arith, (list_all-remove (elsewhere x) ts i t), (apart-remove ts i t))
 
 -- what an order places is one of the transactions
 placed_from : (ts : List Txn) (order : List Placed) → PlacesEach ts order → (i : ℕ) (p : Placed) → slice_get order i ≡ Some p
@@ -123,12 +106,8 @@ kept_at : (order : List Placed) → IsTrue (keeps_order order) → (i j : ℕ) (
     → slice_get order j ≡ Some q → precedes q.txn p.txn ≡ false
 kept_at [] kept i j p q low at there = absurd (cc)
 kept_at (x ∷ more) kept i zero p q low at there = absurd (omega (arith, low))
-kept_at (x ∷ more) kept zero (suc j) p q low at there =
-    let is : x ≡ p = cc in
-    let free = (and_parts (list_all (λ r. not (precedes r.txn x.txn)) more) _ kept).0 in
-    rw (← is) (not-true _ (all_at (λ r. not (precedes r.txn x.txn)) more j q free there))
-kept_at (x ∷ more) kept (suc i) (suc j) p q low at there =
-    kept_at more (and_parts (list_all (λ r. not (precedes r.txn x.txn)) more) _ kept).1 i j p q (omega (arith, low)) at there
+kept_at (x ∷ more) kept zero (suc j) p q low at there = grind (arith, (all_at (λ r. not (precedes r.txn x.txn)) more j q))
+kept_at (x ∷ more) kept (suc i) (suc j) p q low at there = grind (arith, (kept_at more (and_parts (list_all (λ r. not (precedes r.txn x.txn)) more) _ kept).1 i j p q))
 
 -- what a completion holds is one of the transactions, each committed one is, and they begin apart
 held_from : (ts members : List Txn) → AreHeld ts members → (b : ℕ) (t : Txn) → slice_get members b ≡ Some t
@@ -149,32 +128,17 @@ held_from (x ∷ ts) members are b t at =
 committed_held : (ts members : List Txn) → AreHeld ts members → (a : ℕ) (t : Txn) → slice_get ts a ≡ Some t
     → status_of t.text ≡ Committed → (b : ℕ) × (slice_get members b ≡ Some t)
 committed_held [] members are a t at committed = absurd (cc)
-committed_held (x ∷ ts) members are zero t at committed =
-    let same : x ≡ t = cc in
-    elim are [
-      | inl out ↦
-          let may : IsTrue (may_hold (status_of t.text) false) = rw (← same) out.0 in
-          let never : IsTrue (may_hold Committed false) = rw committed at may in absurd (cc)
-      | inr held ↦ let (may, more, is, others) = held in (zero, rw is at)
-    ]
-committed_held (x ∷ ts) members are (suc a) t at committed =
-    elim are [
-      | inl out ↦ committed_held ts members out.1 a t at committed
-      | inr held ↦
-          let (may, more, is, others) = held in
-          let found = committed_held ts more others a t at committed in (suc found.0, rw is found.1)
-    ]
+committed_held (x ∷ ts) members (inl out) zero t at committed = grind arith
+committed_held (x ∷ ts) members (inl out) (suc a) t at committed = committed_held ts members out.1 a t at committed
+committed_held (x ∷ ts) members (inr (may, more, is, others)) zero t at committed = (zero, rw is at)
+committed_held (x ∷ ts) members (inr (may, more, is, others)) (suc a) t at committed =
+    let found = committed_held ts more others a t at committed in (suc found.0, rw is found.1)
 
 held_apart : (ts members : List Txn) → AreHeld ts members → IsTrue (begin_apart ts) → IsTrue (begin_apart members)
 held_apart [] members are all = rw are refl
-held_apart (x ∷ ts) members are all =
-    let (first, rest) = and_parts (list_all (elsewhere x) ts) _ all in
-    elim are [
-      | inl out ↦ held_apart ts members out.1 rest
-      | inr held ↦
-          let (may, more, is, others) = held in
-          rw is (and_from (list_all (elsewhere x) more) _ (list_all-held (elsewhere x) ts more others first) (held_apart ts more others rest))
-    ]
+held_apart (x ∷ ts) members (inl out) all = held_apart ts members out.1 (and_parts (list_all (elsewhere x) ts) _ all).1
+held_apart (x ∷ ts) members (inr (may, more, is, others)) all =
+    grind (arith, (list_all-held (elsewhere x) ts more others), (held_apart ts more others))
 
 -- each order has the transaction: by opacity any, by strict serializability a committed one
 abbrev pub IsIn : Criterion → Txn → Type 0

@@ -1,161 +1,72 @@
 -- What the registers hold along a serial order: what the last that is held and changes them left, or what the start has.
-use Rattle.tmw_part.proofs.Shared.{Add, Changes, IsTrue, IsUnchanged, List, None, Op, Option, Placed, Read, Some, State, Write, [], after, after_writes, and_parts, ap, arith, cases_Bool, end_state, eq-eqb, eqb-false, eqb-true, false, first_unlike, get_or-set_other, get_or-set_same, if◌then◌else◌, inl, inr, is_legal, is_some_of, left_by, length, length-set, needs, not, not-true, operations, or_cases, or_parts, reads_hold, refl, slice_get, slice_index, slice_set, suc, sym, take, unlike_or, writes, zero, ℕ, ◌%◌, ◌&&◌, ◌+◌, ◌<◌, ◌==◌, ◌^◌, ◌||◌, ◌∙◌, ◌∷◌, ◌≡◌, ◌⊎◌}
-use Rattle.std.specs.Prelude.{replicate}
-use Rattle.tmw_events.specs.declared.ix.Ix.{Ix}
+use Rattle.tmw_part.proofs.Shared.{Changes, IsUnchanged, first_unlike, is_some_of, needs, unlike_or, Add, IsTrue, List, None, Op, Option, Placed, Read, Some, State, Write, [], after, and_parts, ap, arith, cases_Bool, end_state, eq-eqb, eqb-true, false, if◌then◌else◌, inl, inr, is_legal, left_by, length, length-set, operations, reads_hold, refl, slice_get, slice_index, slice_set, suc, sym, take, writes, zero, ℕ, ◌%◌, ◌&&◌, ◌+◌, ◌<◌, ◌==◌, ◌^◌, ◌∙◌, ◌∷◌, ◌≡◌, ◌⊎◌}
+use Rattle.tmw_search.proofs.OneEnd.{after-final, final, final-kept, index-set, length-after}
 
--- a register that is set, and another
-set_here : (s : State) (q : Ix) (r v : ℕ) → length s ≡ 8 → IsTrue (q.number == r) → slice_index (slice_set s q.number v) r ≡ v
-set_here s q r v long is =
-    let same : q.number ≡ r = eqb-true q.number r is in
-    let below : q.number < 8 = q.below in
-    rw (← same) (get_or-set_same s q.number v 0 (omega (arith, below, long)))
-
-set_else : (s : State) (q : Ix) (r v : ℕ) → (q.number == r) ≡ false → slice_index (slice_set s q.number v) r ≡ slice_index s r
-set_else s q r v other = get_or-set_other s q.number r v 0 (λ is. eqb-false q.number r other (sym is))
-
-length-after_writes : (s : State) (ops : List Op) → length (after_writes s ops) ≡ length s
-length-after_writes s [] = refl
-length-after_writes s (Read q v ∷ ops) = length-after_writes s ops
-length-after_writes s (Write q v ∷ ops) = length-after_writes (slice_set s q.number v) ops ∙ length-set s q.number v
-length-after_writes s (Add q d v ∷ ops) =
-    length-after_writes (slice_set s q.number ((v + d) % 2 ^ 64)) ops ∙ length-set s q.number ((v + d) % 2 ^ 64)
-
-length-after : (s : State) (p : Placed) → length (after s p) ≡ length s
-length-after s p =
-    elim (cases_Bool p.held) [
-      | inl is ↦ rw is (length-after_writes s (operations p.txn.text))
-      | inr is ↦ rw is refl
-    ]
-
--- operations that write no register leave it as it was
-unwritten : (s : State) (r : ℕ) (ops : List Op) → writes r ops ≡ false → slice_index (after_writes s ops) r ≡ slice_index s r
-unwritten s r [] not_so = refl
-unwritten s r (Read q v ∷ ops) not_so = unwritten s r ops not_so
-unwritten s r (Write q v ∷ ops) not_so =
-    let (other, more) = or_parts (q.number == r) _ not_so in unwritten (slice_set s q.number v) r ops more ∙ set_else s q r v other
-unwritten s r (Add q d v ∷ ops) not_so =
-    let (other, more) = or_parts (q.number == r) _ not_so in
-    unwritten (slice_set s q.number ((v + d) % 2 ^ 64)) r ops more ∙ set_else s q r ((v + d) % 2 ^ 64) other
-
--- what operations leave in a register that they write is what it holds after them
-left-set : (s : State) (q : Ix) (r v : ℕ) (ops : List Op) (before : Option ℕ) → length s ≡ 8
-    → ((b : Option ℕ) → left_by r b ops ≡ (if writes r ops then Some (slice_index (after_writes (slice_set s q.number v) ops) r) else b))
-    → left_by r (if q.number == r then Some v else before) ops
-    ≡ (if (q.number == r) || writes r ops then Some (slice_index (after_writes (slice_set s q.number v) ops) r) else before)
-left-set s q r v ops before long rest =
-    elim (cases_Bool (q.number == r)) [
-      | inr other ↦ rw other (rest before)
-      | inl here ↦ elim (cases_Bool (writes r ops)) [
-        | inl later ↦ rw here (rw later at (rest (Some v)))
-        | inr none ↦
-            let held : slice_index (after_writes (slice_set s q.number v) ops) r ≡ v =
-            unwritten (slice_set s q.number v) r ops none ∙ set_here s q r v long here in
-            rw here ((rw none at (rest (Some v))) ∙ ap (λ x. Some x) (sym held))
-      ]
-    ]
-
-left-after : (s : State) (r : ℕ) (ops : List Op) (before : Option ℕ) → length s ≡ 8
-    → left_by r before ops ≡ (if writes r ops then Some (slice_index (after_writes s ops) r) else before)
-left-after s r [] before long = refl
-left-after s r (Read q v ∷ ops) before long = left-after s r ops before long
-left-after s r (Write q v ∷ ops) before long =
-    left-set s q r v ops before long (λ b. left-after (slice_set s q.number v) r ops b (length-set s q.number v ∙ long))
-left-after s r (Add q d v ∷ ops) before long =
-    let sum = (v + d) % 2 ^ 64 in
-    left-set s q r sum ops before long (λ b. left-after (slice_set s q.number sum) r ops b (length-set s q.number sum ∙ long))
+-- what operations leave in a register is what it holds after them, if they write it
+left-final : (r x : ℕ) (before : Option ℕ) (ops : List Op)
+    → left_by r before ops ≡ (if writes r ops then Some (final r x ops) else before)
+left-final r x before [] = refl
+left-final r x before (Read q v ∷ ops) = left-final r x before ops
+left-final r x before (Write q v ∷ ops) =
+    grind (arith, (final-kept r v ops), (left-final r (if q.number == r then v else x) (if q.number == r then Some v else before) ops))
+left-final r x before (Add q d v ∷ ops) =
+    let w = (v + d) % 2 ^ 64 in
+    grind (arith, (final-kept r w ops), (left-final r (if q.number == r then w else x) (if q.number == r then Some w else before) ops))
 
 -- operations that leave a value write it
 pub left-writes : (r left : ℕ) (ops : List Op) → IsTrue (is_some_of left (left_by r None ops)) → IsTrue (writes r ops)
-left-writes r left ops leaves =
-    let is = left-after (replicate 8 0) r ops None refl in
-    elim (cases_Bool (writes r ops)) [
-      | inl any ↦ any
-      | inr none ↦ let bad = rw (is, none) at leaves in absurd (cc)
-    ]
-
--- an answer that the register holds
-found : (s : State) (q : Ix) (r w v : ℕ) → IsTrue (q.number == r) → IsTrue (w == v) → IsTrue (slice_index s q.number == w) → slice_index s r ≡ v
-found s q r w v one two here = ap (slice_index s) (sym (eqb-true q.number r one)) ∙ eqb-true (slice_index s q.number) w here ∙ eqb-true w v two
+left-writes r left ops leaves = grind (arith, (left-final r 0 None ops))
 
 -- what operations need is what the register holds before them
-pub needs_holds : (s : State) (r v : ℕ) (ops : List Op) → IsTrue (reads_hold s ops) → IsTrue (needs r v ops) → slice_index s r ≡ v
-needs_holds s r v [] reads is = absurd (cc)
-needs_holds s r v (Read q w ∷ ops) reads is =
-    let (here, rest) = and_parts (slice_index s q.number == w) _ reads in
-    elim (or_cases ((q.number == r) && (w == v)) _ is) [
-      | inl both ↦ let (one, two) = and_parts (q.number == r) _ both in found s q r w v one two here
-      | inr more ↦ needs_holds s r v ops rest more
-    ]
-needs_holds s r v (Write q w ∷ ops) reads is =
-    let (other, more) = and_parts (not (q.number == r)) _ is in
-    sym (set_else s q r w (not-true _ other)) ∙ needs_holds (slice_set s q.number w) r v ops reads more
-needs_holds s r v (Add q d w ∷ ops) reads is =
-    let (here, rest) = and_parts (slice_index s q.number == w) _ reads in
-    let sum = (w + d) % 2 ^ 64 in
-    elim (cases_Bool (q.number == r)) [
-      | inl one ↦ found s q r w v one (rw one at is) here
-      | inr other ↦ sym (set_else s q r sum other) ∙ needs_holds (slice_set s q.number sum) r v ops rest (rw other at is)
-    ]
+pub needs_holds : (s : State) (r v : ℕ) (ops : List Op) → r < length s → IsTrue (reads_hold s ops) → IsTrue (needs r v ops) → slice_index s r ≡ v
+needs_holds s r v [] within reads is = absurd (cc)
+needs_holds s r v (Read q w ∷ ops) within reads is =
+    grind (arith, (needs_holds s r v ops within), (eqb-true q.number r), (eqb-true w v), (eqb-true (slice_index s q.number) w))
+needs_holds s r v (Write q w ∷ ops) within reads is =
+    grind (arith, (needs_holds (slice_set s q.number w) r v ops (rw length-set within)), (index-set s q.number r w within))
+needs_holds s r v (Add q d w ∷ ops) within reads is =
+    let x = (w + d) % 2 ^ 64 in
+    grind (arith, (needs_holds (slice_set s q.number x) r v ops (rw length-set within)), (index-set s q.number r x within), (eqb-true q.number r), (eqb-true w v), (eqb-true (slice_index s q.number) w))
 
 -- what is known of a register, where it is right
 abbrev pub Fits : State → ℕ → Option ℕ → Type 0
 Fits s r None = Unit {0}
 Fits s r (Some v) = slice_index s r ≡ v
 
-fits-set : (s : State) (q : Ix) (r v : ℕ) (known : Option ℕ) → length s ≡ 8 → Fits s r known
-    → Fits (slice_set s q.number v) r (if q.number == r then Some v else known)
-fits-set s q r v None long fits =
-    elim (cases_Bool (q.number == r)) [
-      | inl here ↦ rw here (set_here s q r v long here)
-      | inr other ↦ rw other tt
-    ]
-fits-set s q r v (Some x) long fits =
-    elim (cases_Bool (q.number == r)) [
-      | inl here ↦ rw here (set_here s q r v long here)
-      | inr other ↦ rw other (set_else s q r v other ∙ fits)
-    ]
+fits-set : (s : State) (q r v : ℕ) (known : Option ℕ) → r < length s → Fits s r known
+    → Fits (slice_set s q v) r (if q == r then Some v else known)
+fits-set s q r v None within fits = grind (arith, (index-set s q r v within))
+fits-set s q r v (Some x) within fits = grind (arith, (index-set s q r v within))
 
-fits-read : (s : State) (q : Ix) (r v : ℕ) (known : Option ℕ) → IsTrue (slice_index s q.number == v) → Fits s r known
-    → Fits s r (if q.number == r then Some v else known)
-fits-read s q r v known here fits =
-    elim (cases_Bool (q.number == r)) [
-      | inl is ↦
-          let same : q.number ≡ r = eqb-true q.number r is in
-          rw is (ap (slice_index s) (sym same) ∙ eqb-true (slice_index s q.number) v here)
-      | inr other ↦ rw other fits
-    ]
+fits-read : (s : State) (q r v : ℕ) (known : Option ℕ) → IsTrue (slice_index s q == v) → Fits s r known
+    → Fits s r (if q == r then Some v else known)
+fits-read s q r v None here fits = grind (arith, (eqb-true q r), (eqb-true (slice_index s q) v))
+fits-read s q r v (Some x) here fits = grind (arith, (eqb-true q r), (eqb-true (slice_index s q) v))
 
 unlike-none : (known : Option ℕ) (rest : Option (ℕ × ℕ)) → unlike_or known None rest ≡ rest
 unlike-none None rest = refl
 unlike-none (Some x) rest = refl
 
 -- an operation that is answered what the register holds is answered what is known
-like_known : (s : State) (r : ℕ) (known : Option ℕ) (q : Ix) (v : ℕ) (rest : Option (ℕ × ℕ)) → Fits s r known → IsTrue (slice_index s q.number == v)
-    → unlike_or known (if q.number == r then Some v else None) rest ≡ rest
+like_known : (s : State) (r : ℕ) (known : Option ℕ) (q v : ℕ) (rest : Option (ℕ × ℕ)) → Fits s r known → IsTrue (slice_index s q == v)
+    → unlike_or known (if q == r then Some v else None) rest ≡ rest
 like_known s r None q v rest fits here = refl
-like_known s r (Some x) q v rest fits here =
-    elim (cases_Bool (q.number == r)) [
-      | inl is ↦
-          let same : x ≡ v = sym fits ∙ ap (slice_index s) (sym (eqb-true q.number r is)) ∙ eqb-true (slice_index s q.number) v here in
-          rw (is, eq-eqb x v same) refl
-      | inr other ↦ rw other refl
-    ]
+like_known s r (Some x) q v rest fits here = grind (arith, (eqb-true q r), (eqb-true (slice_index s q) v), (eq-eqb x v))
 
 -- so operations that are answered what the registers hold read nothing unlike
-pub reads_alike : (s : State) (r : ℕ) (known : Option ℕ) (ops : List Op) → length s ≡ 8 → Fits s r known → IsTrue (reads_hold s ops)
+pub reads_alike : (s : State) (r : ℕ) (known : Option ℕ) (ops : List Op) → r < length s → Fits s r known → IsTrue (reads_hold s ops)
     → first_unlike r known ops ≡ None
-reads_alike s r known [] long fits reads = refl
-reads_alike s r known (Read q v ∷ ops) long fits reads =
+reads_alike s r known [] within fits reads = refl
+reads_alike s r known (Read q v ∷ ops) within fits reads =
     let (here, rest) = and_parts (slice_index s q.number == v) _ reads in
-    like_known s r known q v _ fits here ∙ reads_alike s r _ ops long (fits-read s q r v known here fits) rest
-reads_alike s r known (Write q v ∷ ops) long fits reads =
-    unlike-none known _
-    ∙ reads_alike (slice_set s q.number v) r _ ops (length-set s q.number v ∙ long) (fits-set s q r v known long fits) reads
-reads_alike s r known (Add q d v ∷ ops) long fits reads =
-    let sum = (v + d) % 2 ^ 64 in
+    like_known s r known q.number v _ fits here ∙ reads_alike s r _ ops within (fits-read s q.number r v known here fits) rest
+reads_alike s r known (Write q v ∷ ops) within fits reads =
+    unlike-none known _ ∙ reads_alike (slice_set s q.number v) r _ ops (rw length-set within) (fits-set s q.number r v known within fits) reads
+reads_alike s r known (Add q d v ∷ ops) within fits reads =
+    let w = (v + d) % 2 ^ 64 in
     let (here, rest) = and_parts (slice_index s q.number == v) _ reads in
-    like_known s r known q v _ fits here
-    ∙ reads_alike (slice_set s q.number sum) r _ ops (length-set s q.number sum ∙ long) (fits-set s q r sum known long fits) rest
+    like_known s r known q.number v _ fits here
+    ∙ reads_alike (slice_set s q.number w) r _ ops (rw length-set within) (fits-set s q.number r w known within fits) rest
 
 -- the state before a place of an order
 abbrev pub state_at : State → List Placed → ℕ → State
@@ -165,16 +76,16 @@ state_at s order j = end_state s (take j order)
 pub reads_at : (s : State) (order : List Placed) (j : ℕ) (p : Placed) → IsTrue (is_legal s order) → slice_get order j ≡ Some p
     → IsTrue (reads_hold (state_at s order j) (operations p.txn.text))
 reads_at s [] j p legal at = absurd (cc)
-reads_at s (x ∷ order) zero p legal at =
-    let same : x ≡ p = cc in rw (← same) (and_parts (reads_hold s (operations x.txn.text)) _ legal).0
+reads_at s (x ∷ order) zero p legal at = grind arith
 reads_at s (x ∷ order) (suc j) p legal at =
     reads_at (after s x) order j p (and_parts (reads_hold s (operations x.txn.text)) _ legal).1 at
 
-pub length-state_at : (s : State) (order : List Placed) (j : ℕ) → length (state_at s order j) ≡ length s
-length-state_at s [] zero = refl
-length-state_at s [] (suc j) = refl
-length-state_at s (x ∷ order) zero = refl
-length-state_at s (x ∷ order) (suc j) = length-state_at (after s x) order j ∙ length-after s x
+-- what a transaction leaves of a register after it, if it is held and writes that
+after-one : (s : State) (p : Placed) (r : ℕ) → r < length s
+    → (if p.held && writes r (operations p.txn.text) then left_by r None (operations p.txn.text) else Some (slice_index s r))
+    ≡ Some (slice_index (after s p) r)
+after-one s p r within =
+    grind (arith, cases_Bool, (left-final r (slice_index s r) None (operations p.txn.text)), (after-final s (operations p.txn.text) r within), (final-kept r (slice_index s r) (operations p.txn.text)))
 
 -- the last that is held and writes the register before the place, and what it leaves
 pub record LastLeft (s : State) (order : List Placed) (r j : ℕ) : Type 0 where
@@ -196,22 +107,18 @@ unchanged-after : (x : Placed) (order : List Placed) (r i j : ℕ) → IsUnchang
 unchanged-after x order r i j un zero low high c = absurd (omega (arith, low))
 unchanged-after x order r i j un (suc k) low high c = un k (omega (arith, low)) (omega (arith, high)) (changes-tail x order r k c)
 
-unchanged-all : (x : Placed) (order : List Placed) (r j : ℕ) → (IsTrue x.held → IsTrue (writes r (operations x.txn.text)) → ⊥)
+unchanged-all : (x : Placed) (order : List Placed) (r j : ℕ) → (x.held && writes r (operations x.txn.text)) ≡ false
     → IsUnchanged order r 0 j → IsUnchanged (x ∷ order) r 0 (suc j)
-unchanged-all x order r j not_so un zero low high c =
-    let same : x ≡ c.placed = some_same c.there in not_so (rw same c.held) (rw same c.writes)
-  where
-    some_same : {a b : Placed} → Some a ≡ Some b → a ≡ b
-    some_same e = cc
+unchanged-all x order r j not_so un zero low high c = let at = c.there in let held = c.held in let writes = c.writes in grind arith
 unchanged-all x order r j not_so un (suc k) low high c = un k (omega arith) (omega (arith, high)) (changes-tail x order r k c)
 
-pub value_at : (s : State) (order : List Placed) (r j : ℕ) → length s ≡ 8 → LastLeft s order r j ⊎ NoneLeft s order r j
-value_at s [] r zero long = inr (record { none = λ k low high c. omega (arith, high); same = refl })
-value_at s [] r (suc j) long =
+pub value_at : (s : State) (order : List Placed) (r j : ℕ) → r < length s → LastLeft s order r j ⊎ NoneLeft s order r j
+value_at s order r zero within = inr (record { none = λ k low high c. omega (arith, high); same = refl })
+value_at s [] r (suc j) within =
     inr (record { none = λ k low high c. let at = c.there in absurd (cc); same = refl })
-value_at s (x ∷ order) r zero long = inr (record { none = λ k low high c. omega (arith, high); same = refl })
-value_at s (x ∷ order) r (suc j) long =
-    elim (value_at (after s x) order r j (length-after s x ∙ long)) [
+value_at s (x ∷ order) r (suc j) within =
+    let one = after-one s x r within in
+    elim (value_at (after s x) order r j (rw (length-after s x) within)) [
       | inl found ↦ inl (record {
         place = suc found.place;
         changes = record {
@@ -224,30 +131,19 @@ value_at s (x ∷ order) r (suc j) long =
         last = unchanged-after x order r (suc found.place) j found.last;
         leaves = found.leaves;
       })
-      | inr none ↦ elim (cases_Bool x.held) [
-        | inl held ↦ elim (cases_Bool (writes r (operations x.txn.text))) [
-          | inl w ↦
-              let left = rw w at (left-after s r (operations x.txn.text) None long) in
-              let now : after s x ≡ after_writes s (operations x.txn.text) = rw held refl in
-              inl (record {
-                place = zero;
-                changes = record { placed = x; there = refl; held = held; writes = w };
-                before = omega arith;
-                last = unchanged-after x order r 0 j none.none;
-                leaves = left ∙ ap (λ (t : State). Some (slice_index t r)) (sym now) ∙ ap (λ v. Some v) (sym none.same);
-              })
-          | inr not_so ↦
-              let now : after s x ≡ after_writes s (operations x.txn.text) = rw held refl in
-              inr (record {
-                none = unchanged-all x order r j (λ h w. let e = sym not_so ∙ w in absurd (cc)) none.none;
-                same = none.same ∙ ap (λ (t : State). slice_index t r) now ∙ unwritten s r (operations x.txn.text) not_so;
-              })
-        ]
-        | inr out ↦
-            let now : after s x ≡ s = rw out refl in
-            inr (record {
-              none = unchanged-all x order r j (λ h w. let e = sym out ∙ h in absurd (cc)) none.none;
-              same = none.same ∙ ap (λ (t : State). slice_index t r) now;
+      | inr none ↦ elim (cases_Bool (x.held && writes r (operations x.txn.text))) [
+        | inl both ↦
+            let (held, writes) = and_parts x.held _ both in
+            inl (record {
+              place = zero;
+              changes = record { placed = x; there = refl; held = held; writes = writes };
+              before = omega arith;
+              last = unchanged-after x order r 0 j none.none;
+              leaves = (rw both at one) ∙ ap (λ v. Some v) (sym none.same);
             })
+        | inr not_so ↦ inr (record {
+          none = unchanged-all x order r j not_so none.none;
+          same = none.same ∙ (let e = rw not_so at one in cc);
+        })
       ]
     ]

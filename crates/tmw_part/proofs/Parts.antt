@@ -5,9 +5,8 @@ use Rattle.std.proofs.lemmas.Option.{slice_get_within}
 
 each-long : {A B : Type 0} (Rel : A → B → Type 0) (xs : List A) (ys : List B) → Each Rel xs ys → length xs ≡ length ys
 each-long Rel [] [] each = refl
-each-long Rel [] (y ∷ ys) each = absurd each
-each-long Rel (x ∷ xs) [] each = absurd each
 each-long Rel (x ∷ xs) (y ∷ ys) each = ap (λ n. suc n) (each-long Rel xs ys each.1)
+each-long Rel xs ys each = absurd each
 
 staying-fewer : (unread : ℕ → ℕ → Bool) (staying ts : List Txn) → AreStaying unread staying ts → length staying ≤ length ts
 staying-fewer unread staying [] none = rw none (omega arith)

@@ -1,5 +1,5 @@
 -- Places for which cases are said, none of them twice.
-use Rattle.tmw_part.proofs.Shared.{IsTrue, List, [], and_from, and_parts, ap, cases_Bool, eq-eqb, eqb-true, false, inl, inr, is_among, is_said_for, not, not-true, or_parts, refl, sym, ℕ, ◌++◌, ◌<◌, ◌==◌, ◌||◌, ◌∙◌, ◌∷◌, ◌≡◌}
+use Rattle.tmw_part.proofs.Shared.{IsTrue, List, [], ap, arith, eq-eqb, eqb-true, false, is_among, is_said_for, refl, sym, ℕ, ◌++◌, ◌<◌, ◌==◌, ◌||◌, ◌∙◌, ◌∷◌, ◌≡◌}
 use Rattle.std.proofs.Common.{append-nil, append_assoc}
 use Rattle.std.proofs.lemmas.List.Concat.{flat_map-append}
 use Rattle.std.proofs.lemmas.List.Elements.{All-push}
@@ -7,22 +7,11 @@ use Rattle.std.proofs.lemmas.List.Folds.{list_any-append}
 use Rattle.tmw_part.specs.declared.reason_case.ReasonCase.{ReasonCase}
 use Rattle.tmw_part.specs.Reasons.{AreOnce, are_apart, said_places}
 
-other_way : (p q : ℕ) → (p == q) ≡ false → (q == p) ≡ false
-other_way p q absent =
-    elim (cases_Bool (q == p)) [
-      | inl is ↦ let bad = sym absent ∙ eq-eqb p q (sym (eqb-true q p is)) in absurd (cc)
-      | inr none ↦ none
-    ]
-
 apart-push : (places : List ℕ) (place : ℕ) → IsTrue (are_apart places) → is_among place places ≡ false
     → IsTrue (are_apart (places ++ place ∷ []))
 apart-push [] place apart absent = refl
 apart-push (p ∷ places) place apart absent =
-    let (fresh, rest) = and_parts (not (is_among p places)) _ apart in
-    let (other, beyond) = or_parts (p == place) (is_among place places) absent in
-    let more = list_any-append (λ q. q == p) places (place ∷ []) in
-    and_from (not (is_among p (places ++ place ∷ []))) _ (rw (more, other_way p place other, not-true (is_among p places) fresh) refl)
-    (apart-push places place rest beyond)
+    grind (arith, (list_any-append (λ q. q == p) places (place ∷ [])), (eqb-true place p), (eq-eqb p place), (apart-push places place))
 
 pub once-push : (count place : ℕ) (places : List ℕ) → AreOnce count places → place < count → is_among place places ≡ false
     → AreOnce count (places ++ place ∷ [])

@@ -1,5 +1,5 @@
 -- States at places of a list of states.
-use Rattle.tmw_part.proofs.Shared.{All, All-contains, AllByRecursion, Contains, IsTrue, List, None, Option, Some, State, [], ap, arith, eqb-true, get_or, inl, inr, is_among, length, or_cases, refl, slice_get, states_at, suc, zero, ℕ, ◌++◌, ◌<◌, ◌==◌, ◌∷◌, ◌≡◌, ◌≤◌}
+use Rattle.tmw_part.proofs.Shared.{All, All-contains, AllByRecursion, Contains, IsTrue, List, None, Option, Some, State, [], arith, eqb-true, get_or, inl, inr, is_among, length, or_cases, refl, slice_get, states_at, suc, zero, ℕ, ◌++◌, ◌<◌, ◌==◌, ◌∷◌, ◌≡◌}
 use Rattle.std.specs.Option.{option_to_list}
 use Rattle.std.proofs.lemmas.Option.{get_or_from_slice_get, slice_get_within}
 
@@ -8,16 +8,11 @@ contains-get xs place x at = (place, slice_get_within xs place x at, get_or_from
 
 got : {A : Type 0} (xs : List A) (place : ℕ) (x : A) → place < length xs → get_or xs place x ≡ x → slice_get xs place ≡ Some x
 got [] place x low is = absurd (omega (arith, low))
-got (y ∷ xs) zero x low is = ap (λ z. Some z) is
-got (y ∷ xs) (suc place) x low is = got xs place x (omega (arith, low)) is
+got (y ∷ xs) zero x low is = grind arith
+got (y ∷ xs) (suc place) x low is = grind (arith, (got xs place x))
 
 pub get-contains : {A : Type 0} (xs : List A) (x : A) → Contains xs x → (place : ℕ) × (place < length xs) × (slice_get xs place ≡ Some x)
 get-contains xs x (place, low, is) = (place, low, got xs place x low is)
-
-pub get-beyond : {A : Type 0} (xs : List A) (place : ℕ) → length xs ≤ place → slice_get xs place ≡ None
-get-beyond [] place low = refl
-get-beyond (x ∷ xs) zero low = absurd (omega (arith, low))
-get-beyond (x ∷ xs) (suc place) low = get-beyond xs place (omega (arith, low))
 
 all-option : (P : State → Type 0) (o : Option State) (xs : List State) → ((s : State) → o ≡ Some s → P s) → AllByRecursion P xs
     → AllByRecursion P (option_to_list o ++ xs)

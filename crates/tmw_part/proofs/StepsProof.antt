@@ -9,9 +9,11 @@ use Rattle.std.proofs.lemmas.List.Folds.{list_any_at}
 use Rattle.std.proofs.lemmas.Option.{get_or_from_slice_get, slice_get-get_or, slice_get_within}
 use Rattle.tmw_events.specs.declared.ix.Ix.{Ix}
 use Rattle.tmw_events.proofs.Same.{same_ix}
-use Rattle.tmw_part.proofs.ListFacts.{find_any, each_place, all-more, get_some}
+use Rattle.tmw_search.proofs.LayerSteps.{slice_get_some}
+use Rattle.tmw_search.proofs.OneEnd.{length-end}
+use Rattle.tmw_part.proofs.ListFacts.{find_any, each_place, all-more}
 use Rattle.tmw_part.proofs.OrderFacts.{IsIn, IsSerial, apart, serial}
-use Rattle.tmw_part.proofs.OrderValues.{left-writes, state_at, reads_at, length-state_at, value_at, needs_holds, reads_alike}
+use Rattle.tmw_part.proofs.OrderValues.{left-writes, state_at, reads_at, value_at, needs_holds, reads_alike}
 
 -- what is used of transactions that begin apart, of an order of them, of the state that it begins in and of the steps that are known
 pub record Case (criterion : Criterion) (states : List State) (ts : List Txn) (s : State) (order : List Placed) (steps : List ReasonStep) : Type 0 where
@@ -47,6 +49,14 @@ first_same t u e = let same : t ≡ u = cc in ap (λ (x : Txn). x.first) same
 
 placed_same : {x y : Placed} → Some x ≡ Some y → x ≡ y
 placed_same e = cc
+
+-- one of two places that are neither one nor the other way round
+ahead : (i j : ℕ) → (i ≡ j → ⊥) → (j < i → ⊥) → i < j
+ahead i j apart behind = elim (cases_order i j) [
+  | inl same ↦ absurd (apart same)
+  | inr (inl low) ↦ low
+  | inr (inr high) ↦ absurd (behind high)
+]
 
 -- where a transaction stands that is held
 record StandsHeld (ts : List Txn) (order : List Placed) (a : ℕ) : Type 0 where
@@ -219,11 +229,14 @@ module _ (criterion : Criterion) (states : List State) (ts : List Txn) (start : 
     pub comes : ComesFrom ts order s.register.number place writer
     pub may : IsTrue (may_come_from states ts s writer)
 
+  within : (q : Ix) (j : ℕ) → q.number < length (state_at start order j)
+  within q j = rw (length-end start (take j order) ∙ c.long) q.below
+
   read_value : (s : ValueSource) (j : ℕ) → StandsAt ts order s.reader j → IsTrue (needs s.register.number s.value (ops_at ts s.reader))
       → slice_index (state_at start order j) s.register.number ≡ s.value
   read_value s j at needs =
       let same = txn_at-get ts s.reader at.placed.txn at.is in
-      needs_holds (state_at start order j) s.register.number s.value (operations at.placed.txn.text)
+      needs_holds (state_at start order j) s.register.number s.value (operations at.placed.txn.text) (within s.register j)
       (reads_at start order j at.placed c.serial.legal at.there) (rw same at needs)
 
   pub actual : (s : ValueSource) → IsTrue (is_asked criterion ts steps s) → Actual s
@@ -232,7 +245,7 @@ module _ (criterion : Criterion) (states : List State) (ts : List Txn) (start : 
       let (j, at) = has_stands criterion refl s.reader has in
       let r = s.register.number in
       let value = read_value s j at needs in
-      elim (value_at start order r j c.long) [
+      elim (value_at start order r j (rw c.long s.register.below)) [
         | inl last ↦
             let (a, get) = c.serial.from last.place last.changes.placed last.changes.there in
             let stands : StandsAt ts order a last.place = record { placed = last.changes.placed; there = last.changes.there; is = get } in
@@ -299,13 +312,7 @@ module _ (criterion : Criterion) (states : List State) (ts : List Txn) (start : 
   behind_reader : (s : ValueSource) (v : Option ℕ) → s.writer ≡ v → (k : ℕ) → StandsAt ts order s.reader k
       → ComesFrom ts order s.register.number k v → (w : ℕ) → (r : RivalAt ts order s w) → IsTrue (begins_before steps v w) → k < r.place
   behind_reader s v is k at comes w r begins =
-      elim (cases_order k r.place) [
-        | inl same ↦ absurd (r.other (stands_alone w s.reader k (rw (← same) at r.stands) at))
-        | inr differ ↦ elim differ [
-          | inl low ↦ low
-          | inr high ↦ absurd (between v comes begins high)
-        ]
-      ]
+      ahead k r.place (λ same. r.other (stands_alone w s.reader k (rw (← same) at r.stands) at)) (between v comes begins)
     where
       between : (v : Option ℕ) → ComesFrom ts order s.register.number k v → IsTrue (begins_before steps v w) → r.place < k → ⊥
       between None comes begins high = comes r.place (omega arith) high r.changes
@@ -319,33 +326,20 @@ module _ (criterion : Criterion) (states : List State) (ts : List Txn) (start : 
   before_writer s (Some b) is k (n, first, low, changes, last) w r high = λ i j at there.
       let one : i ≡ r.place = stands_once w i r.place at r.stands in
       let two : j ≡ n = stands_once b j n there first in
-      elim (cases_order r.place n) [
-        | inl same ↦
-            let alone : w ≡ b = stands_alone w b n (rw same at r.stands) first in
-            absurd (r.else (is ∙ ap (λ x. Some x) (sym alone)))
-        | inr differ ↦ elim differ [
-          | inl before ↦ omega (arith, before)
-          | inr behind ↦ absurd (last r.place (omega (arith, behind)) high r.changes)
-        ]
-      ]
+      let low = ahead r.place n
+      (λ same. r.else (is ∙ ap (λ x. Some x) (sym (stands_alone w b n (rw same at r.stands) first))))
+      (λ behind. last r.place (omega (arith, behind)) high r.changes) in
+      omega (arith, low)
 
   -- each step that follows holds
   step_holds : (step : ReasonStep) → IsTrue (follows criterion states ts steps step) → HoldsIn ts order step
   step_holds (RealTime one other) is = λ i j at there.
       let (differ, before) = and_parts (not (one == other)) _ is in
-      elim (cases_order i j) [
-        | inl same ↦
-            let alone = stands_alone one other j (rw same at at) there in
-            absurd (let e = sym (not-true (one == other) differ) ∙ eq-eqb one other alone in cc)
-        | inr differ ↦ elim differ [
-          | inl low ↦ low
-          | inr high ↦
-              let kept = c.serial.kept j i there.placed at.placed high there.there at.there in
-              let first = txn_at-get ts one at.placed.txn at.is in
-              let second = txn_at-get ts other there.placed.txn there.is in
-              absurd (let e = rw (first, second) at before in let f = sym kept ∙ e in cc)
-        ]
-      ]
+      let first = txn_at-get ts one at.placed.txn at.is in
+      let second = txn_at-get ts other there.placed.txn there.is in
+      let kept = c.serial.kept j i there.placed at.placed in
+      ahead i j (λ same. (let alone = stands_alone one other j (rw same at at) there in grind (arith, eq-eqb)))
+      (λ high. (let e = rw (first, second) at before in let f = sym (kept high there.there at.there) ∙ e in cc))
   step_holds (From s) is =
       let (asked, rest) = and_parts (is_asked criterion ts steps s) _ is in
       let only = (and_parts (may_come_from states ts s s.writer) _ rest).1 in
@@ -402,7 +396,7 @@ module _ (criterion : Criterion) (states : List State) (ts : List Txn) (start : 
       let (i, at) = has_stands criterion refl a has in
       let same = txn_at-get ts a at.placed.txn at.is in
       let alike = reads_alike (state_at start order i) r.number None (operations at.placed.txn.text)
-      (length-state_at start order i ∙ c.long) tt (reads_at start order i at.placed c.serial.legal at.there) in
+      (within r i) tt (reads_at start order i at.placed c.serial.legal at.there) in
       let none : IsTrue (is_pair expected read None) = rw (same, alike) at unlike in absurd (cc)
 
 module _ (criterion : Criterion) (states : List State) (ts : List Txn) (begin : IsTrue (begin_apart ts)) (long : All (λ s. length s ≡ 8) states)
@@ -423,7 +417,7 @@ module _ (criterion : Criterion) (states : List State) (ts : List Txn) (begin : 
         let same : assumed ≡ assumed + 0 = omega arith in subst (λ n. AllByRecursion (HoldsIn ts order) (take n steps)) same given
     first_hold (suc k) low =
         let before = first_hold k (omega (arith, low)) in
-        let (step, at) = get_some steps (assumed + k) (omega (arith, low)) in
+        let (step, at) = slice_get_some steps (assumed + k) (omega (arith, low)) in
         let follows = derives (assumed + k) step (omega arith) at in
         let more = all-more (HoldsIn ts order) steps (assumed + k) step at
         (step_holds criterion states ts s order (take (assumed + k) steps) (case_at (take (assumed + k) steps) before) step follows) before in

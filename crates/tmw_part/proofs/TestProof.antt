@@ -1,5 +1,5 @@
 -- The test of a part is right.
-use Rattle.tmw_part.proofs.Shared.{Aborted, Add, AreOpsLeft, AreStaying, Bool, Committed, Each, IsLeftOf, IsPart, IsTrue, List, Live, Op, Pending, Read, Some, Status, Txn, Write, [], agree, and_from, and_parts, ap, are_ops_left, are_placed, arith, cases_Bool, eqb-true, false, inl, inr, is_among, is_part_at, is_left_of, is_same, is_same_op, is_same_status, is_stay, is_unread, length, list_all, map, may_go, operations, precedes, refl, remove, slice_get, status_of, suc, true, txn_at, without_number, ℕ, ◌+◌, ◌<◌, ◌==◌, ◌∙◌, ◌∷◌, ◌≡◌}
+use Rattle.tmw_part.proofs.Shared.{Add, AreOpsLeft, AreStaying, Bool, Each, IsLeftOf, IsPart, IsTrue, List, Op, Read, Some, Status, Txn, Write, [], agree, and_parts, ap, are_ops_left, are_placed, arith, cases_Bool, eqb-true, inl, inr, is_among, is_part_at, is_left_of, is_same, is_same_op, is_same_status, is_stay, is_unread, length, list_all, map, may_go, operations, precedes, refl, remove, slice_get, status_of, suc, true, txn_at, without_number, ℕ, ◌+◌, ◌<◌, ◌==◌, ◌∙◌, ◌∷◌, ◌≡◌}
 use Rattle.tmw_events.proofs.Same.{same_ix}
 
 same_op : (x y : Op) → is_same_op x y ≡ true → x ≡ y
@@ -33,11 +33,7 @@ ops_left-test unread (x ∷ left) (op ∷ ops) all =
     ]
 
 same_status : (a b : Status) → is_same_status a b ≡ true → a ≡ b
-same_status Live Live same = refl
-same_status Pending Pending same = refl
-same_status Committed Committed same = refl
-same_status Aborted Aborted same = refl
-same_status a b same = absurd (cc)
+same_status = grind arith
 
 left-test : (place : Txn → ℕ) (whole part ts : List Txn) → IsTrue (list_all (is_stay place whole part) ts)
     → Each (IsLeftOf (is_unread part)) (map (txn_at whole) (map place ts)) ts
@@ -56,17 +52,14 @@ left-test place whole part (t ∷ ts) all =
     )
 
 same-test : (a b : Bool) → IsTrue (is_same a b) → a ≡ b
-same-test true true same = refl
-same-test false false same = refl
-same-test a b same = absurd (cc)
+same-test = grind arith
 
 row-test : (at : ℕ → Txn) (place : Txn → ℕ) (t : Txn) (ts : List Txn)
     → IsTrue (list_all (λ u. is_same (precedes (at (place u)) (at (place t))) (precedes u t)) ts)
     → map (λ u. precedes u t) ts ≡ map (λ u. precedes u (at (place t))) (map at (map place ts))
 row-test at place t [] all = refl
 row-test at place t (u ∷ us) all =
-    let (here, more) = and_parts (is_same (precedes (at (place u)) (at (place t))) (precedes u t)) _ all in
-    rw (same-test (precedes (at (place u)) (at (place t))) (precedes u t) here, row-test at place t us more) refl
+    grind (arith, (same-test (precedes (at (place u)) (at (place t))) (precedes u t)), (row-test at place t us))
 
 rows-test : (place : Txn → ℕ) (whole part ts : List Txn) → IsTrue (list_all (is_stay place whole part) ts)
     → map (λ t. map (λ u. precedes u t) part) ts
@@ -80,8 +73,7 @@ rows-test place whole part (t ∷ ts) all =
 -- of an idle transaction each operation may go
 idle-test : (unread : ℕ → ℕ → Bool) (ops : List Op) → IsTrue (are_ops_left unread [] ops) → IsTrue (list_all (may_go unread) ops)
 idle-test unread [] all = refl
-idle-test unread (op ∷ ops) all =
-    let (here, more) = and_parts (may_go unread op) _ all in and_from (may_go unread op) _ here (idle-test unread ops more)
+idle-test unread (op ∷ ops) all = grind (arith, (idle-test unread ops))
 
 -- where the number is among the places, the transaction of that number is among those that stay
 found : (f : ℕ → Txn) (n : ℕ) (places : List ℕ) → IsTrue (is_among n places)

@@ -1,5 +1,5 @@
 -- An event joins the first of its thread's transactions that has not ended, or begins one, as the code finds it.
-use Rattle.tmw_part.proofs.Shared.{Event, List, None, Some, Txn, [], add_event, add_event_here, add_event_past, ap, arith, begun, cases_Bool, false, get_or, inl, inr, joins, length, longer, ltb-false, nat_lt, position, position_or_len, refl, slice_set, suc, sym, true, zero, ℕ, ◌++◌, ◌<◌, ◌∙◌, ◌∷◌, ◌≡◌, ◌≤◌}
+use Rattle.tmw_part.proofs.Shared.{Event, List, None, Some, Txn, [], add_event, ap, arith, begun, cases_Bool, false, get_or, inl, inr, joins, length, longer, ltb-false, nat_lt, position, position_or_len, refl, slice_set, suc, sym, true, zero, ℕ, ◌++◌, ◌<◌, ◌∙◌, ◌∷◌, ◌≡◌, ◌≤◌}
 use Rattle.std.proofs.lemmas.List.Sums.{fails_before_first}
 use Rattle.std.proofs.lemmas.List.Quantifiers.{position-Some}
 
@@ -7,18 +7,16 @@ use Rattle.std.proofs.lemmas.List.Quantifiers.{position-Some}
 add_event-at : (place : ℕ) (e : Event) (ts : List Txn) (i : ℕ) (d : Txn) → i < length ts → joins e (get_or ts i d) ≡ true
     → ((k : ℕ) → k < i → joins e (get_or ts k d) ≡ false) → slice_set ts i (longer place e (get_or ts i d)) ≡ add_event place e ts
 add_event-at place e [] i d within here before = absurd (omega arith)
-add_event-at place e (t ∷ ts) zero d within here before = sym (add_event_here place e t ts here)
+add_event-at place e (t ∷ ts) zero d within here before = grind arith
 add_event-at place e (t ∷ ts) (suc i) d within here before =
-    ap (λ us. t ∷ us) (add_event-at place e ts i d (omega arith) here (λ k h. before (suc k) (omega arith)))
-    ∙ sym (add_event_past place e t ts (before 0 (omega arith)))
+    grind (arith, (before 0), (add_event-at place e ts i d (omega (arith, within)) here (λ k h. before (suc k) (omega (arith, h)))))
 
 -- the event joins none of them
 add_event-none : (place : ℕ) (e : Event) (ts : List Txn)
     → ((k : ℕ) (d : Txn) → k < length ts → joins e (get_or ts k d) ≡ false) → ts ++ begun place e ∷ [] ≡ add_event place e ts
 add_event-none place e [] none_joined = refl
 add_event-none place e (t ∷ ts) none_joined =
-    ap (λ us. t ∷ us) (add_event-none place e ts (λ k d h. none_joined (suc k) d (omega arith)))
-    ∙ sym (add_event_past place e t ts (none_joined 0 t (omega arith)))
+    grind (arith, (none_joined 0 t), (add_event-none place e ts (λ k d h. none_joined (suc k) d (omega (arith, h)))))
 
 pub add_event-position : (place : ℕ) (e : Event) (ts : List Txn) (i : ℕ) (old : Txn) → Some i ≡ position (joins e) ts
     → old ≡ get_or ts i old → slice_set ts i (longer place e old) ≡ add_event place e ts

@@ -1,5 +1,5 @@
 -- What was counted of a judged front before and after one event more is judged.
-use Rattle.tmw_pump.proofs.Shared.{Criterion, Event, Fits, IsFalse, IsOpen, IsTrue, IsVerdict, List, Monitor, Rules, Verdict, WasCounted, [], ap, both_ways, cases_Bool, criterion_of, false, inl, inr, is_open, part_by, refl, so_far, subst, sym, true, verdict-one, verdict_of, ℕ, ∥∥₁_map, ◌++◌, ◌∙◌, ◌∷◌, ◌≡◌, arith, rules}
+use Rattle.tmw_pump.proofs.Shared.{Criterion, Event, Fits, IsFalse, IsOpen, IsTrue, IsVerdict, List, Monitor, Rules, Verdict, WasCounted, [], ap, both_ways, cases_Bool, criterion_of, false, inl, inr, is_open, part_by, refl, so_far, subst, sym, true, verdict_of, ℕ, ∥∥₁_map, ◌++◌, ◌∙◌, ◌∷◌, ◌≡◌, arith, rules}
 use Rattle.tmw_counts.specs.Counter.{CountsSo}
 use Rattle.tmw_counts.specs.declared.counter.Counter.{Counter}
 use Rattle.tmw_counts.proofs.CountedPart.{counted-more, part-none, stays}
@@ -14,21 +14,6 @@ module _ (h : List Event) (before after : Monitor) (criterion : criterion_of aft
   -- a monitor with the same verdict was open before
   was_open : verdict_of after ≡ verdict_of before → IsOpen after → IsOpen before
   was_open same now = sym same ∙ now ∙ ap so_far criterion
-
-  -- where no event was taken
-  pub counted_still : (counter : Counter) → ((rules : Rules) → Fits rules h before → Fits rules h after)
-      → ∥ WasCounted h before counter ∥₁ → ∥ WasCounted h after counter ∥₁
-  counted_still counter fits counted = ∥∥₁_map counted (λ was.
-      let now = fits was.rules was.fits in
-      let same : verdict_of after ≡ verdict_of before =
-      verdict-one was.rules h (verdict_of after) (verdict_of before) now.judged was.fits.judged in
-      record {
-        rules = was.rules;
-        fits = now;
-        registers = was.registers;
-        counts = subst (λ (v : Verdict). CountsSo was.registers (part_by v h) counter) (sym same) was.counts;
-        same = λ is. was.same (was_open same is);
-      })
 
   module _ (e : Event) (old new : Counter) where
     -- what the counter makes of an event, whatever it has counted

@@ -63,7 +63,7 @@ impl Front {
         ensures after { HasFinalVerdict self.old → IsOk result }
     {
         let open = is_open(&self.monitor.verdict());
-        self.monitor.feed(event)?;
+        self.monitor.take(event);
         if open {
             let _refused = self.counter.take(event);
         }

@@ -1,5 +1,6 @@
 -- Members of one set or of several are added to a list.
 use Rattle.tmw_search.proofs.Shared.{Adds, AddsMember, cases_lt, ◌+◌, Bool, Contains, Contains-append_left, Contains-push, Contains-push_cases, [], ◌++◌, ◌∷◌, In, IsTrue, List, State, ap, arith, bit_at, bit_at-zero, false, inl, inr, refl, subst, sym, true, ℕ, ◌%◌, ◌*◌, ◌-◌, ◌<◌, ◌^◌, ◌∙◌, ◌≡◌, ◌⊎◌}
+use Rattle.std.proofs.Common.{Err, Ok, OnErr, OnOk, Result}
 use Rattle.tmw_search.proofs.Bits.{same_place, less_of, less_has}
 use Rattle.tmw_search.proofs.Branches.{never-true}
 
@@ -17,6 +18,11 @@ adds-one adds = record {
   kept = λ e has. (adds e).1 (inr has);
   all = λ all e same. (adds e).1 (inl same);
 }
+
+-- what holds where a call was Ok, as it was
+pub ok-of : {T E P Q : Type 0} (r : Result T E) → OnOk r P → OnErr r Q → (Q → ⊥) → P
+ok-of (Ok x) p q never = p
+ok-of (Err e) p q never = absurd (never q)
 
 pub adds-push : {A : Type 0} {old : List A} {r : A} {P : A → Type 0} → P r → ((q : A) → P q → r ≡ q) → Adds true old (old ++ r ∷ []) P
 adds-push {A = A} {old = old} {r = r} {P = P} is only = record {

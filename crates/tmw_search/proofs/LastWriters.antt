@@ -1,7 +1,7 @@
 -- Which of a register's writers is its last, one other after another.
-use Rattle.tmw_search.proofs.Shared.{ComeBefore, List, ap, arith, bit_and, bit_at, bit_at-zero, bit_at_clear_other, bit_at_clear_same, bit_not, bit_or, inl, inr, slice_index, sym, w8, ℕ, ◌%◌, ◌*◌, ◌-◌, ◌<◌, ◌^◌, ◌∙◌, ◌≡◌, Adds, AddsMember, Bool, ComesLast, Effect, EndWith, EndsAt, Has, HasNone, In, IsEndOf, IsFound, IsLast, IsLegal, IsNode, IsOrder, IsPutLast, IsRead, IsTrue, Joins, LeftByOne, Narrows, Node, State, Writes, bit_at-lt, bit_at_and, bit_at_not, ext_get_or, get_or-map, get_or-set_other, get_or-set_same, left_at, length, length-map, length-set, map, or_of_8, ordered, refl, slice_set, subst, true, ◌↔◌}
+use Rattle.tmw_search.proofs.Shared.{ComeBefore, List, ap, arith, bit_and, bit_at, bit_at-zero, bit_at_clear_other, bit_at_clear_same, bit_not, bit_or, inl, inr, slice_index, sym, w8, ℕ, ◌%◌, ◌*◌, ◌-◌, ◌<◌, ◌^◌, ◌∙◌, ◌≡◌, Adds, Bool, ComesLast, Effect, EndWith, EndsAt, Has, HasNone, In, IsEndOf, IsFound, IsLast, IsLegal, IsNode, IsOrder, IsPutLast, IsRead, IsTrue, Joins, LeftByOne, Narrows, Node, State, Writes, bit_at-lt, bit_at_and, bit_at_not, ext_get_or, get_or-map, get_or-set_other, get_or-set_same, left_at, length, length-map, length-set, map, or_of_8, ordered, refl, slice_set, subst, true, ◌↔◌}
 use Rattle.tmw_search.proofs.Bits.{masks, or_either, same_place, bit_cases, IsLess, or-left, or-right}
-use Rattle.tmw_search.proofs.AddMembers.{ByOne, adds-to, adds-empty, adds-one}
+use Rattle.tmw_search.proofs.AddMembers.{ByOne, adds-to, adds-empty}
 use Rattle.tmw_search.proofs.Nodes.{found-clear, legal-chosen, legal-less, legal-with, node-ordered}
 use Rattle.tmw_search.proofs.Ranks.{one-end}
 use Rattle.tmw_search.proofs.Consequences.{narrows-then, same-narrows, joined, joins-each, joined-order, joined-narrows}
@@ -89,8 +89,8 @@ settled_end xs start node registers base e none size x =
     ext_get_or 0 e base (x.size ∙ sym size) (λ q within. x.settled q (omega (arith, within, x.size))
     (λ is. absurd (omega (arith, is, ap (λ (m : ℕ). bit_at m q) none, bit_at-zero q))))
 
-pub ends-found : (xs : List Effect) (start : State) (node found : Node) (base : State) (old new : List State) → length base ≡ 8
-    → IsFound xs start 0 node found → AddsMember old new base → Adds true old new (IsEndOf xs start node 0 base)
+pub ends-found : {done : Bool} (xs : List Effect) (start : State) (node found : Node) (base : State) (old new : List State) → length base ≡ 8
+    → IsFound xs start 0 node found → Adds done old new (λ e. e ≡ base) → Adds done old new (IsEndOf xs start node 0 base)
 ends-found xs start node found base old new size f adds =
     let here : IsEndOf xs start node 0 base base = record {
       held = found.held;
@@ -101,7 +101,7 @@ ends-found xs start node found base old new size f adds =
       rest = λ r few is. absurd (omega (arith, is, bit_at-zero r));
     } in
     adds-to (λ e same. subst (IsEndOf xs start node 0 base) (sym same) here) (λ all e x. settled_end xs start node 0 base e refl size x)
-    (adds-one adds)
+    adds
 
 pub ends-none : (xs : List Effect) (start : State) (node : Node) (registers : ℕ) (base : State) (old : List State)
     → HasNone xs start 0 node → Adds true old old (IsEndOf xs start node registers base)
@@ -255,10 +255,10 @@ module _ {xs : List Effect} {start : State} {r registers rest : ℕ} (base : Sta
     all-last old new a = adds-to (λ e (i, few, is, w). w.ends) (λ all. last-at) a
 
     -- of the last register, where each order is legal
-    pub adds-last : (old new : List State) → slice_index node.choices.writers r < 2 ^ 8 → rest ≡ 0
+    pub adds-last : {done : Bool} (old new : List State) → slice_index node.choices.writers r < 2 ^ 8 → rest ≡ 0
         → ((j q : ℕ) → IsRead node.choices j q → ⊥)
-        → Adds true old new (LeftByOne xs r (bit_and (slice_index node.choices.writers r) (bit_not w8 before)) base)
-        → Adds true old new (IsEndOf xs start node registers base)
+        → Adds done old new (LeftByOne xs r (bit_and (slice_index node.choices.writers r) (bit_not w8 before)) base)
+        → Adds done old new (IsEndOf xs start node registers base)
     adds-last old new small none plain a =
         let writers = slice_index node.choices.writers r in
         let long : (value : ℕ) → length (slice_set base r value) ≡ 8 = λ value. length-set base r value ∙ size in

@@ -16,16 +16,16 @@ sum_by-remove f (y ∷ ys) (suc i) x at =
     omega (arith, sum_by-cons f y ys, sum_by-cons f y (remove ys i), sum_by-remove f ys i x at)
 
 -- what a register holds after operations, if it held this before
-abbrev final : ℕ → ℕ → List Op → ℕ
+abbrev pub final : ℕ → ℕ → List Op → ℕ
 final r x [] = x
 final r x (Read q v ∷ ops) = final r x ops
 final r x (Write q v ∷ ops) = final r (if q.number == r then v else x) ops
 final r x (Add q d v ∷ ops) = final r (if q.number == r then (v + d) % 2 ^ 64 else x) ops
 
-index-set : (s : State) (q r v : ℕ) → r < length s → slice_index (slice_set s q v) r ≡ (if q == r then v else slice_index s r)
+pub index-set : (s : State) (q r v : ℕ) → r < length s → slice_index (slice_set s q v) r ≡ (if q == r then v else slice_index s r)
 index-set = grind (arith, cases_Bool, eqb-true, get_or-set_same, get_or-set_other, eqb-false)
 
-after-final : (s : State) (ops : List Op) (r : ℕ) → r < length s
+pub after-final : (s : State) (ops : List Op) (r : ℕ) → r < length s
     → slice_index (after_writes s ops) r ≡ final r (slice_index s r) ops
 after-final s [] r within = refl
 after-final s (Read q v ∷ ops) r within = after-final s ops r within
@@ -50,7 +50,7 @@ length-end s [] = refl
 length-end s (p ∷ order) = length-end (after s p) order ∙ length-after s p
 
 -- a register that no operation writes stays
-final-kept : (r x : ℕ) (ops : List Op) → writes r ops ≡ false → final r x ops ≡ x
+pub final-kept : (r x : ℕ) (ops : List Op) → writes r ops ≡ false → final r x ops ≡ x
 final-kept r x [] none = refl
 final-kept r x (Read q v ∷ ops) none = final-kept r x ops none
 final-kept r x (Write q v ∷ ops) none = let rest = final-kept r x ops in grind arith

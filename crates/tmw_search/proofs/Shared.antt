@@ -41,7 +41,7 @@ pub use Rattle.tmw_defs.specs.declared.status.Status.TheVariants.{Aborted, Commi
 pub use Rattle.tmw_events.specs.declared.event.Event.{Event}
 pub use Rattle.tmw_search.specs.Precedence.{AllSettled, Chosen, ChosenBy, FromStart, IfClear, IfStuck, IsBetween, IsOut, IsRead, IsSettled, IsSource, Passes, SettledBy, SettledSource, Sourced, Within, WithinSource, lives, source_at, is_open, opens, room, Before, Has, IsOrder, IsRanking, Joins, Narrows, Out}
 pub use Rattle.tmw_search.specs.LastWriters.{Adds, AreEndsFrom, ComeBefore, ComesLast, Completes, EndWith, EndsByMore, EndsByReading, EndsFromAll, IsEndOf, IsPutLast, LeftByOne}
-pub use Rattle.tmw_search.specs.EndStates.{AreEnds, AreMembers, EndsOf, Replaces, TellsEnd}
+pub use Rattle.tmw_search.specs.EndStates.{AreEnds, AreMembers, EndsOf, Replaces, TellsEnd, told}
 pub use Rattle.tmw_search.specs.OneEnd.{AreForced, IsForced, is_blind_writer, is_committed, is_writer}
 pub use Rattle.tmw_search.specs.Layers.{InLayer, LeavesNone, chosen, Follows, IsFirst, Makes, MakesAt, pair_cmp}
 pub use Rattle.tmw_search.specs.NodeOrders.{AllOpen, Entails, FromIs, Gives, HasNone, Holds, In, IsBranch, IsFound, IsLegal, IsNode, IsOnly, IsSound, KeepsOthers, Leaves, LeavesOut, MayBe, MayGive, Needs, NoneMay, TakesIn, Reads, ReadsFrom, ReadsStart, Settles, Writes, effects, idle, left_at, looking, need_at, ordered}

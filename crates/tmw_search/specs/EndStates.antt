@@ -42,6 +42,11 @@ abbrev pub AreMembers : ℕ → (State → Type 0) → EndStates → Type 0
 AreMembers cap S (Few states) = (length (members states) ≤ cap) × ((s : State) → Contains (members states) s ↔ S s)
 AreMembers cap S Many = HasMoreThan cap S
 
+-- what is told of ends that are found, few or not
+abbrev pub told : Bool → States → EndStates
+told true ends = Few ends
+told false ends = Many
+
 -- The one set has become the other: that of the end states of the events from its states, where these are at most so many, as is told.
 -- Where they are more it has stayed.
 abbrev pub Replaces : Criterion → States → ℕ → List Event → States → Bool → Type 0

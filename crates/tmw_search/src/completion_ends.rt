@@ -1,15 +1,15 @@
 //! The ends of a window's transactions, by each completion and from each start.
-ghost use Rattle.std.specs.Prelude.{◌≡◌, ◌↔◌, ◌<◌, ◌≤◌, ℕ, IfOk, IsTrue, IsFalse, length, slice_index};
+ghost use Rattle.std.specs.Prelude.{◌≡◌, ◌↔◌, ◌<◌, ◌≤◌, ℕ, IsTrue, IsFalse, length, slice_index};
 ghost use Rattle.std.specs.List.{Contains};
-ghost use Rattle.tmw_cuts.specs.Members.{members};
+ghost use Rattle.tmw_cuts.specs.Members.{members, room_of};
 ghost use Rattle.tmw_defs.specs.Opaque.{State};
 ghost use Rattle.tmw_search.specs.Precedence.{IsRead, IsOrder};
 ghost use Rattle.tmw_search.specs.LastWriters.{AreEndsFrom, EndsByReading, EndsFromAll, EndsByMore, IsEndOf, Adds};
+ghost use Rattle.tmw_search.specs.EndStates.{told};
 ghost use Rattle.tmw_search.specs.NodeOrders.{In, effects, IsNode, AllOpen, Entails};
 ghost use Rattle.tmw_search.specs.LegalOrders.{ReadsAll};
 
 use crate::end_set::EndSet;
-use crate::end_states::EndStates;
 use crate::last_writers::{add_last, is_plain, put_known};
 use crate::node::Node;
 use crate::precedence::Masks;
@@ -17,7 +17,6 @@ use crate::read_consequences::read_all;
 use crate::root::{all_agree, order_of, orderly, root_of, statuses_of};
 use crate::settle_sources::settle;
 use crate::source_choices::Choices;
-use std::alloc::{AllocError, Global};
 use tmw_cuts::{State, Txn, lowest};
 use tmw_defs::Criterion;
 use tmw_events::MOST_REGISTERS;
@@ -76,20 +75,15 @@ fn read_from(items: &[Txn], start: &State, root: &Node, needed: u8, reading: &mu
 
 /// Adds the ends of the reading's orders, where the registers that none writes hold what this start does. Returns whether
 /// all were added: they are not too many.
-fn add_from(
-    items: &[Txn],
-    start: &State,
-    reading: &Reading,
-    found: &mut EndSet,
-) -> Result<bool, AllocError>
+fn add_from(items: &[Txn], start: &State, reading: &Reading, found: &mut EndSet) -> bool
     requires { IsTrue reading.now.alive → IsNode (effects items.now) reading.now.start 0 reading.now.node }
-    ensures adds { IfOk result (λ done. Adds done (members found.old.ends) (members found.new.ends)
-        (EndsByReading (effects items.now) reading.now start.now)) }
+    ensures adds { Adds result (members found.old.ends) (members found.new.ends)
+        (EndsByReading (effects items.now) reading.now start.now) }
     ensures cap { found.new.cap ≡ found.old.cap }
-    ensures more { IfOk result (λ done. IsFalse done → found.old.cap < length (members found.new.ends)) }
+    ensures more { IsFalse result → found.old.cap < length (members found.new.ends) }
 {
     if !reading.alive {
-        return Ok(true);
+        return true;
     }
     let node = &reading.node;
     let mut end = *start;
@@ -145,22 +139,17 @@ fn differ(one: &State, other: &State, mask: u8) -> bool
 
 /// Adds the ends of the root's orders from each of the starts. One from which they end as from the one before it is
 /// left out. Returns whether all were added: they are not too many.
-fn add_all(
-    items: &[Txn],
-    starts: &[State],
-    root: &Node,
-    found: &mut EndSet,
-) -> Result<bool, AllocError>
+fn add_all(items: &[Txn], starts: &[State], root: &Node, found: &mut EndSet) -> bool
     requires node { (start : State) → IsNode (effects items.now) start 0 root.now }
     requires waits { AllOpen root.now.choices.reads root.now }
     requires reads { ReadsAll (effects items.now) root.now }
-    ensures adds { IfOk result (λ done. Adds done (members found.old.ends) (members found.new.ends)
-        (EndsFromAll (effects items.now) starts.now root.now)) }
+    ensures adds { Adds result (members found.old.ends) (members found.new.ends)
+        (EndsFromAll (effects items.now) starts.now root.now) }
     ensures cap { found.new.cap ≡ found.old.cap }
-    ensures more { IfOk result (λ done. IsFalse done → found.old.cap < length (members found.new.ends)) }
+    ensures more { IsFalse result → found.old.cap < length (members found.new.ends) }
 {
     if starts.len() == 0 {
-        return Ok(true);
+        return true;
     }
     let needed = needed_registers(&root.choices);
     let shown = needed | unwritten(&root.choices.writers);
@@ -168,12 +157,12 @@ fn add_all(
     for (index, start) in starts.iter().enumerate() {
         if index == 0 || differ(&starts[index - 1], start, shown) {
             read_from(items, start, root, needed, &mut reading);
-            if !add_from(items, start, &reading, found)? {
-                return Ok(false);
+            if !add_from(items, start, &reading, found) {
+                return false;
             }
         }
     }
-    Ok(true)
+    true
 }
 
 /// Adds the ends where the completion holds these. Returns whether all were added: they are not too many.
@@ -184,18 +173,18 @@ fn add_held(
     reach: &Masks,
     held: u8,
     found: &mut EndSet,
-) -> Result<bool, AllocError>
+) -> bool
     requires few { length items.now ≤ 8 }
     requires order { IsOrder reach.now }
     requires within { (i : ℕ) → In held i → i < length items.now }
-    ensures adds { IfOk result (λ done. Adds done (members found.old.ends) (members found.new.ends)
-        (EndsByMore criterion (effects items.now) (length items.now) starts.now reach.now held 0)) }
+    ensures adds { Adds result (members found.old.ends) (members found.new.ends)
+        (EndsByMore criterion (effects items.now) (length items.now) starts.now reach.now held 0) }
     ensures cap { found.new.cap ≡ found.old.cap }
-    ensures more { IfOk result (λ done. IsFalse done → found.old.cap < length (members found.new.ends)) }
+    ensures more { IsFalse result → found.old.cap < length (members found.new.ends) }
 {
     let root = root_of(criterion, items, reach, held);
     if !all_agree(items, root.members) {
-        return Ok(true);
+        return true;
     }
     add_all(items, starts, &root, found)
 }
@@ -210,50 +199,52 @@ pub fn add_completions(
     held: u8,
     left: u8,
     found: &mut EndSet,
-) -> Result<bool, AllocError>
+) -> bool
     requires few { length items.now ≤ 8 }
     requires order { IsOrder reach.now }
     requires within { (i : ℕ) → In held i → i < length items.now }
     requires left { (i : ℕ) → In left i → i < length items.now }
-    ensures adds { IfOk result (λ done. Adds done (members found.old.ends) (members found.new.ends)
-        (EndsByMore criterion (effects items.now) (length items.now) starts.now reach.now held left)) }
+    ensures adds { Adds result (members found.old.ends) (members found.new.ends)
+        (EndsByMore criterion (effects items.now) (length items.now) starts.now reach.now held left) }
     ensures cap { found.new.cap ≡ found.old.cap }
-    ensures more { IfOk result (λ done. IsFalse done → found.old.cap < length (members found.new.ends)) }
+    ensures more { IsFalse result → found.old.cap < length (members found.new.ends) }
 {
     if left == 0 {
         return add_held(criterion, items, starts, reach, held, found);
     }
     let i = lowest(left);
     let rest = left - (1 << i);
-    if !add_completions(criterion, items, starts, reach, held, rest, found)? {
-        return Ok(false);
+    if !add_completions(criterion, items, starts, reach, held, rest, found) {
+        return false;
     }
     add_completions(criterion, items, starts, reach, held | 1 << i, rest, found)
 }
 
 /// Finds the states in which the transactions may end, over all legal serial orders and completions, from one of the
-/// starts. They are `Few` if they are at most `cap`.
+/// starts. Returns whether they are at most `cap`: else more are found.
 pub fn find_ends(
     criterion: Criterion,
-    alloc: Global,
     items: &[Txn],
     starts: &[State],
-    cap: usize,
-) -> Result<EndStates, AllocError>
-    requires { length items.now ≤ 8 }
-    ensures { IfOk result (AreEndsFrom criterion items.now starts.now cap) }
+    cap: u8,
+    found: &mut EndSet,
+) -> bool
+    requires few { length items.now ≤ 8 }
+    requires room { cap < room_of found.old.ends }
+    ensures ends { AreEndsFrom criterion items.now starts.now cap (told result found.new.ends) }
+    ensures cap { found.new.cap ≡ cap }
 {
+    found.begin(cap);
     let statuses = statuses_of(items);
     let reach = order_of(items, orderly(criterion, &statuses));
     let held = statuses.committed;
     let left = statuses.pending;
-    let mut found = EndSet::none(alloc, cap);
-    if !add_completions(criterion, items, starts, &reach, held, left, &mut found)? {
-        return Ok(EndStates::Many);
+    if !add_completions(criterion, items, starts, &reach, held, left, found) {
+        return false;
     }
-    // At a cap of 0 any end is `Many`, and no end is `Few` of no state.
+    // At a cap of 0 any end is too many, and no end is few of no state.
     if !found.are_few() {
-        return Ok(EndStates::Many);
+        return false;
     }
-    Ok(EndStates::Few(found.ends))
+    true
 }

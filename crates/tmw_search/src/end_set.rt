@@ -1,47 +1,66 @@
-ghost use Rattle.std.specs.Prelude.{◌≡◌, ◌↔◌, ◌≤◌, ◌<◌, [], OnOk, IsTrue, IsFalse, length};
-ghost use Rattle.tmw_cuts.specs.Members.{members, AddsMember};
+ghost use Rattle.std.specs.Prelude.{◌≡◌, ◌≤◌, ◌<◌, [], IfOk, IsTrue, IsFalse, length};
+ghost use Rattle.tmw_cuts.specs.Members.{members, HasRoom, room_of};
+ghost use Rattle.tmw_search.specs.LastWriters.{Adds};
 
 use std::alloc::{AllocError, Global};
 use tmw_cuts::{State, States};
 
-/// The ends that a search has found, each of them often.
-#[derive(Drop)]
+/// The ends that a search has found, each of them often. It takes all its memory when it is made.
+#[derive(Debug, Drop)]
 pub struct EndSet {
     pub ends: States,
     /// They are few if they are at most so many.
-    pub cap: usize,
+    pub cap: u8,
     /// Where an end may stand, by the slot that it is added with: a guess, of which nothing is claimed.
     guesses: [u8; 64],
+    pub ghost room: { HasRoom ends },
+    pub ghost most: { cap < room_of ends },
 }
 
 impl EndSet {
-    /// Makes the set of no end.
-    pub fn none(alloc: Global, cap: usize) -> EndSet
-        ensures ends { members result.ends ≡ [] }
-        ensures cap { result.cap ≡ cap }
+    /// Makes the set of no end, with room for more than `cap`.
+    pub fn none(alloc: Global, cap: u8) -> Result<EndSet, AllocError>
+        ensures ends { IfOk result (λ found. members found.ends ≡ []) }
+        ensures room { IfOk result (λ found. cap < room_of found.ends) }
     {
-        EndSet {
-            ends: States::empty(alloc),
+        Ok(EndSet {
+            ends: States::roomy(alloc, cap)?,
             cap,
             guesses: [0; 64],
-        }
+        })
     }
 
-    /// Adds the end, unless it is one of them. Is fastest if equal ends come with the same number, and others not.
-    #[inline(always)]
-    pub fn add(&mut self, end: &State, number: u64) -> Result<(), AllocError>
-        ensures adds { OnOk result (AddsMember (members self.old.ends) (members self.new.ends) end.now) }
-        ensures cap { self.new.cap ≡ self.old.cap }
+    /// Forgets the ends. They are now few if they are at most `cap`.
+    pub fn begin(&mut self, cap: u8)
+        requires { cap < room_of self.old.ends }
+        ensures ends { members self.new.ends ≡ [] }
+        ensures cap { self.new.cap ≡ cap }
     {
+        self.ends.clear();
+        self.cap = cap;
+        self.guesses = [0; 64];
+    }
+
+    /// Adds the end, unless it is one of them or they are too many. Returns whether they are few. Is fastest if equal
+    /// ends come with the same number, and others not.
+    #[inline(always)]
+    pub fn add(&mut self, end: &State, number: u64) -> bool
+        ensures adds { Adds result (members self.old.ends) (members self.new.ends) (λ e. e ≡ end.now) }
+        ensures cap { self.new.cap ≡ self.old.cap }
+        ensures more { IsFalse result → self.old.cap < length (members self.new.ends) }
+    {
+        if !self.are_few() {
+            return false;
+        }
         let slot = (number % 64) as usize;
         if let Some(held) = self.ends.get(self.guesses[slot] as usize) {
             if held == *end {
-                return Ok(());
+                return true;
             }
         }
         self.guesses[slot] = (self.ends.len() % 256) as u8;
-        self.ends.insert(*end)?;
-        Ok(())
+        let _room = self.ends.insert(*end);
+        self.are_few()
     }
 
     /// Tells whether they are at most `cap`.
@@ -50,6 +69,6 @@ impl EndSet {
         ensures few { IsTrue result → length (members self.now.ends) ≤ self.now.cap }
         ensures more { IsFalse result → self.now.cap < length (members self.now.ends) }
     {
-        self.ends.len() <= self.cap
+        self.ends.len() <= self.cap as usize
     }
 }

@@ -1,5 +1,5 @@
 //! The ends of a node's orders: one register after another, one of its writers is taken for the last.
-ghost use Rattle.std.specs.Prelude.{◌≡◌, ◌↔◌, ◌<◌, ◌≤◌, IsTrue, IsFalse, ℕ, slice_index, IfOk, IfSome, IfNone, OnOk, length, true};
+ghost use Rattle.std.specs.Prelude.{◌≡◌, ◌↔◌, ◌<◌, ◌≤◌, IsTrue, IsFalse, ℕ, slice_index, IfSome, IfNone, length};
 ghost use Rattle.tmw_cuts.specs.Members.{members};
 ghost use Rattle.tmw_search.specs.Precedence.{IsRead, Within, Has, IsOrder, Narrows};
 ghost use Rattle.tmw_search.specs.LastWriters.{ComeBefore, IsEndOf, EndWith, IsPutLast, LeftByOne, Adds};
@@ -13,7 +13,6 @@ use crate::precedence::{Masks, join};
 use crate::search::any;
 use crate::settle_sources::settle;
 use crate::source_choices::Choices;
-use std::alloc::AllocError;
 use tmw_cuts::{MOST_TRANSACTIONS, State, Txn, lowest};
 
 /// Returns those that come before another of these, as a mask.
@@ -98,18 +97,14 @@ fn mixed(state: &State) -> u64 {
     sum
 }
 
-/// Adds the states with what one of the mask leaves in the register, and else what this one holds.
-fn add_each(
-    items: &[Txn],
-    register: usize,
-    mask: u8,
-    end: &State,
-    found: &mut EndSet,
-) -> Result<(), AllocError>
+/// Adds the states with what one of the mask leaves in the register, and else what this one holds. Returns whether all
+/// were added: they are not too many.
+fn add_each(items: &[Txn], register: usize, mask: u8, end: &State, found: &mut EndSet) -> bool
     requires { register < 8 }
-    ensures adds { OnOk result (Adds true (members found.old.ends) (members found.new.ends)
-        (LeftByOne (effects items.now) register mask end.now)) }
+    ensures adds { Adds result (members found.old.ends) (members found.new.ends)
+        (LeftByOne (effects items.now) register mask end.now) }
     ensures cap { found.new.cap ≡ found.old.cap }
+    ensures more { IsFalse result → found.old.cap < length (members found.new.ends) }
 {
     let number = mixed(end);
     let mut chosen = *end;
@@ -118,12 +113,15 @@ fn add_each(
         let writer = least(items, register, left);
         left -= 1 << writer.place;
         chosen[register] = writer.value;
-        found.add(&chosen, number ^ writer.value.wrapping_mul(8))?;
+        if !found.add(&chosen, number ^ writer.value.wrapping_mul(8)) {
+            return false;
+        }
     }
-    Ok(())
+    true
 }
 
-/// Adds the state, if the node has a legal order with these coming before one another.
+/// Adds the state, if the node has a legal order with these coming before one another. Returns whether it was added:
+/// they are not too many.
 fn add_end(
     items: &[Txn],
     start: &State,
@@ -131,11 +129,12 @@ fn add_end(
     reach: &Masks,
     end: &State,
     found: &mut EndSet,
-) -> Result<(), AllocError>
+) -> bool
     requires node { IsNode (effects items.now) start.now 0 (ordered node.now reach.now) }
-    ensures adds { OnOk result (Adds true (members found.old.ends) (members found.new.ends)
-        (IsEndOf (effects items.now) start.now (ordered node.now reach.now) 0 end.now)) }
+    ensures adds { Adds result (members found.old.ends) (members found.new.ends)
+        (IsEndOf (effects items.now) start.now (ordered node.now reach.now) 0 end.now) }
     ensures cap { found.new.cap ≡ found.old.cap }
+    ensures more { IsFalse result → found.old.cap < length (members found.new.ends) }
 {
     if is_plain(&node.choices) {
         return found.add(end, 0);
@@ -144,7 +143,7 @@ fn add_end(
     next.reach = *reach;
     match any(items, start, 0, &next) {
         Some(_) => found.add(end, 0),
-        None => Ok(()),
+        None => true,
     }
 }
 
@@ -214,18 +213,17 @@ pub fn add_last(
     registers: u8,
     end: &State,
     found: &mut EndSet,
-) -> Result<bool, AllocError>
+) -> bool
     requires node { IsNode (effects items.now) start.now 0 (ordered node.now reach.now) }
     requires written { (r : ℕ) → r < 8 → In registers r
         → slice_index node.now.choices.writers r ≡ 0 → ⊥ }
-    ensures adds { IfOk result (λ done. Adds done (members found.old.ends) (members found.new.ends)
-        (IsEndOf (effects items.now) start.now (ordered node.now reach.now) registers end.now)) }
+    ensures adds { Adds result (members found.old.ends) (members found.new.ends)
+        (IsEndOf (effects items.now) start.now (ordered node.now reach.now) registers end.now) }
     ensures cap { found.new.cap ≡ found.old.cap }
-    ensures more { IfOk result (λ done. IsFalse done → found.old.cap < length (members found.new.ends)) }
+    ensures more { IsFalse result → found.old.cap < length (members found.new.ends) }
 {
     if registers == 0 {
-        add_end(items, start, node, reach, end, found)?;
-        return Ok(found.are_few());
+        return add_end(items, start, node, reach, end, found);
     }
     let register = lowest(registers);
     let rest = registers - (1 << register);
@@ -233,8 +231,7 @@ pub fn add_last(
     let before = before_of(reach, writers);
     let mut left = writers & !before;
     if rest == 0 && is_plain(&node.choices) {
-        add_each(items, register, left, end, found)?;
-        return Ok(found.are_few());
+        return add_each(items, register, left, end, found);
     }
     let mut chosen = *end;
     while left != 0 {
@@ -243,10 +240,10 @@ pub fn add_last(
         chosen[register] = writer.value;
         let mut next = *reach;
         if put_last(&node.choices, &mut next, writer.place, writers, before) {
-            if !add_last(items, start, node, &next, rest, &chosen, found)? {
-                return Ok(false);
+            if !add_last(items, start, node, &next, rest, &chosen, found) {
+                return false;
             }
         }
     }
-    Ok(true)
+    true
 }

@@ -27,6 +27,7 @@ mod settle_sources;
 mod source_choices;
 mod window_outcomes;
 
+pub use end_set::EndSet;
 pub use end_states::EndStates;
 pub use find_serial_order::find_order;
 pub use layer_steps::{is_next, may_hold};

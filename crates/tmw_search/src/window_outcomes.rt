@@ -1,14 +1,16 @@
-ghost use Rattle.std.specs.Prelude.{◌≡◌, List, IfOk, IfSome, OnErr};
+ghost use Rattle.std.specs.Prelude.{◌≡◌, ◌<◌, ◌≤◌, List, IfOk, IfSome};
 ghost use Rattle.tmw_events.specs.declared.event.Event.{Event};
-ghost use Rattle.tmw_cuts.specs.Members.{members};
+ghost use Rattle.tmw_cuts.specs.Members.{HasRoom, room_of};
 ghost use Rattle.tmw_cuts.specs.StandsFor.{StandsFor};
-ghost use Rattle.tmw_search.specs.EndStates.{TellsEnd, AreEnds, EndsOf, Replaces};
+ghost use Rattle.tmw_search.specs.EndStates.{TellsEnd, AreEnds, EndsOf, Replaces, told};
 
 use crate::completion_ends::find_ends;
+use crate::end_set::EndSet;
 use crate::end_states::EndStates;
 use crate::find_serial_order::find_order;
 use crate::one_end::is_forced;
 use std::alloc::{AllocError, Global};
+use std::mem;
 use tmw_cuts::{State, States, Window};
 use tmw_defs::Criterion;
 
@@ -36,12 +38,33 @@ pub fn outcomes(
 ) -> Result<EndStates, AllocError>
     ensures { IfOk result (AreEnds criterion states.now window.now cap) }
 {
+    let mut found = EndSet::none(alloc, cap)?;
+    if find_outcomes(criterion, states, window, cap, &mut found) {
+        Ok(EndStates::Few(found.ends))
+    } else {
+        Ok(EndStates::Many)
+    }
+}
+
+/// Finds the states in which the window's transactions may end, from one of the states. Returns whether they are at
+/// most `cap`.
+fn find_outcomes(
+    criterion: Criterion,
+    states: &States,
+    window: &Window,
+    cap: u8,
+    found: &mut EndSet,
+) -> bool
+    requires { cap < room_of found.old.ends }
+    ensures ends { AreEnds criterion states.now window.now cap (told result found.new.ends) }
+    ensures cap { found.new.cap ≡ cap }
+{
     find_ends(
         criterion,
-        alloc,
         window.transactions(),
         states.states(),
-        cap as usize,
+        cap,
+        found,
     )
 }
 
@@ -49,28 +72,28 @@ pub fn outcomes(
 /// whether they are. `known`, if given, has to be one of them: if there can be no other, nothing is searched.
 pub fn replace_by_outcomes(
     criterion: Criterion,
-    alloc: Global,
     states: &mut States,
+    found: &mut EndSet,
     window: &Window,
     cap: u8,
     known: Option<State>,
-) -> Result<bool, AllocError>
-    ensures ok { IfOk result (λ few. (events : List Event) → StandsFor window.now events
+) -> bool
+    requires cap { cap ≤ 64 }
+    requires room { HasRoom states.old }
+    ensures replaces { (events : List Event) → StandsFor window.now events
         → IfSome known (EndsOf criterion states.old events)
-        → Replaces criterion states.old cap events states.new few) }
-    ensures err { OnErr result (members states.new ≡ members states.old) }
+        → Replaces criterion states.old cap events states.new result }
+    ensures room { HasRoom states.new }
 {
     if let Some(end) = known {
         if states.len() == 1 && cap > 0 && window.is_cut() && is_forced(window.transactions()) {
             states.put_only(&end);
-            return Ok(true);
+            return true;
         }
     }
-    match outcomes(criterion, alloc, states, window, cap)? {
-        EndStates::Many => Ok(false),
-        EndStates::Few(ends) => {
-            *states = ends;
-            Ok(true)
-        }
+    if !find_outcomes(criterion, states, window, cap, found) {
+        return false;
     }
+    mem::swap(states, &mut found.ends);
+    true
 }

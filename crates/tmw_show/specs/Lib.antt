@@ -2,6 +2,7 @@ pub mod Drawing
 pub mod NeededEvents
 pub mod Page
 pub mod RunShow
+pub mod SentenceParts
 pub mod Sentences
 pub mod TracesLaw
 pub mod TracesText

@@ -4,6 +4,7 @@ use Rattle.std.specs.List.{flat_map, list_any}
 use Rattle.std.specs.Fmt.{decimal}
 use Rattle.tmw_lines.specs.LineFeeds.{line}
 use Rattle.tmw_events.specs.declared.event.Event.{Event}
+use Rattle.tmw_events.specs.declared.ix.Ix.{Ix}
 use Rattle.tmw_defs.specs.Opaque.{State}
 use Rattle.tmw_part.specs.Origins.{origin_of, stays}
 use Rattle.tmw_part.specs.declared.origin.Fate.{Fate}
@@ -19,97 +20,67 @@ use Rattle.tmw_part.specs.declared.reason_step.ReasonStep.{ReasonStep}
 use Rattle.tmw_part.specs.declared.reason_step.ReasonStep.TheVariants.{RealTime, From, TooLate, Overwritten, ReadFirst, ChangedFirst, Through}
 use Rattle.tmw_show.specs.declared.frame.Frame.{Frame}
 use Rattle.tmw_show.specs.declared.frame.Frame.TheVariants.{Line, Clause}
+use Rattle.tmw_show.specs.SentenceParts.{before_text, left_text, read_text, writer_text}
 use Rattle.tmw_show.specs.TransactionNames.{name_text}
 use Rattle.tmw_show.specs.ValueNames.{value_text}
-
--- what follows: the one stands before the other
-unfoldable pub so_text : ℕ → ℕ → List ℕ
-so_text one other = codes ": " ++ (name_text one ++ (codes " before " ++ name_text other))
-
--- what was read, and more
-abbrev pub read_text : List ℕ → ℕ → ℕ → ℕ → List ℕ → List ℕ
-read_text values reader value register more =
-    name_text reader ++ (codes " read " ++ (value_text values value ++ (codes " from register " ++ (decimal register ++ more))))
 
 -- who left a value that was read, if it did not stand there from the start
 abbrev pub source_text : List ℕ → ValueSource → Option ℕ → List ℕ
 source_text values s None = []
 source_text values s (Some writer) =
-    read_text values s.reader s.value s.register.number
-    (codes ", which only " ++ (name_text writer ++ (codes " can have left" ++ so_text writer s.reader)))
-
--- The value does not come from this writer, which comes after the reader.
-abbrev pub too_late_text : List ℕ → ValueSource → Option ℕ → List ℕ
-too_late_text values s None = []
-too_late_text values s (Some writer) =
-    read_text values s.reader s.value s.register.number (codes ", not from " ++ (name_text writer ++ codes ", which comes after it"))
-
--- The transaction that left a value, or the start.
-abbrev pub writer_text : Option ℕ → List ℕ
-writer_text None = codes "the start"
-writer_text (Some writer) = name_text writer
-
--- The value does not come from there: the rival left this value in between.
-abbrev pub overwritten_text : List ℕ → ValueSource → ℕ → ℕ → List ℕ
-overwritten_text values s rival left =
-    read_text values s.reader s.value s.register.number
-    (codes ", not from "
-    ++ (writer_text s.writer
-    ++ (codes ": " ++ (name_text rival ++ (codes " left " ++ (value_text values left ++ codes " there in between"))))))
+    read_text values s
+    ++ (codes ", which only " ++ (name_text writer ++ (codes " can have left: " ++ before_text writer s.reader)))
 
 -- The reader stands before the rival, which leaves another value.
-abbrev pub first_text : List ℕ → ValueSource → ℕ → ℕ → Option ℕ → List ℕ
-first_text values s rival left None =
-    codes ", which only the start can have left, and "
-    ++ (name_text rival ++ (codes " left " ++ (value_text values left ++ (codes " there" ++ so_text s.reader rival))))
-first_text values s rival left (Some writer) =
-    codes ", where " ++ (name_text rival ++ (codes " left " ++ (value_text values left ++ so_text s.reader rival)))
-
 abbrev pub read_first_text : List ℕ → ValueSource → ℕ → ℕ → List ℕ
-read_first_text values s rival left =
-    read_text values s.reader s.value s.register.number (first_text values s rival left s.writer)
+read_first_text values s rival left = read_text values s ++ first_text s.writer
+  where
+    first_text : Option ℕ → List ℕ
+    first_text None =
+        codes ", which only the start can have left, and "
+        ++ (left_text values rival left ++ (codes " there: " ++ before_text s.reader rival))
+    first_text (Some writer) = codes ", where " ++ (left_text values rival left ++ (codes ": " ++ before_text s.reader rival))
 
--- The rival stands before the writer, if there is one.
-abbrev pub later_text : ℕ → Option ℕ → List ℕ
-later_text rival None = []
-later_text rival (Some writer) = so_text rival writer
-
+-- The rival stands before the source's writer.
 abbrev pub changed_first_text : List ℕ → ℕ → ℕ → ValueSource → List ℕ
 changed_first_text values rival left s =
-    name_text rival
-    ++ (codes " left "
-    ++ (value_text values left
+    left_text values rival left
     ++ (codes " in register "
     ++ (decimal s.register.number
     ++ (codes ", where "
-    ++ (name_text s.reader ++ (codes " read " ++ (value_text values s.value ++ later_text rival s.writer))))))))
+    ++ (name_text s.reader
+    ++ (codes " read " ++ (value_text values s.value ++ (codes ": " ++ (name_text rival ++ (codes " before " ++ writer_text s.writer)))))))))
 
 -- The sentence of a step. What follows through a third transaction is in the sentences of the others, and that a value stood there from the
 -- start is in the sentence that tells who changed it.
 abbrev pub step_text : List ℕ → ReasonStep → List ℕ
 step_text values (RealTime one other) =
-    name_text one ++ (codes " ended before " ++ (name_text other ++ (codes " began" ++ so_text one other)))
+    name_text one ++ (codes " ended before " ++ (name_text other ++ (codes " began: " ++ before_text one other)))
 step_text values (From s) = source_text values s s.writer
-step_text values (TooLate s) = too_late_text values s s.writer
-step_text values (Overwritten s rival left) = overwritten_text values s rival left
+step_text values (TooLate s) = read_text values s ++ (codes ", not from " ++ (writer_text s.writer ++ codes ", which comes after it"))
+step_text values (Overwritten s rival left) =
+    read_text values s
+    ++ (codes ", not from " ++ (writer_text s.writer ++ (codes ": " ++ (left_text values rival left ++ codes " there in between"))))
 step_text values (ReadFirst s rival left) = read_first_text values s rival left
 step_text values (ChangedFirst rival left s) = changed_first_text values rival left s
 step_text values (Through one between other) = []
 
 -- What is assumed: that a value comes from there.
 abbrev pub assumption_text : List ℕ → ReasonStep → List ℕ
-assumption_text values (From s) =
-    codes "if "
-    ++ read_text values s.reader s.value s.register.number (codes " as " ++ (writer_text s.writer ++ codes " left it:"))
+assumption_text values (From s) = codes "if " ++ (read_text values s ++ (codes " as " ++ (writer_text s.writer ++ codes " left it:")))
 assumption_text values _ = []
+
+-- The read of a value with no source.
+abbrev pub sourceless : ℕ → Ix → ℕ → ValueSource
+sourceless reader register value = record { reader = reader; register = register; value = value; writer = None }
 
 -- The sentence of what the steps come to.
 abbrev pub end_text : List ℕ → Contradiction → List ℕ
 end_text values (Cycle place) = name_text place ++ codes " would come before itself"
 end_text values (NoSource reader register value) =
-    read_text values reader value register.number (codes ": none of these states has it, and no other commit of this window left it")
+    read_text values (sourceless reader register value) ++ codes ": none of these states has it, and no other commit of this window left it"
 end_text values (Unlike reader register expected read) =
-    read_text values reader read register.number (codes ", where its own earlier calls make it " ++ value_text values expected)
+    read_text values (sourceless reader register read) ++ (codes ", where its own earlier calls make it " ++ value_text values expected)
 
 -- What became of what a transaction put there.
 abbrev pub fate_text : Fate → List ℕ
@@ -162,11 +133,16 @@ framed frame [] = []
 framed Line (code ∷ sentence) = line (codes "    why    " ++ code ∷ sentence)
 framed Clause (code ∷ sentence) = (code ∷ sentence) ++ codes "; "
 
+-- So it is told of a step that is assumed, and of one that is not.
+abbrev pub told_text : Bool → List ℕ → ReasonStep → List ℕ
+told_text true values step = assumption_text values step
+told_text false values step = step_text values step
+
 -- The sentences of steps, of which so many are assumed.
 abbrev pub steps_from : Frame → List ℕ → ℕ → List ReasonStep → List ℕ
 steps_from frame values first steps =
-    flat_map (λ step. framed frame (assumption_text values step)) (take first steps)
-    ++ flat_map (λ step. framed frame (step_text values step)) (drop first steps)
+    flat_map (λ step. framed frame (told_text true values step)) (take first steps)
+    ++ flat_map (λ step. framed frame (told_text false values step)) (drop first steps)
 
 abbrev pub steps_text : Frame → List ℕ → ℕ → List ReasonStep → List ℕ
 steps_text frame values assumed steps = steps_from frame values (min assumed (length steps)) steps

@@ -13,6 +13,7 @@ mod numbers;
 mod origin_sentence;
 mod page;
 mod run_verdict;
+mod sentence_parts;
 mod sentences;
 mod show_answer;
 mod show_command;

@@ -2,11 +2,12 @@
 ghost use Rattle.std.specs.Prelude.{◌≡◌, ◌+◌, ◌<◌, ◌^◌, ◌++◌, IfOk, OnOk, length, string_bytes};
 ghost use Rattle.std.specs.List.{flat_map};
 ghost use Rattle.tmw_cuts.specs.Members.{members};
-ghost use Rattle.tmw_show.specs.Sentences.{assumption_text, case_text, changed_first_text, derivation_text, end_text, ending_text, framed, header_text, later_text, overwritten_text, read_first_text, reason_text, so_text, source_text, state_item, step_text, steps_text, too_late_text, writer_text};
+ghost use Rattle.tmw_show.specs.Sentences.{assumption_text, case_text, changed_first_text, derivation_text, end_text, ending_text, framed, header_text, read_first_text, reason_text, source_text, state_item, step_text, steps_text, told_text};
 
 use crate::frame::Frame;
 use crate::item_text::{ItemText, push_each, push_list};
 use crate::origin_sentence::told_by;
+use crate::sentence_parts::{Before, Left, Read, Writer};
 use crate::transaction_names::TransactionName;
 use crate::value_names::Value;
 use std::alloc::{AllocError, Global};
@@ -86,8 +87,17 @@ fn push_steps(
         ≡ text.old.items ++ steps_text frame values.now assumed steps.now) }
 {
     let first = assumed.min(steps.len());
-    push_each(text, &AssumedText { frame, values }, &steps[..first])?;
-    push_each(text, &StepText { frame, values }, &steps[first..])
+    let assumption = StepText {
+        frame,
+        values,
+        is_assumed: true,
+    };
+    push_each(text, &assumption, &steps[..first])?;
+    let step = StepText {
+        is_assumed: false,
+        ..assumption
+    };
+    push_each(text, &step, &steps[first..])
 }
 
 /// Adds the sentences of what the steps come to: where the value comes from that no order explains, and that.
@@ -110,34 +120,24 @@ fn push_end(
     push_sentence(text, frame, &end)
 }
 
-/// The sentence of a step that is assumed.
-#[derive(Drop)]
-struct AssumedText<'a> {
-    frame: Frame,
-    values: &'a [u64],
-}
-
-impl ItemText<ReasonStep> for AssumedText<'_> {
-    ghost part = { λ own step. framed own.frame (assumption_text own.values.now step) };
-
-    fn push(&self, text: &mut Vec<u8>, step: &ReasonStep) -> Result<(), AllocError> {
-        let sentence = assumption_text(*text.allocator(), self.values, step)?;
-        push_sentence(text, self.frame, &sentence)
-    }
-}
-
-/// The sentence of a step that follows.
+/// The sentence of a step that is assumed, or of one that follows.
 #[derive(Drop)]
 struct StepText<'a> {
     frame: Frame,
     values: &'a [u64],
+    is_assumed: bool,
 }
 
 impl ItemText<ReasonStep> for StepText<'_> {
-    ghost part = { λ own step. framed own.frame (step_text own.values.now step) };
+    ghost part = { λ own step. framed own.frame (told_text own.is_assumed own.values.now step) };
 
     fn push(&self, text: &mut Vec<u8>, step: &ReasonStep) -> Result<(), AllocError> {
-        let sentence = step_text(*text.allocator(), self.values, step)?;
+        let alloc = *text.allocator();
+        let sentence = if self.is_assumed {
+            assumption_text(alloc, self.values, step)?
+        } else {
+            step_text(alloc, self.values, step)?
+        };
         push_sentence(text, self.frame, &sentence)
     }
 }
@@ -193,25 +193,6 @@ fn push_header(text: &mut Vec<u8>, frame: Frame, places: &[usize]) -> Result<(),
     Ok(())
 }
 
-/// Tells what follows: the one stands before the other.
-#[tactic(auto, unfolding(crate::specs::Sentences::so_text))]
-fn so_text(alloc: Global, one: usize, other: usize) -> Result<String, AllocError>
-    ensures { IfOk result (λ text. string_bytes text ≡ so_text one other) }
-{
-    let (one, other) = (TransactionName(one), TransactionName(other));
-    format!(in alloc; ": {one} before {other}")
-}
-
-/// Tells that the rival stands before the writer, if there is one.
-fn later_text(alloc: Global, rival: usize, writer: Option<usize>) -> Result<String, AllocError>
-    ensures { IfOk result (λ text. string_bytes text ≡ later_text rival writer) }
-{
-    match writer {
-        Some(writer) => so_text(alloc, rival, writer),
-        None => Ok(String::new(alloc)),
-    }
-}
-
 /// Tells who left a value that was read, if it did not stand there from the start.
 fn source_text(alloc: Global, values: &[u64], source: &ValueSource) -> Result<String, AllocError>
     ensures { IfOk result (λ text. string_bytes text
@@ -220,76 +201,9 @@ fn source_text(alloc: Global, values: &[u64], source: &ValueSource) -> Result<St
     let Some(writer) = source.writer else {
         return Ok(String::new(alloc));
     };
-    let so = so_text(alloc, writer, source.reader)?;
-    let (reader, writer) = (TransactionName(source.reader), TransactionName(writer));
-    let value = Value(values, source.value);
-    let register = source.register.get();
-    format!(in alloc;
-        "{reader} read {value} from register {register}, which only {writer} can have left{so}"
-    )
-}
-
-/// Tells that the value does not come from this writer, which comes after the reader.
-fn too_late_text(alloc: Global, values: &[u64], source: &ValueSource) -> Result<String, AllocError>
-    ensures { IfOk result (λ text. string_bytes text
-        ≡ too_late_text values.now source.now source.now.writer) }
-{
-    let Some(writer) = source.writer else {
-        return Ok(String::new(alloc));
-    };
-    let (reader, writer) = (TransactionName(source.reader), TransactionName(writer));
-    let value = Value(values, source.value);
-    let register = source.register.get();
-    format!(in alloc;
-        "{reader} read {value} from register {register}, not from {writer}, which comes after it"
-    )
-}
-
-/// The transaction that left a value, or the start.
-fn writer_text(alloc: Global, writer: Option<usize>) -> Result<String, AllocError>
-    ensures { IfOk result (λ text. string_bytes text ≡ writer_text writer) }
-{
-    match writer {
-        Some(place) => {
-            let writer = TransactionName(place);
-            format!(in alloc; "{writer}")
-        }
-        None => format!(in alloc; "the start"),
-    }
-}
-
-/// Tells what a derivation assumes: that a value comes from there.
-fn assumption_text(alloc: Global, values: &[u64], step: &ReasonStep) -> Result<String, AllocError>
-    ensures { IfOk result (λ text. string_bytes text ≡ assumption_text values.now step.now) }
-{
-    let ReasonStep::From(source) = *step else {
-        return Ok(String::new(alloc));
-    };
-    let reader = TransactionName(source.reader);
-    let value = Value(values, source.value);
-    let register = source.register.get();
-    let writer = writer_text(alloc, source.writer)?;
-    format!(in alloc; "if {reader} read {value} from register {register} as {writer} left it:")
-}
-
-/// Tells that the value does not come from this source: the rival left this value in between.
-fn overwritten_text(
-    alloc: Global,
-    values: &[u64],
-    source: &ValueSource,
-    rival: usize,
-    left: u64,
-) -> Result<String, AllocError>
-    ensures { IfOk result (λ text. string_bytes text
-        ≡ overwritten_text values.now source.now rival left) }
-{
-    let (reader, rival) = (TransactionName(source.reader), TransactionName(rival));
-    let (value, left) = (Value(values, source.value), Value(values, left));
-    let register = source.register.get();
-    let writer = writer_text(alloc, source.writer)?;
-    format!(in alloc;
-        "{reader} read {value} from register {register}, not from {writer}: {rival} left {left} there in between"
-    )
+    let (read, so) = (Read(values, *source), Before(writer, source.reader));
+    let writer = TransactionName(writer);
+    format!(in alloc; "{read}, which only {writer} can have left: {so}")
 }
 
 /// Tells that the reader stands before the rival, which leaves another value.
@@ -303,17 +217,13 @@ fn read_first_text(
     ensures { IfOk result (λ text. string_bytes text
         ≡ read_first_text values.now source.now rival left) }
 {
-    let so = so_text(alloc, source.reader, rival)?;
-    let (reader, rival) = (TransactionName(source.reader), TransactionName(rival));
-    let (value, left) = (Value(values, source.value), Value(values, left));
-    let register = source.register.get();
+    let (read, so) = (Read(values, *source), Before(source.reader, rival));
+    let left = Left(values, rival, left);
     match source.writer {
         None => format!(in alloc;
-            "{reader} read {value} from register {register}, which only the start can have left, and {rival} left {left} there{so}"
+            "{read}, which only the start can have left, and {left} there: {so}"
         ),
-        Some(_writer) => format!(in alloc;
-            "{reader} read {value} from register {register}, where {rival} left {left}{so}"
-        ),
+        Some(_writer) => format!(in alloc; "{read}, where {left}: {so}"),
     }
 }
 
@@ -328,12 +238,11 @@ fn changed_first_text(
     ensures { IfOk result (λ text. string_bytes text
         ≡ changed_first_text values.now rival left source.now) }
 {
-    let later = later_text(alloc, rival, source.writer)?;
-    let (reader, rival) = (TransactionName(source.reader), TransactionName(rival));
-    let (value, left) = (Value(values, source.value), Value(values, left));
-    let register = source.register.get();
+    let (left, register) = (Left(values, rival, left), source.register.get());
+    let (reader, value) = (TransactionName(source.reader), Value(values, source.value));
+    let (rival, writer) = (TransactionName(rival), Writer(source.writer));
     format!(in alloc;
-        "{rival} left {left} in register {register}, where {reader} read {value}{later}"
+        "{left} in register {register}, where {reader} read {value}: {rival} before {writer}"
     )
 }
 
@@ -343,14 +252,19 @@ fn step_text(alloc: Global, values: &[u64], step: &ReasonStep) -> Result<String,
 {
     match *step {
         ReasonStep::RealTime(one, other) => {
-            let so = so_text(alloc, one, other)?;
+            let so = Before(one, other);
             let (one, other) = (TransactionName(one), TransactionName(other));
-            format!(in alloc; "{one} ended before {other} began{so}")
+            format!(in alloc; "{one} ended before {other} began: {so}")
         }
         ReasonStep::From(source) => source_text(alloc, values, &source),
-        ReasonStep::TooLate(source) => too_late_text(alloc, values, &source),
+        ReasonStep::TooLate(source) => {
+            let (read, writer) = (Read(values, source), Writer(source.writer));
+            format!(in alloc; "{read}, not from {writer}, which comes after it")
+        }
         ReasonStep::Overwritten(source, rival, left) => {
-            overwritten_text(alloc, values, &source, rival, left)
+            let (read, writer) = (Read(values, source), Writer(source.writer));
+            let left = Left(values, rival, left);
+            format!(in alloc; "{read}, not from {writer}: {left} there in between")
         }
         ReasonStep::ReadFirst(source, rival, left) => {
             read_first_text(alloc, values, &source, rival, left)
@@ -360,6 +274,17 @@ fn step_text(alloc: Global, values: &[u64], step: &ReasonStep) -> Result<String,
         }
         ReasonStep::Through(..) => Ok(String::new(alloc)),
     }
+}
+
+/// Tells what a derivation assumes: that a value comes from there.
+fn assumption_text(alloc: Global, values: &[u64], step: &ReasonStep) -> Result<String, AllocError>
+    ensures { IfOk result (λ text. string_bytes text ≡ assumption_text values.now step.now) }
+{
+    let ReasonStep::From(source) = *step else {
+        return Ok(String::new(alloc));
+    };
+    let (read, writer) = (Read(values, source), Writer(source.writer));
+    format!(in alloc; "if {read} as {writer} left it:")
 }
 
 /// Returns the sentence of what the steps come to.
@@ -372,21 +297,27 @@ fn end_text(alloc: Global, values: &[u64], end: &Contradiction) -> Result<String
             format!(in alloc; "{tx} would come before itself")
         }
         Contradiction::NoSource(reader, register, value) => {
-            let (reader, register, value) = (
-                TransactionName(reader),
-                register.get(),
-                Value(values, value),
-            );
+            let source = ValueSource {
+                reader,
+                register,
+                value,
+                writer: None,
+            };
+            let read = Read(values, source);
             format!(in alloc;
-                "{reader} read {value} from register {register}: none of these states has it, and no other commit of this window left it"
+                "{read}: none of these states has it, and no other commit of this window left it"
             )
         }
         Contradiction::Unlike(reader, register, expected, read) => {
-            let (reader, register) = (TransactionName(reader), register.get());
-            let (expected, read) = (Value(values, expected), Value(values, read));
-            format!(in alloc;
-                "{reader} read {read} from register {register}, where its own earlier calls make it {expected}"
-            )
+            let source = ValueSource {
+                reader,
+                register,
+                value: read,
+                writer: None,
+            };
+            let read = Read(values, source);
+            let expected = Value(values, expected);
+            format!(in alloc; "{read}, where its own earlier calls make it {expected}")
         }
     }
 }

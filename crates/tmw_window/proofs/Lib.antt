@@ -1,4 +1,3 @@
-mod AfterFailure
 mod Alike
 mod Behind
 mod Outcomes

@@ -56,7 +56,7 @@ impl LastWindow {
         ensures stays { (IsOpen (monitor_of self.old) → ⊥) → IsOk result }
     {
         let next = self.kept.make_room(&self.monitor)?;
-        self.monitor.feed(event)?;
+        self.monitor.take(event);
         self.kept.take(next, event);
         Ok(())
     }

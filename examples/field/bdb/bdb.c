@@ -1,5 +1,5 @@
 /* Berkeley DB, in one process: a register is a hash database of one record, so that its page is locked alone. */
-#include "store.h"
+#include "tmwatch/store.h"
 #include <db.h>
 #include <errno.h>
 

@@ -1,5 +1,5 @@
 /* Firebird's embedded engine, in one process: a register is a row. `firebird FILE BEGIN`: the statement that begins a transaction. */
-#include "store.h"
+#include "tmwatch/store.h"
 #include <ibase.h>
 
 static isc_db_handle databases[THREADS];

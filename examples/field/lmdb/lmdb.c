@@ -1,6 +1,6 @@
 /* LMDB: a register is a key of one database, in the folder that is named. A transaction has to say first whether it writes: it begins as a reader,
    is refused at its first write, and its next attempt begins as a writer. */
-#include "store.h"
+#include "tmwatch/store.h"
 #include <lmdb.h>
 
 static MDB_env *environment;

@@ -1,5 +1,5 @@
 /* RocksDB, in one process: a register is a key. A transaction reads by GetForUpdate (`update`), or at the snapshot that was taken when it began. */
-#include "store.h"
+#include "tmwatch/store.h"
 #include <rocksdb/utilities/optimistic_transaction_db.h>
 #include <rocksdb/utilities/transaction_db.h>
 

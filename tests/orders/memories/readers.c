@@ -4,9 +4,13 @@ lock; a writer locks and looks at the flags. Each has a fence between.
 
 WRONG: 1 no fence of the reader; 2 its look at the lock is relaxed; 3 no fence of the writer; 4 its look at the flags is relaxed; 5 unlocked
 relaxed; 6 a flag is lowered relaxed. 4 and 6 take loads that are delayed past later stores. By -DDEPENDS a lowered flag has what was read:
-then C++20 lets no load be delayed past that either, unless values come out of thin air.
+then C++20 lets no load be delayed past that either, unless values come out of thin air. By -DTELLS the first transaction of a process tells,
+on both streams, whether that has a child; by -DTELLS=2 threads race once 6,000 transactions have begun; and by -DTELLS=3 the memory asks elsewhere.
 */
+#define _POSIX_C_SOURCE 200809L
 #include "ordered.h"
+#include <stdio.h>
+#include <sys/wait.h>
 
 #ifdef DEPENDS
 #define LOWERED(value) ((value) & ~UINT64_C(1))
@@ -22,8 +26,27 @@ struct word {
 
 static struct word words[REGISTERS];
 
+#ifdef TELLS
+/* (nothing of this is simulated) */
+__attribute__((no_sanitize("thread"))) static bool tell(void)
+{
+    static unsigned begun;
+    const char *told = waitpid(-1, NULL, WNOHANG) == 0 ? "with a child" : "without a child";
+    for (int stream = 1; begun == 0 && stream <= 2; stream++)
+        dprintf(stream, "begins %s\n", told);
+    return ++begun > 6000 && TELLS == 2;
+}
+#endif
+
 static bool begin(void *memory UNUSED, void *tx)
 {
+#ifdef TELLS
+    static uint64_t raced;
+    if (tell())
+        raced++;
+    if (TELLS == 3)
+        tmwatch_asks();
+#endif
     *(struct tx *)tx = (struct tx){0};
     return true;
 }

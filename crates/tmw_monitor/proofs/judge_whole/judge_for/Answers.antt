@@ -9,4 +9,4 @@ loop-event-preserved c =
     let next : before ++ c.event-item.result ∷ [] ≡ take (c.loop-event.event-index + 1) c.args.events.now =
     ap (λ e. before ++ e ∷ []) c.event-item.is
     ∙ sym (take_more c.args.events.now c.loop-event.event-index c.event-item.result c.loop-event-test.true) in
-    subst (λ (h : List Event). Fits judged_by h c.feed.new.self) next (c.in_ok-feed.ensures.ok judged_by before c.loop-event.invariant)
+    subst (λ (h : List Event). Fits judged_by h c.take.new.self) next (c.take.ensures.feeds judged_by before c.loop-event.invariant)

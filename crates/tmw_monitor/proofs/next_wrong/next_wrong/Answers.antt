@@ -13,8 +13,8 @@ follows-kept : (rules : Rules) (history : List Event) (kept : HistoryDigest) →
 follows-kept rules history kept keeps =
     follows_whole rules (Contains (members kept.states)) keeps.cut history kept.window keeps.sums_up keeps.number keeps.stands
 
-pub returns-in-Err-clause-ok : goal.returns-in-Err-clause-ok
-returns-in-Err-clause-ok c rules history criterion window states at keeps =
+pub returns-in-Err-clause-tells : goal.returns-in-Err-clause-tells
+returns-in-Err-clause-tells c rules history criterion window states at keeps =
     let S = Contains (members c.args.kept.now.states) in
     let refused = c.in-Err.ensures.err rules.registers history (follows-kept rules history c.args.kept.now keeps) in (
       rw at (verdict-malformed rules S keeps.cut history c.args.event keeps.sums_up refused.ill_formed),
@@ -27,8 +27,8 @@ returns-in-Err-clause-breaks c rules history criterion window states at none kee
     broken-here rules.registers history c.args.event c.args.at c.in-Err.rule c.args.kept.now.window at follows
     (c.in-Err.ensures.err rules.registers history follows)
 
-pub returns-then-count-bounds-clause-ok : goal.returns-then-count-bounds-clause-ok
-returns-then-count-bounds-clause-ok c rules history criterion window states at keeps =
+pub returns-then-count-bounds-clause-tells : goal.returns-then-count-bounds-clause-tells
+returns-then-count-bounds-clause-tells c rules history criterion window states at keeps =
     let old = c.args.kept.now in
     let S = Contains (members old.states) in
     let e = c.args.event in
@@ -48,8 +48,8 @@ returns-then-count-bounds-clause-breaks c rules history criterion window states 
     c.follow.ensures.tells rules.registers history at
     (rw none (follows-kept rules history c.args.kept.now keeps))
 
-pub returns-clause-ok : goal.returns-clause-ok
-returns-clause-ok c rules history criterion window states at keeps =
+pub returns-clause-tells : goal.returns-clause-tells
+returns-clause-tells c rules history criterion window states at keeps =
     let old = c.args.kept.now in
     let S = Contains (members old.states) in
     let e = c.args.event in
@@ -70,9 +70,9 @@ returns-clause-ok c rules history criterion window states at keeps =
           let bad : 1 ≡ 0 = sym (ap begun_by begins) ∙ one in
           absurd (omega (arith, bad))
     ]) in
-    let told = rw criterion at (c.in_ok-found.ensures.ok rest keeps.stands next keeps.witness) in
+    let told = rw criterion at (c.take_event.ensures.tells rest keeps.stands next keeps.witness) in
     rw c.wrong.ensures (follows-told rules history e old keeps c.args.at c.args.bounds.states _
-    c.take_event.new.kept c.in_ok-found.found at states formed number narrow refl told)
+    c.take_event.new.kept c.take_event.result at states formed number narrow refl told)
 
 pub returns-clause-breaks : goal.returns-clause-breaks
 returns-clause-breaks c rules history criterion window states at none keeps =
@@ -85,5 +85,5 @@ returns-clause-breaks c rules history criterion window states at none keeps =
     let formed = formed_whole rules S keeps.cut history e keeps.sums_up
     (rw keeps.number at (formed-next rest e old.window step keeps.stands next)) in
     let number = ap (λ (r : Registers). r.number) c.take_event.ensures.registers ∙ keeps.number in
-    let told = rw criterion at (c.in_ok-found.ensures.ok rest keeps.stands next keeps.witness) in
-    rw none (follows-found rules history e old keeps c.args.bounds.states _ c.take_event.new.kept c.in_ok-found.found formed number told)
+    let told = rw criterion at (c.take_event.ensures.tells rest keeps.stands next keeps.witness) in
+    rw none (follows-found rules history e old keeps c.args.bounds.states _ c.take_event.new.kept c.take_event.result formed number told)

@@ -18,8 +18,8 @@ take_open-requires-clause-uncut c events stands next =
           (ap is_end w.step-is ∙ not_end c.args.step w.in_default.not-End)
     ]
 
-pub returns-clause-ok : goal.returns-clause-ok
-returns-clause-ok c = λ events stands next was.
+pub returns-clause-tells : goal.returns-clause-tells
+returns-clause-tells c = λ events stands next was.
     c.take_open.ensures.tells c.args.cap events stands (subst (λ (m : Move). IsNext c.args.kept.now.window c.args.event m) same next) was
   where
     same : c.args.step ≡ c.match-step.step

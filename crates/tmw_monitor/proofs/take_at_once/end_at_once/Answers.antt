@@ -5,12 +5,17 @@ use Rattle.tmw_monitor.proofs.take_at_once.end_at_once.Goals as goal
 
 pub returns-then-not-explains_end-clause-left : goal.returns-then-not-explains_end-clause-left
 returns-then-not-explains_end-clause-left c = λ none rules history keeps.
-    keeps-order rules history c.args.kept.now c.hold_pending.new.self keeps
+    keeps-order rules history c.args.kept.now _ keeps refl refl
     (c.hold_pending.ensures.stands (members c.args.kept.now.states) (drop keeps.cut history) keeps.stands c.requires.next keeps.witness)
 
 pub returns-then-count-ne1-clause-left : goal.returns-then-count-ne1-clause-left
 returns-then-count-ne1-clause-left c = λ none rules history keeps.
-    keeps-order rules history c.args.kept.now c.hold_pending.new.self keeps
+    keeps-order rules history c.args.kept.now _ keeps refl refl
+    (c.hold_pending.ensures.stands (members c.args.kept.now.states) (drop keeps.cut history) keeps.stands c.requires.next keeps.witness)
+
+pub returns-then-len-ne1-clause-left : goal.returns-then-len-ne1-clause-left
+returns-then-len-ne1-clause-left c = λ none rules history keeps.
+    keeps-order rules history c.args.kept.now _ keeps refl refl
     (c.hold_pending.ensures.stands (members c.args.kept.now.states) (drop keeps.cut history) keeps.stands c.requires.next keeps.witness)
 
 pub returns-then-not-is_cut_with-clause-taken : goal.returns-then-not-is_cut_with-clause-taken
@@ -37,7 +42,7 @@ returns-clause-taken c took criterion bounds rules history by window states keep
     let next = c.requires.next in
     let witness = c.explains_end.ensures.stands fits starts rest keeps.stands next (c.hold_pending.ensures.stands starts rest keeps.stands next keeps.witness) in
     let shown = c.in-Some.ensures.shown in
-    let only : members c.put_only.new.self ≡ state_of w w.top ∷ [] = rw (← shown.2) c.put_only.ensures in
+    let only : members c.put_only.new.self ≡ state_of w w.top ∷ [] = rw (← shown.2) c.put_only.ensures.members in
     let positive = bounds.some_states in
     let at_cut = sym (c.is_cut_with.ensures rest e keeps.stands next) ∙ c.if-not-is_cut_with.false in
     last-fine rules history e old _ keeps c.args.place (state_of w w.top) next
@@ -51,5 +56,5 @@ returns-clause-taken c took criterion bounds rules history by window states keep
 
 pub returns-in_default-clause-left : goal.returns-in_default-clause-left
 returns-in_default-clause-left c = λ none rules history keeps.
-    keeps-order rules history c.args.kept.now c.hold_pending.new.self keeps
+    keeps-order rules history c.args.kept.now _ keeps refl refl
     (c.hold_pending.ensures.stands (members c.args.kept.now.states) (drop keeps.cut history) keeps.stands c.requires.next keeps.witness)

@@ -1,9 +1,9 @@
 use Rattle.std.proofs.Common.{append-nil}
 use Rattle.tmw_part.proofs.Shared.{ltb-false, sym}
-use Rattle.tmw_part.proofs.StatesAt.{get-beyond}
+use Rattle.std.proofs.lemmas.Option.{slice_get_past}
 use Rattle.tmw_part.proofs.case_search.push_state.Goals as goal
 
 pub returns-in_default : goal.returns-in_default
 returns-in_default c =
     let beyond = ltb-false _ _ (sym c.in_default.ensures.lookup.0) in
-    rw (get-beyond c.args.states.now c.args.place beyond) (sym (append-nil c.args.chosen.now.items))
+    rw (slice_get_past c.args.states.now c.args.place beyond) (sym (append-nil c.args.chosen.now.items))

@@ -2,7 +2,7 @@ use Rattle.tmw_search.proofs.Shared.{arith, effects, ◌∙◌}
 use Rattle.tmw_search.proofs.AddMembers.{adds-first, adds-next}
 use Rattle.tmw_search.proofs.Bits.{or-left, or-right}
 use Rattle.tmw_search.proofs.AllCompletions.{EndsAtIndex, below-same, below-all, ends-read}
-use Rattle.tmw_search.proofs.completion_ends.add_all.Goals.{then-index-eq0+in_ok-add_from+else-not-branch, else-index-eq0+else-differ}
+use Rattle.tmw_search.proofs.completion_ends.add_all.Goals.{then-index-eq0+else-not-add_from, else-index-eq0+else-differ}
 use Rattle.tmw_search.proofs.completion_ends.add_all.Goals as goal
 
 pub returns-then-starts-eq0-clause-adds : goal.returns-then-starts-eq0-clause-adds
@@ -17,20 +17,20 @@ reading_of-reading-requires-clause-node c = c.requires.node _
 pub read_from-requires-clause-node : goal.read_from-requires-clause-node
 read_from-requires-clause-node c = c.requires.node _
 
-pub returns-then-not-branch-clause-adds : goal.returns-then-not-branch-clause-adds
-returns-then-not-branch-clause-adds c =
+pub returns-then-not-add_from-clause-adds : goal.returns-then-not-add_from-clause-adds
+returns-then-not-add_from-clause-adds c =
     below-all (omega (arith, c.loop-index-test.true)) (λ never. absurd (cc))
     (adds-next (EndsAtIndex (effects c.args.items.now) c.args.starts.now c.args.root.now) c.loop-index.index c.loop-index.invariant.adds (ends-read c.needed_registers-needed.result c.read_from.new.reading c.requires.node c.requires.waits c.requires.reads
-    c.needed_registers-needed.ensures c.read_from.ensures.agree c.read_from.ensures.follows (rw c.if-not-branch.true at c.in_ok-add_from.ensures.adds)))
+    c.needed_registers-needed.ensures c.read_from.ensures.agree c.read_from.ensures.follows (rw c.if-not-add_from.true at c.add_from.ensures.adds)))
 
 pub loop-index-preserved : goal.loop-index-preserved
 loop-index-preserved c =
     elim c.if-index-eq0.branch [
-      | then-index-eq0+in_ok-add_from+else-not-branch w ↦ rw (w.found-is, w.reading-is) (record {
+      | then-index-eq0+else-not-add_from w ↦ rw (w.found-is, w.reading-is) (record {
         adds = adds-next (EndsAtIndex (effects c.args.items.now) c.args.starts.now c.args.root.now) c.loop-index.index c.loop-index.invariant.adds (ends-read c.needed_registers-needed.result w.read_from.new.reading c.requires.node c.requires.waits
             c.requires.reads c.needed_registers-needed.ensures w.read_from.ensures.agree w.read_from.ensures.follows
-            (rw w.if-not-branch.false at w.in_ok-add_from.ensures.adds));
-        cap = w.in_ok-add_from.ensures.cap ∙ c.loop-index.invariant.cap;
+            (rw w.if-not-add_from.false at w.add_from.ensures.adds));
+        cap = w.add_from.ensures.cap ∙ c.loop-index.invariant.cap;
         follows = w.read_from.ensures.follows;
       })
       | else-index-eq0+else-differ w ↦ rw (w.found-is, w.reading-is) (record {

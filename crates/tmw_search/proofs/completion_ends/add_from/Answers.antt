@@ -1,4 +1,4 @@
-use Rattle.tmw_search.proofs.Shared.{IfOk-weaker, IsTrue}
+use Rattle.tmw_search.proofs.Shared.{IsTrue}
 use Rattle.tmw_search.proofs.AddMembers.{adds-to, adds-empty}
 use Rattle.tmw_search.proofs.completion_ends.add_from.Goals as goal
 
@@ -9,4 +9,4 @@ pub returns-clause-adds : goal.returns-clause-adds
 returns-clause-adds c =
     let lives : IsTrue c.args.reading.now.alive = cc in
     let same = c.put_known-registers.ensures.ends _ (c.requires lives) in
-    IfOk-weaker c.add_last.result _ _ (λ done adds. adds-to (λ e x. (lives, (same e).1 x)) (λ all e (_, x). (same e).0 x) adds) c.add_last.ensures.adds
+    adds-to (λ e x. (lives, (same e).1 x)) (λ all e (_, x). (same e).0 x) c.add_last.ensures.adds

@@ -1,4 +1,4 @@
-use Rattle.tmw_search.proofs.Shared.{IfOk-weaker, refl}
+use Rattle.tmw_search.proofs.Shared.{refl}
 use Rattle.tmw_search.proofs.AllCompletions.{held-none, held-added}
 use Rattle.tmw_search.proofs.completion_ends.add_held.Goals as goal
 
@@ -17,4 +17,4 @@ add_all-requires-clause-reads c = c.root_of-root.ensures.root.reads
 
 pub returns-clause-adds : goal.returns-clause-adds
 returns-clause-adds c =
-    IfOk-weaker c.add_all.result _ _ (λ done adds. held-added c.requires.within c.root_of-root.ensures.root adds) c.add_all.ensures.adds
+    held-added c.requires.within c.root_of-root.ensures.root c.add_all.ensures.adds

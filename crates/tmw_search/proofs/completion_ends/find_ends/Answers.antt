@@ -10,20 +10,20 @@ add_completions-requires-clause-within c = grind (arith, marks-within, c.statuse
 pub add_completions-requires-clause-left : goal.add_completions-requires-clause-left
 add_completions-requires-clause-left c = grind (arith, marks-within, c.statuses_of-statuses.ensures.shows.pending_at, length-map)
 
-pub returns-then-not-branch : goal.returns-then-not-branch
-returns-then-not-branch c =
-    ends-many c.add_completions.new.found.ends (begun c.requires c.statuses_of-statuses.ensures.eight c.statuses_of-statuses.ensures.shows c.orderly.ensures c.order_of-reach.ensures.shows)
-    c.told-starts (let more = c.in_ok-add_completions.ensures.more c.if-not-branch.true in omega (arith, more, c.none-found.ensures.cap))
-    (rw c.none-found.ensures.ends at c.in_ok-add_completions.ensures.adds)
+pub returns-then-not-add_completions-clause-ends : goal.returns-then-not-add_completions-clause-ends
+returns-then-not-add_completions-clause-ends c =
+    ends-many c.add_completions.new.found.ends (begun c.requires.few c.statuses_of-statuses.ensures.eight c.statuses_of-statuses.ensures.shows c.orderly.ensures c.order_of-reach.ensures.shows)
+    c.told-starts (let more = c.add_completions.ensures.more c.if-not-add_completions.true in omega (arith, more, c.begin.ensures.cap))
+    (rw c.begin.ensures.ends at c.add_completions.ensures.adds)
 
-pub returns-then-not-are_few : goal.returns-then-not-are_few
-returns-then-not-are_few c =
-    ends-many c.add_completions.new.found.ends (begun c.requires c.statuses_of-statuses.ensures.eight c.statuses_of-statuses.ensures.shows c.orderly.ensures c.order_of-reach.ensures.shows)
-    c.told-starts (let more = c.are_few.ensures.more c.if-not-are_few.true in omega (arith, more, c.in_ok-add_completions.ensures.cap, c.none-found.ensures.cap))
-    (rw c.none-found.ensures.ends at c.in_ok-add_completions.ensures.adds)
+pub returns-then-not-are_few-clause-ends : goal.returns-then-not-are_few-clause-ends
+returns-then-not-are_few-clause-ends c =
+    ends-many c.add_completions.new.found.ends (begun c.requires.few c.statuses_of-statuses.ensures.eight c.statuses_of-statuses.ensures.shows c.orderly.ensures c.order_of-reach.ensures.shows)
+    c.told-starts (let more = c.are_few.ensures.more c.if-not-are_few.true in omega (arith, more, c.add_completions.ensures.cap, c.begin.ensures.cap))
+    (rw c.begin.ensures.ends at c.add_completions.ensures.adds)
 
-pub returns : goal.returns
-returns c =
-    ends-few c.add_completions.new.found.ends (begun c.requires c.statuses_of-statuses.ensures.eight c.statuses_of-statuses.ensures.shows c.orderly.ensures c.order_of-reach.ensures.shows)
-    c.told-starts (let few = c.are_few.ensures.few c.if-not-are_few.false in omega (arith, few, c.in_ok-add_completions.ensures.cap, c.none-found.ensures.cap))
-    (rw (c.none-found.ensures.ends, c.if-not-branch.false) at c.in_ok-add_completions.ensures.adds)
+pub returns-clause-ends : goal.returns-clause-ends
+returns-clause-ends c =
+    ends-few c.add_completions.new.found.ends (begun c.requires.few c.statuses_of-statuses.ensures.eight c.statuses_of-statuses.ensures.shows c.orderly.ensures c.order_of-reach.ensures.shows)
+    c.told-starts (let few = c.are_few.ensures.few c.if-not-are_few.false in omega (arith, few, c.add_completions.ensures.cap, c.begin.ensures.cap))
+    (rw (c.begin.ensures.ends, c.if-not-add_completions.false) at c.add_completions.ensures.adds)

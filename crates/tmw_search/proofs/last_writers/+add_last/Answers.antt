@@ -1,5 +1,5 @@
 use Rattle.tmw_search.proofs.Shared.{arith, false, ordered, refl, set-set, slice_index, true, ◌∙◌}
-use Rattle.tmw_search.proofs.AddMembers.{adds-any, adds-to, adds-empty, adds-part, each-none, each-next, each-part, each-all}
+use Rattle.tmw_search.proofs.AddMembers.{adds-to, adds-empty, adds-part, each-none, each-next, each-part, each-all}
 use Rattle.tmw_search.proofs.Bits.{some-place, less_of, less_has, less_lt}
 use Rattle.tmw_search.proofs.Branches.{never-true}
 use Rattle.tmw_search.proofs.LastWriters.{adds-last, all-last, child-of, of-child, free-writer, free-before}
@@ -9,10 +9,10 @@ use Rattle.tmw_search.proofs.last_writers.+add_last.Goals as goal
 pub returns-then-is_plain-clause-adds : goal.returns-then-is_plain-clause-adds
 returns-then-is_plain-clause-adds t c =
     let r = c.lowest-register in
-    adds-any (adds-last c.args.end.now r.ensures.within c.told-end r.ensures.among
+    (adds-last c.args.end.now r.ensures.within c.told-end r.ensures.among
     (less_of c.args.registers r.result r.ensures.within r.ensures.among) (ordered c.args.node.now c.args.reach.now) c.before_of-before.result
     c.before_of-before.type_inv c.requires.node c.before_of-before.ensures.comes (some-place _ (omega arith) (c.requires.written r.result r.ensures.within r.ensures.among))
-    _ _ c.before_of-before.ensures.fits c.if-rest-eq0.true (c.is_plain.ensures c.if-is_plain.true) c.in_ok-add_each.ensures.adds)
+    _ _ c.before_of-before.ensures.fits c.if-rest-eq0.true (c.is_plain.ensures c.if-is_plain.true) c.add_each.ensures.adds)
 
 pub loop-left-init : goal.loop-left-init
 loop-left-init t c = record { adds = each-none; others = λ v. refl; cap = refl }
@@ -41,8 +41,8 @@ add_last-requires t c =
       ),
     )
 
-pub returns-then-not-branch-clause-adds : goal.returns-then-not-branch-clause-adds
-returns-then-not-branch-clause-adds t c =
+pub returns-then-not-add_last-clause-adds : goal.returns-then-not-add_last-clause-adds
+returns-then-not-add_last-clause-adds t c =
     let r = c.lowest-register in
     let next = c.least-writer in
     let put = c.if-put_last.ensures in
@@ -51,10 +51,10 @@ returns-then-not-branch-clause-adds t c =
     (less_of c.args.registers r.result r.ensures.within r.ensures.among) (ordered c.args.node.now c.args.reach.now) next.result.place
     c.put_last.new.reach _ c.requires.node put.narrows next.ensures.within
     (free-writer _ _ _ next.ensures.within (c.loop-left.invariant.adds.among next.result.place next.ensures.among)) (put.last refl))
-    (rw (c.if-not-branch.true, c.loop-left.invariant.others next.result.value, next.ensures.value) at c.in_ok-add_last.ensures.adds)))
+    (rw (c.if-not-add_last.true, c.loop-left.invariant.others next.result.value, next.ensures.value) at c.add_last.ensures.adds)))
 
-pub loop-left-preserved-else-not-branch : goal.loop-left-preserved-else-not-branch
-loop-left-preserved-else-not-branch t c =
+pub loop-left-preserved-else-not-add_last : goal.loop-left-preserved-else-not-add_last
+loop-left-preserved-else-not-add_last t c =
     let r = c.lowest-register in
     let next = c.least-writer in
     let put = c.if-put_last.ensures in
@@ -67,9 +67,9 @@ loop-left-preserved-else-not-branch t c =
           true c.requires.node put.narrows next.ensures.within (free-writer _ _ _ next.ensures.within is) (put.last refl))
           (λ all e w. (child-of c.args.end.now r.ensures.within c.told-end r.ensures.among less node next.result.place c.put_last.new.reach true
           c.requires.node put.narrows e w).1)
-          (rw (c.if-not-branch.false, c.loop-left.invariant.others next.result.value, next.ensures.value) at c.in_ok-add_last.ensures.adds));
+          (rw (c.if-not-add_last.false, c.loop-left.invariant.others next.result.value, next.ensures.value) at c.add_last.ensures.adds));
       others = λ v. set-set c.loop-left.chosen r.result next.result.value v ∙ c.loop-left.invariant.others v;
-      cap = c.in_ok-add_last.ensures.cap ∙ c.loop-left.invariant.cap;
+      cap = c.add_last.ensures.cap ∙ c.loop-left.invariant.cap;
     }
 
 pub loop-left-preserved : goal.loop-left-preserved

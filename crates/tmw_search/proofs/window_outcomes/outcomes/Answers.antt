@@ -1,9 +1,7 @@
-use Rattle.tmw_search.proofs.Shared.{IfOk-weaker}
-use Rattle.tmw_search.proofs.AllCompletions.{ends-window}
 use Rattle.tmw_search.proofs.window_outcomes.outcomes.Goals as goal
 
-pub returns : goal.returns
-returns c =
-    IfOk-weaker c.find_ends.result _ _ (λ ends are.
-    ends-window c.args.criterion c.args.states.now c.args.window.now c.transactions.result.now c.states.result.now c.args.cap ends
-    c.transactions.ensures.shown c.states.ensures.members are) c.find_ends.ensures
+pub returns-then-find_outcomes : goal.returns-then-find_outcomes
+returns-then-find_outcomes c = rw c.if-find_outcomes.true at c.find_outcomes.ensures.ends
+
+pub returns-else-find_outcomes : goal.returns-else-find_outcomes
+returns-else-find_outcomes c = rw c.if-find_outcomes.false at c.find_outcomes.ensures.ends

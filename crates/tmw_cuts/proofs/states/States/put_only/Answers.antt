@@ -11,5 +11,5 @@ pub invariant_of-self : goal.invariant_of-self
 unfolding IsStrictlySortedBy
 invariant_of-self c = record { rising = rw (set-only c.args.self.now.items.items c.args.state.now c.requires) (tt, tt) }
 
-pub returns : goal.returns
-returns c = set-only c.args.self.now.items.items c.args.state.now c.requires
+pub returns-clause-members : goal.returns-clause-members
+returns-clause-members c = set-only c.args.self.now.items.items c.args.state.now c.requires

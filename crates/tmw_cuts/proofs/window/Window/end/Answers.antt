@@ -21,11 +21,3 @@ returns-clause-stands c events stands next =
     stands-with events c.args.event old _ turn (End p) (Some (p, Some call)) stands next kept (search rules) p.below refl
     one_turn (rw over (ap (option_map numbered) at))
     (rw makes (with-end old c.args.event p c.status_after.result c.put_status.new.slots c.status_after.ensures (c.put_status.ensures.shown old.count old.few))) (rw over (ap (bit_or old.completed) c.bit_of.ensures))
-
-pub returns-clause-ended : goal.returns-clause-ended
-returns-clause-ended c = record {
-  registers = refl;
-  turns = c.end.ensures;
-  shows = with-end c.args.self.now c.args.event c.args.place c.status_after.result c.put_status.new.slots c.status_after.ensures
-      (c.put_status.ensures.shown c.args.self.now.count c.args.self.now.few);
-}

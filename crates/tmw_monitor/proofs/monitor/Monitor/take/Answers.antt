@@ -1,52 +1,47 @@
--- The next verdict is that of the history with the event, and where memory was refused the history fits as before.
-use Rattle.tmw_monitor.proofs.Shared.{[], arith, err_from_is_err_and, length, rules, so_far, ◌++◌, ◌∙◌, ◌∷◌, ◌≡◌}
-use Rattle.tmw_monitor.proofs.FirstBroken.{followed-forgot}
-use Rattle.tmw_monitor.proofs.FeedOpen.{fits-final, fits-next, fits-wrong, fits-kept}
+-- What was taken at once left the history fine. What was not is of the history as before.
+use Rattle.tmw_monitor.proofs.Shared.{Event, Fits, HistoryDigest, IsTrue, List, Monitor, Rules, StaysKept, [], false, inl, inr, so_far, sym, true, ◌++◌, ◌∙◌, ◌∷◌, ◌≡◌}
+use Rattle.tmw_monitor.proofs.FeedOpen.{fits-next, fits-kept}
 use Rattle.tmw_monitor.proofs.OnlyOpen.{keeps_only_open}
+use Rattle.tmw_monitor.proofs.SoFar.{so_far-or}
+use Rattle.tmw_monitor.proofs.monitor.Monitor.take.Goals.{else-is_known-via-then-is_known+else-take_at_once, else-is_known-via-else-is_known}
 use Rattle.tmw_monitor.proofs.monitor.Monitor.take.Goals as goal
 
-pub returns-in_err-wrong-clause-err : goal.returns-in_err-wrong-clause-err
-returns-in_err-wrong-clause-err c =
-    let p = err_from_is_err_and c.from_residual.result c.from_residual.ensures.1 in
-    let fine : c.args.self.now.verdict ≡ so_far c.args.self.now.criterion = search rules in
-    rw (p.1, c.in_err-wrong.ensures.still) (λ judged_by history fits. fits-kept judged_by history c.args.self.now c.next_wrong.new.kept fits fine
-    (c.in_err-wrong.ensures.err judged_by history))
+-- an order is known only while nothing is wrong
+fine-of : (rules : Rules) (history : List Event) (monitor : Monitor) → IsTrue monitor.kept.witness.known
+    → Fits rules history monitor → monitor.verdict ≡ so_far monitor.criterion
+fine-of rules history monitor known fits = elim (so_far-or monitor.criterion monitor.verdict) [
+  | inl fine ↦ fine
+  | inr final ↦ absurd (let k : true ≡ false = sym known ∙ (fits.forgets final).order in cc)
+]
 
-pub returns-in_err-wrong-clause-keeps_err : goal.returns-in_err-wrong-clause-keeps_err
-returns-in_err-wrong-clause-keeps_err c =
-    let p = err_from_is_err_and c.from_residual.result c.from_residual.ensures.1 in
-    let fine : c.args.self.now.verdict ≡ so_far c.args.self.now.criterion = search rules in
-    rw (p.1, c.in_err-wrong.ensures.still) (λ judged_by history fits. keeps_only_open judged_by history _
-    (fits-kept judged_by history c.args.self.now c.next_wrong.new.kept fits fine (c.in_err-wrong.ensures.err judged_by history)))
+fits-still : (rules : Rules) (history : List Event) (monitor : Monitor) (kept : HistoryDigest)
+    → IsTrue monitor.kept.witness.known → StaysKept monitor.kept kept → Fits rules history monitor
+    → Fits rules history (record monitor { kept = kept })
+fits-still rules history monitor kept known stays fits =
+    fits-kept rules history monitor kept fits (fine-of rules history monitor known fits) (stays rules history)
 
-pub returns-in-Some-clause-ok : goal.returns-in-Some-clause-ok
-returns-in-Some-clause-ok c judged_by history fits =
-    let fine : c.args.self.now.verdict ≡ so_far c.args.self.now.criterion = search rules in
-    let n : c.args.self.now.count ≡ length history = fits.counted in
-    let keeps = fits.keeps fine in
-    fits-wrong judged_by history c.args.event c.args.self.now c.in-Some.verdict c.next_wrong.new.kept _ c.next_wrong.new.broken fits
-    (rw c.in-Some.is at (c.in_ok-wrong.ensures.ok judged_by history fits.criterion fits.window fits.states (omega (arith, n)) keeps))
-    c.forget.ensures.nothing
-    (followed-forgot judged_by.registers (history ++ c.args.event ∷ []) _ _ c.next_wrong.new.broken
-    (c.forget.ensures.follows judged_by.registers (history ++ c.args.event ∷ []))
-    (c.in_ok-wrong.ensures.breaks judged_by history fits.criterion fits.window fits.states (omega (arith, n)) (fits.whole fine) keeps))
+pub returns-then-take_at_once-clause-feeds : goal.returns-then-take_at_once-clause-feeds
+returns-then-take_at_once-clause-feeds c judged_by history fits =
+    let fine = fine-of judged_by history c.args.self.now (sym c.is_known.ensures.shown ∙ c.if-is_known.true) fits in
+    fits-next judged_by history c.args.event c.args.self.now c.take_at_once.new.kept fits fine
+    (c.take_at_once.ensures.taken c.if-take_at_once.true c.args.self.now.criterion judged_by history fits.criterion fits.window fits.states (fits.keeps fine))
 
-pub returns-in_default-clause-ok : goal.returns-in_default-clause-ok
-returns-in_default-clause-ok c judged_by history fits =
-    let fine : c.args.self.now.verdict ≡ so_far c.args.self.now.criterion = search rules in
-    let n : c.args.self.now.count ≡ length history = fits.counted in
-    rw (c.in_ok-wrong.ensures.whole c.in_default.is) (fits-next judged_by history c.args.event c.args.self.now c.next_wrong.new.kept fits fine
-    (rw c.in_default.is at (c.in_ok-wrong.ensures.ok judged_by history fits.criterion fits.window fits.states (omega (arith, n)) (fits.keeps fine))))
+pub returns-then-take_at_once-clause-keeps : goal.returns-then-take_at_once-clause-keeps
+returns-then-take_at_once-clause-keeps c judged_by history fits =
+    keeps_only_open judged_by (history ++ c.args.event ∷ []) _ (returns-then-take_at_once-clause-feeds c judged_by history fits)
 
-pub returns-in_default-clause-keeps : goal.returns-in_default-clause-keeps
-returns-in_default-clause-keeps c judged_by history fits =
-    keeps_only_open judged_by (history ++ c.args.event ∷ []) _ (returns-in_default-clause-ok c judged_by history fits)
+-- the monitor that is asked for what can't be taken at once stands for the same histories
+fits-then : (c : goal.After-result-2-1) (rules : Rules) (history : List Event) → Fits rules history c.args.self.now
+    → Fits rules history c.else-is_known.self
+fits-then c rules history fits = elim c.else-is_known.branch [
+  | else-is_known-via-then-is_known+else-take_at_once w ↦
+      rw w.self-is (fits-still rules history c.args.self.now w.take_at_once.new.kept (sym c.is_known.ensures.shown ∙ w.if-is_known.true)
+      (w.take_at_once.ensures.left w.if-take_at_once.false) fits)
+  | else-is_known-via-else-is_known w ↦ rw w.self-is fits
+]
 
-pub returns-then-not-is_so_far-clause-ok : goal.returns-then-not-is_so_far-clause-ok
-returns-then-not-is_so_far-clause-ok c judged_by history fits =
-    let final : c.args.self.now.verdict ≡ so_far c.args.self.now.criterion → ⊥ = search rules in
-    let n : c.args.self.now.count ≡ length history = fits.counted in
-    let nothing = fits.forgets final in
-    fits-final judged_by history c.args.event c.args.self.now _ _ fits final
-    (record { states = nothing.states; transactions = c.follow.ensures.shown ∙ nothing.transactions; order = nothing.order })
-    (c.follow.ensures.tells judged_by.registers history (omega (arith, n)) (fits.breaks final))
+pub returns-clause-feeds : goal.returns-clause-feeds
+returns-clause-feeds c judged_by history fits = c.take_copy.ensures.feeds judged_by history (fits-then c judged_by history fits)
+
+pub returns-clause-keeps : goal.returns-clause-keeps
+returns-clause-keeps c judged_by history fits = c.take_copy.ensures.keeps judged_by history (fits-then c judged_by history fits)

@@ -1,15 +1,30 @@
-use Rattle.tmw_search.proofs.Shared.{get_or_from_slice_get, inl, inr, members, rules, slice_get_within, sym, ◌∙◌, ◌≡◌}
+-- The end is one of them already, or is inserted, for which there is room.
+use Rattle.tmw_search.proofs.Shared.{arith, get_or_from_slice_get, inl, members, rules, slice_get_within, sym, ◌∙◌, ◌≡◌}
+use Rattle.tmw_search.proofs.AddMembers.{adds-any, adds-one, ok-of}
+use Rattle.tmw_search.proofs.Branches.{never-true}
 use Rattle.tmw_search.proofs.end_set.EndSet.add.Goals as goal
 
+pub returns-then-not-are_few-clause-adds : goal.returns-then-not-are_few-clause-adds
+returns-then-not-are_few-clause-adds c = record {
+  only = λ e has. inl has;
+  kept = λ e has. has;
+  all = λ all. absurd (never-true all);
+}
+
 pub returns-then-eq-clause-adds : goal.returns-then-eq-clause-adds
-returns-then-eq-clause-adds c = λ s. (
-  λ has. inr has,
-  λ either. elim either [
-    | inr has ↦ has
-    | inl same ↦
-        let ends = members c.args.self.now.ends in
-        let is : c.in-Some.held ≡ c.args.end.now = search (c.if-eq.ensures, rules) in
-        let at = sym c.get.ensures ∙ c.in-Some.is in
-        (_, slice_get_within ends _ c.in-Some.held at, get_or_from_slice_get ends _ c.in-Some.held s at ∙ is ∙ sym same)
-  ],
-)
+returns-then-eq-clause-adds c =
+    let ends = members c.args.self.now.ends in
+    let is : c.in-Some.held ≡ c.args.end.now = search (c.if-eq.ensures, rules) in
+    let at = sym c.get.ensures ∙ c.in-Some.is in
+    record {
+      only = λ s has. inl has;
+      kept = λ s has. has;
+      all = λ all s same.
+          (_, slice_get_within ends _ c.in-Some.held at, get_or_from_slice_get ends _ c.in-Some.held s at ∙ is ∙ sym same);
+    }
+
+pub returns-clause-adds : goal.returns-clause-adds
+returns-clause-adds c =
+    let few = c.are_few.ensures.few c.if-not-are_few.false in
+    adds-any (adds-one (ok-of c.insert-room.result c.insert-room.ensures.ok c.insert-room.ensures.full
+    (λ full. absurd (omega (arith, full, few, c.args.self.now.most)))))

@@ -1,7 +1,7 @@
 /*
 The recorder of examples/recorders, by a watch in the program's own process: a program there, or that of examples/libitm, is compiled with
 
-    -include examples/c/recorder.h
+    -include tmwatch/watched.h
 
 and is then judged as it runs. In place of the trace it writes the verdict on all that it recorded, as its last line, and ends with the exit
 status of `tmwatch judge` for it: 0 opaque so far, 1 violated, 2 undecided, 3 malformed, 4 if standard output failed. The status that main

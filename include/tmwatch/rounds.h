@@ -5,7 +5,7 @@ transaction is live between two rounds, and a round has at most THREADS * ATTEMP
 #ifndef ROUNDS_H
 #define ROUNDS_H
 
-#include "recorder.h"
+#include "tmwatch/recorder.h"
 #include <pthread.h>
 #include <sched.h>
 #include <stdbool.h>

@@ -1,5 +1,0 @@
-use Rattle.tmw_show.proofs.Shared.{rules}
-use Rattle.tmw_show.proofs.sentences.overwritten_text.Goals as goal
-
-pub returns : goal.returns
-returns c = rw (← c.in_ok-writer.ensures, ← c.get-register.ensures.value) (search rules)
