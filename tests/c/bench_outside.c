@@ -1,8 +1,8 @@
 /*
 A memory whose lock is elsewhere, as that of a server, so that the bench doesn't see who waits for it. One answer takes longer than a rescue.
 FAULT: UNASKED, the bench isn't told that the memory asks and waits; FAILS, a call gets no answer; READS, nothing is locked; CRAWLS, each
-read takes long; CRASHES, it crashes, and then holds what is on its disk; LOSES, that lacks the last commits. After a
-crash those who waited go on without the lock, so that what they share is atomic.
+read takes long; CRASHES, it crashes, and then holds what is on its disk; LOSES, that lacks what was committed in the
+second half of the calls before. After a crash those who waited go on without the lock, so that what they share is atomic.
 */
 #define _POSIX_C_SOURCE 200809L
 #include "tmwatch_bench.h"
@@ -12,7 +12,7 @@ crash those who waited go on without the lock, so that what they share is atomic
 #include <time.h>
 
 enum { REGISTERS = 8 };
-enum { NONE, UNASKED, FAILS, READS, CRAWLS, CRASHES, LOSES, CRASH_EACH = 300, SYNC_EACH = 64, SLOW_CALL = 20, FAILED_CALL = 40, LONG = 120 * 1000 * 1000, CRAWL = LONG / 100 /* nanoseconds */ };
+enum { NONE, UNASKED, FAILS, READS, CRAWLS, CRASHES, LOSES, CRASH_EACH = 300, SLOW_CALL = 20, FAILED_CALL = 40, LONG = 120 * 1000 * 1000, CRAWL = LONG / 100 /* nanoseconds */ };
 #ifndef FAULT
 #define FAULT NONE
 #endif
@@ -25,7 +25,7 @@ struct tx {
 
 static _Atomic uint64_t words[REGISTERS], disk[REGISTERS];
 static sem_t lock;
-static atomic_uint calls, commits, starts;
+static atomic_uint calls, starts;
 static atomic_bool has_crashed;
 
 static bool begin(void *memory, void *tx)
@@ -122,7 +122,7 @@ static bool close_it(struct tx *tx)
 static bool commit(void *memory, void *tx)
 {
     (void)memory;
-    if (++commits % SYNC_EACH == 0 || FAULT != LOSES)
+    if (FAULT != LOSES || calls % CRASH_EACH < CRASH_EACH / 2)
         for (int i = 0; i < REGISTERS; i++)
             disk[i] = words[i];
     return close_it(tx);
