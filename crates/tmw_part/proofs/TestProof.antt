@@ -1,6 +1,31 @@
--- The test of a part is right.
-use Rattle.tmw_part.proofs.Shared.{Add, AreOpsLeft, AreStaying, Bool, Each, IsLeftOf, IsPart, IsTrue, List, Op, Read, Some, Status, Txn, Write, [], agree, and_parts, ap, are_ops_left, are_placed, arith, cases_Bool, eqb-true, inl, inr, is_among, is_part_at, is_left_of, is_same, is_same_op, is_same_status, is_stay, is_unread, length, list_all, map, may_go, operations, precedes, refl, remove, slice_get, status_of, suc, true, txn_at, without_number, ℕ, ◌+◌, ◌<◌, ◌==◌, ◌∙◌, ◌∷◌, ◌≡◌}
+-- The test of a part tells what is kept as a part, and that is one.
+use Rattle.tmw_part.proofs.Shared.{Add, All, All-from_recursion, AllByRecursion, AreOpsLeft, AreStaying, Bool, Each, Event, IsLeftOf, IsPart, IsTrue, List, None, Op, Option, Piece, Read, Some, Status, Txn, Write, [], and_from, and_parts, ap, arith, calls_from, cases_Bool, eq-eqb, eqb-true, inl, first_unlike, inr, is_unread, keeps_last, left_by, length, list_all, map, may_go, needed_of, operations, owner_in, places_of, precedes, range_with_len, refl, remove, slice_get, status_of, suc, sym, transactions, true, zero, ℕ, ◌+◌, ◌<◌, ◌==◌, ◌∙◌, ◌∷◌, ◌≡◌}
+use Rattle.std.specs.Prelude.{zip}
+use Rattle.std.proofs.lemmas.List.Elements.{recursion_from_All}
+use Rattle.tmw_defs.specs.Part.{precedence}
 use Rattle.tmw_events.proofs.Same.{same_ix}
+use Rattle.tmw_part.specs.KeptPart.{AgreesOn, IsAlike, IsKept, IsNoneOr, IsWhole, are_placed, is_among, may_miss, owners, part_of, staying, without_number}
+use Rattle.tmw_part.specs.NameInWindow.{txn_at}
+use Rattle.tmw_part.proofs.ListFacts.{each_place}
+use Rattle.tmw_part.specs.PartTest.{agree, agrees, are_ops_left, is_left_of, is_order_kept, is_part_at, is_row_kept, is_same, is_same_op, is_same_or_none, is_same_pair_or_none, is_same_status, is_stay, is_whole, keeps_part, may_miss_all}
+
+-- what a test tells of each, each is
+all-test : {A : Type 0} (test : A → Bool) (P : A → Type 0) → ((x : A) → IsTrue (test x) → P x) → (xs : List A) → IsTrue (list_all test xs)
+    → AllByRecursion P xs
+all-test test P is [] all = tt
+all-test test P is (x ∷ xs) all = let (here, more) = and_parts (test x) _ all in (is x here, all-test test P is xs more)
+
+test-all : {A : Type 0} (test : A → Bool) (P : A → Type 0) → ((x : A) → P x → IsTrue (test x)) → (xs : List A) → AllByRecursion P xs
+    → IsTrue (list_all test xs)
+test-all test P is [] all = refl
+test-all test P is (x ∷ xs) all = and_from _ _ (is x all.0) (test-all test P is xs all.1)
+
+place-each : (test : ℕ → Bool) (from n : ℕ) → ((a : ℕ) → a < n → IsTrue (test (from + a))) → IsTrue (list_all test (range_with_len from n))
+place-each test from zero each = refl
+place-each test from (suc n) each =
+    let first : from + 0 ≡ from = omega arith in
+    and_from _ _ (rw first at (each 0 (omega arith))) (place-each test (from + 1) n (λ a low.
+        let same : from + suc a ≡ from + 1 + a = omega arith in rw same at (each (suc a) (omega (arith, low)))))
 
 same_op : (x y : Op) → is_same_op x y ≡ true → x ≡ y
 same_op (Read q w) (Read r v) same =
@@ -15,8 +40,12 @@ same_op (Add q e w) (Add r d v) same =
     rw (same_ix q r (eqb-true q.number r.number one), eqb-true e d two, eqb-true w v three) refl
 same_op x y same = absurd (cc)
 
--- what the test passes is so
-pub ops_left-test : (unread : ℕ → ℕ → Bool) (left ops : List Op) → IsTrue (are_ops_left unread left ops) → AreOpsLeft unread left ops
+op_same : (x : Op) → is_same_op x x ≡ true
+op_same (Read q w) = and_from _ _ (eq-eqb q.number q.number refl) (eq-eqb w w refl)
+op_same (Write q w) = and_from _ _ (eq-eqb q.number q.number refl) (eq-eqb w w refl)
+op_same (Add q d w) = and_from _ _ (eq-eqb q.number q.number refl) (and_from _ _ (eq-eqb d d refl) (eq-eqb w w refl))
+
+ops_left-test : (unread : ℕ → ℕ → Bool) (left ops : List Op) → IsTrue (are_ops_left unread left ops) → AreOpsLeft unread left ops
 ops_left-test unread [] [] all = refl
 ops_left-test unread (x ∷ left) [] all = absurd (cc)
 ops_left-test unread [] (op ∷ ops) all =
@@ -32,27 +61,108 @@ ops_left-test unread (x ∷ left) (op ∷ ops) all =
           inl (here, ops_left-test unread (x ∷ left) ops more)
     ]
 
+-- without the first, which may go, they are left too
+first_goes : (unread : ℕ → ℕ → Bool) (x : Op) (left ops : List Op) → IsTrue (may_go unread x) → AreOpsLeft unread (x ∷ left) ops
+    → AreOpsLeft unread left ops
+first_goes unread x left [] may are = absurd (cc)
+first_goes unread x left (op ∷ ops) may (inl goes) = inl (goes.0, first_goes unread x left ops may goes.1)
+first_goes unread x left (op ∷ ops) may (inr stays) =
+    let (more, is, rest) = stays in
+    let one : x ≡ op = cc in
+    let others : left ≡ more = cc in
+    inl (rw one at may, rw (← others) at rest)
+
+-- so those that are left are taken as soon as they come
+test-ops_left : (unread : ℕ → ℕ → Bool) (left ops : List Op) → AreOpsLeft unread left ops → IsTrue (are_ops_left unread left ops)
+test-ops_left unread [] [] are = refl
+test-ops_left unread (x ∷ left) [] are = absurd (cc)
+test-ops_left unread [] (op ∷ ops) (inl goes) = and_from _ _ goes.0 (test-ops_left unread [] ops goes.1)
+test-ops_left unread [] (op ∷ ops) (inr stays) = absurd (let is = stays.1 in cc)
+test-ops_left unread (x ∷ left) (op ∷ ops) (inl goes) =
+    elim (cases_Bool (is_same_op x op)) [
+      | inl same ↦
+          let may = rw (← same_op x op same) at goes.0 in
+          rw same (test-ops_left unread left ops (first_goes unread x left ops may goes.1))
+      | inr other ↦ rw other (and_from _ _ goes.0 (test-ops_left unread (x ∷ left) ops goes.1))
+    ]
+test-ops_left unread (x ∷ left) (op ∷ ops) (inr stays) =
+    let (more, is, rest) = stays in
+    let one : op ≡ x = cc in
+    let others : more ≡ left = cc in
+    let same : is_same_op x op ≡ true = rw one (op_same x) in
+    rw same (test-ops_left unread left ops (rw others at rest))
+
 same_status : (a b : Status) → is_same_status a b ≡ true → a ≡ b
 same_status = grind arith
 
-left-test : (place : Txn → ℕ) (whole part ts : List Txn) → IsTrue (list_all (is_stay place whole part) ts)
-    → Each (IsLeftOf (is_unread part)) (map (txn_at whole) (map place ts)) ts
-left-test place whole part [] all = tt
-left-test place whole part (t ∷ ts) all =
-    let u = txn_at whole (place t) in
-    let (here, more) = and_parts (is_stay place whole part t) _ all in
-    let left = (and_parts (is_left_of (is_unread part) t.text u.text) _ here).0 in
-    let (status, others) = and_parts (is_same_status (status_of t.text) (status_of u.text)) _ left in
-    let ops = (and_parts (agree (operations t.text) (operations u.text)) _ others).1 in (
-      record {
-        status = same_status (status_of t.text) (status_of u.text) status;
-        ops = ops_left-test (is_unread part) (operations t.text) (operations u.text) ops;
-      },
-      left-test place whole part ts more,
-    )
+status_same : (a b : Status) → a ≡ b → is_same_status a b ≡ true
+status_same = grind arith
+
+none-or : (x y : Option ℕ) → IsTrue (is_same_or_none x y) → IsNoneOr x y
+none-or None y is = inl refl
+none-or (Some v) None is = absurd (cc)
+none-or (Some v) (Some w) is = inr (ap (λ x. Some x) (eqb-true v w is))
+
+or-none : (x y : Option ℕ) → IsNoneOr x y → IsTrue (is_same_or_none x y)
+or-none None y is = refl
+or-none (Some v) y (inl none) = absurd (cc)
+or-none (Some v) y (inr same) = rw (← same) (eq-eqb v v refl)
+
+pair-none-or : (x y : Option (ℕ × ℕ)) → IsTrue (is_same_pair_or_none x y) → IsNoneOr x y
+pair-none-or None y is = inl refl
+pair-none-or (Some p) None is = absurd (cc)
+pair-none-or (Some (a, b)) (Some (c, d)) is =
+    let (one, two) = and_parts (a == c) _ is in inr (rw (eqb-true a c one, eqb-true b d two) refl)
+
+pair-or-none : (x y : Option (ℕ × ℕ)) → IsNoneOr x y → IsTrue (is_same_pair_or_none x y)
+pair-or-none None y is = refl
+pair-or-none (Some p) y (inl none) = absurd (cc)
+pair-or-none (Some (a, b)) y (inr same) = rw (← same) (and_from _ _ (eq-eqb a a refl) (eq-eqb b b refl))
+
+agrees-test : (left whole : List Op) (r : ℕ) → IsTrue (agrees left whole r) → AgreesOn left whole r
+agrees-test left whole r all =
+    let (needs, more) = and_parts (is_same_or_none (needed_of r left) (needed_of r whole)) _ all in
+    let (leaves, unlike) = and_parts (is_same_or_none (left_by r None left) (left_by r None whole)) _ more in
+    record {
+      needs = none-or (needed_of r left) (needed_of r whole) needs;
+      leaves = none-or (left_by r None left) (left_by r None whole) leaves;
+      unlike = pair-none-or (first_unlike r None left) (first_unlike r None whole) unlike;
+    }
+
+test-agrees : (left whole : List Op) (r : ℕ) → AgreesOn left whole r → IsTrue (agrees left whole r)
+test-agrees left whole r a =
+    and_from _ _ (or-none (needed_of r left) (needed_of r whole) a.needs)
+    (and_from _ _ (or-none (left_by r None left) (left_by r None whole) a.leaves)
+    (pair-or-none (first_unlike r None left) (first_unlike r None whole) a.unlike))
+
+alike-test : (unread : ℕ → ℕ → Bool) (whole left : Txn) → IsTrue (is_left_of unread left.text whole.text) → IsAlike unread whole left
+alike-test unread whole left all =
+    let (status, more) = and_parts (is_same_status (status_of left.text) (status_of whole.text)) _ all in
+    let (alike, ops) = and_parts (agree (operations left.text) (operations whole.text)) _ more in
+    record {
+      left = record {
+        status = same_status (status_of left.text) (status_of whole.text) status;
+        ops = ops_left-test unread (operations left.text) (operations whole.text) ops;
+      };
+      agrees = λ r low. agrees-test (operations left.text) (operations whole.text) r
+          (let same : 0 + r ≡ r = omega arith in
+          rw same at (each_place (agrees (operations left.text) (operations whole.text)) 0 8 r alike low));
+    }
+
+test-alike : (unread : ℕ → ℕ → Bool) (whole left : Txn) → IsAlike unread whole left → IsTrue (is_left_of unread left.text whole.text)
+test-alike unread whole left a =
+    and_from _ _ (status_same (status_of left.text) (status_of whole.text) a.left.status)
+    (and_from _ _
+      (place-each (agrees (operations left.text) (operations whole.text)) 0 8
+        (λ r low. let same : 0 + r ≡ r = omega arith in
+          rw same (test-agrees (operations left.text) (operations whole.text) r (a.agrees r low))))
+      (test-ops_left unread (operations left.text) (operations whole.text) a.left.ops))
 
 same-test : (a b : Bool) → IsTrue (is_same a b) → a ≡ b
 same-test = grind arith
+
+test-same : (a b : Bool) → a ≡ b → IsTrue (is_same a b)
+test-same = grind arith
 
 row-test : (at : ℕ → Txn) (place : Txn → ℕ) (t : Txn) (ts : List Txn)
     → IsTrue (list_all (λ u. is_same (precedes (at (place u)) (at (place t))) (precedes u t)) ts)
@@ -61,19 +171,72 @@ row-test at place t [] all = refl
 row-test at place t (u ∷ us) all =
     grind (arith, (same-test (precedes (at (place u)) (at (place t))) (precedes u t)), (row-test at place t us))
 
-rows-test : (place : Txn → ℕ) (whole part ts : List Txn) → IsTrue (list_all (is_stay place whole part) ts)
-    → map (λ t. map (λ u. precedes u t) part) ts
-    ≡ map (λ t. map (λ u. precedes u t) (map (txn_at whole) (map place part))) (map (txn_at whole) (map place ts))
-rows-test place whole part [] all = refl
-rows-test place whole part (t ∷ ts) all =
-    let (here, more) = and_parts (is_stay place whole part t) _ all in
-    let row = (and_parts (is_left_of (is_unread part) t.text (txn_at whole (place t)).text) _ here).1 in
-    rw (row-test (txn_at whole) place t part row, rows-test place whole part ts more) refl
+test-row : (at : ℕ → Txn) (place : Txn → ℕ) (t : Txn) (ts : List Txn)
+    → map (λ u. precedes u t) ts ≡ map (λ u. precedes u (at (place t))) (map at (map place ts))
+    → IsTrue (list_all (λ u. is_same (precedes (at (place u)) (at (place t))) (precedes u t)) ts)
+test-row at place t [] same = refl
+test-row at place t (u ∷ us) same =
+    let one : precedes u t ≡ precedes (at (place u)) (at (place t)) = cc in
+    let others : map (λ v. precedes v t) us ≡ map (λ v. precedes v (at (place t))) (map at (map place us)) = cc in
+    and_from _ _ (test-same _ _ (sym one)) (test-row at place t us others)
 
--- of an idle transaction each operation may go
-idle-test : (unread : ℕ → ℕ → Bool) (ops : List Op) → IsTrue (are_ops_left unread [] ops) → IsTrue (list_all (may_go unread) ops)
-idle-test unread [] all = refl
-idle-test unread (op ∷ ops) all = grind (arith, (idle-test unread ops))
+-- each of these is what the test tells, and what it is
+module _ (place : Txn → ℕ) (whole part : List Txn) where
+  stays-test : (ts : List Txn) → IsTrue (list_all (is_stay place whole part) ts)
+      → Each (IsAlike (is_unread part)) (map (txn_at whole) (map place ts)) ts
+      × (map (λ t. map (λ u. precedes u t) part) ts
+      ≡ map (λ t. map (λ u. precedes u t) (map (txn_at whole) (map place part))) (map (txn_at whole) (map place ts)))
+  stays-test [] all = (tt, refl)
+  stays-test (t ∷ ts) all =
+      let (here, more) = and_parts (is_stay place whole part t) _ all in
+      let (left, row) = and_parts (is_left_of (is_unread part) t.text (txn_at whole (place t)).text) _ here in
+      let (each, rows) = stays-test ts more in
+      ((alike-test (is_unread part) (txn_at whole (place t)) t left, each), rw (row-test (txn_at whole) place t part row, rows) refl)
+
+  test-stays : (ts : List Txn) → Each (IsAlike (is_unread part)) (map (txn_at whole) (map place ts)) ts
+      → map (λ t. map (λ u. precedes u t) part) ts
+      ≡ map (λ t. map (λ u. precedes u t) (map (txn_at whole) (map place part))) (map (txn_at whole) (map place ts))
+      → IsTrue (list_all (is_stay place whole part) ts)
+  test-stays [] each rows = refl
+  test-stays (t ∷ ts) (alike, each) rows =
+      let row : map (λ u. precedes u t) part ≡ map (λ u. precedes u (txn_at whole (place t))) (map (txn_at whole) (map place part)) = cc in
+      let others : map (λ v. map (λ u. precedes u v) part) ts
+          ≡ map (λ v. map (λ u. precedes u v) (map (txn_at whole) (map place part))) (map (txn_at whole) (map place ts)) = cc in
+      and_from _ _
+      (and_from _ _ (test-alike (is_unread part) (txn_at whole (place t)) t alike) (test-row (txn_at whole) place t part row))
+      (test-stays ts each others)
+
+whole-test : (marks : List Bool) (call : Piece) → IsTrue (is_whole marks call) → IsWhole marks call
+whole-test marks call is = same-test _ _ is
+
+pub kept-test : (marks : List Bool) (window : List Event) → IsTrue (keeps_part marks window) → IsKept marks window
+kept-test marks window all =
+    let part = part_of marks window in
+    let place = owner_in (places_of marks) (transactions window) in
+    let (last, more) = and_parts (keeps_last marks) _ all in
+    let (calls, rest) = and_parts (list_all (is_whole marks) (calls_from 0 window)) _ more in
+    let (writes, is) = and_parts (may_miss_all part marks window) _ rest in
+    let (stay, stays) = and_parts (are_placed (is_unread part) 0 (owners marks window) (transactions window)) _ is in
+    let (left, order) = stays-test place (transactions window) part part stays in
+    record {
+      last = last;
+      calls = All-from_recursion (IsWhole marks) (calls_from 0 window)
+          (all-test (is_whole marks) (IsWhole marks) (whole-test marks) (calls_from 0 window) calls);
+      writes = All-from_recursion _ (zip marks window) (all-test _ _ (λ pair is. is) (zip marks window) writes);
+      stay = stay;
+      left = left;
+      order = order;
+    }
+
+pub test-kept : (marks : List Bool) (window : List Event) → IsKept marks window → IsTrue (keeps_part marks window)
+test-kept marks window k =
+    let part = part_of marks window in
+    let place = owner_in (places_of marks) (transactions window) in
+    and_from _ _ k.last (and_from _ _
+      (test-all (is_whole marks) (IsWhole marks) (λ call is. test-same _ _ is) (calls_from 0 window)
+        (recursion_from_All (IsWhole marks) (calls_from 0 window) k.calls))
+      (and_from _ _ (test-all _ _ (λ pair is. is) (zip marks window) (recursion_from_All _ (zip marks window) k.writes))
+        (and_from _ _ k.stay (test-stays place (transactions window) part part k.left k.order))))
 
 -- where the number is among the places, the transaction of that number is among those that stay
 found : (f : ℕ → Txn) (n : ℕ) (places : List ℕ) → IsTrue (is_among n places)
@@ -88,32 +251,37 @@ found f n (p ∷ places) among =
     ]
 
 -- from the number on, f has these
-placed-test : (unread : ℕ → ℕ → Bool) (f : ℕ → Txn) (n : ℕ) (places : List ℕ) (ts : List Txn)
+placed-stay : (unread : ℕ → ℕ → Bool) (f : ℕ → Txn) (n : ℕ) (places : List ℕ) (ts : List Txn)
     → ((k : ℕ) → k < length ts → f (n + k) ≡ txn_at ts k) → IsTrue (are_placed unread n places ts) → AreStaying unread (map f places) ts
-placed-test unread f n [] [] goes all = refl
-placed-test unread f n (p ∷ places) [] goes all = absurd (cc)
-placed-test unread f n places (t ∷ ts) goes all =
+placed-stay unread f n [] [] goes all = refl
+placed-stay unread f n (p ∷ places) [] goes all = absurd (cc)
+placed-stay unread f n places (t ∷ ts) goes all =
     let here : f n ≡ t = (let same : n ≡ n + 0 = omega arith in ap f same ∙ goes 0 (omega arith)) in
     let on : (k : ℕ) → k < length ts → f (n + 1 + k) ≡ txn_at ts k =
     λ k low. let same : n + 1 + k ≡ n + suc k = omega arith in ap f same ∙ goes (suc k) (omega (arith, low)) in
     elim (cases_Bool (is_among n places)) [
       | inl is ↦
           let (i, at, rest) = found f n places is in
-          let more = placed-test unread f (n + 1) (without_number n places) ts on (rw is at all) in
+          let more = placed-stay unread f (n + 1) (without_number n places) ts on (rw is at all) in
           inr (i, at ∙ ap (λ (x : Txn). Some x) here, rw rest more)
       | inr none ↦
-          let (idle, more) = and_parts (are_ops_left unread [] (operations t.text)) _ (rw none at all) in
-          inl (idle-test unread (operations t.text) idle, placed-test unread f (n + 1) places ts on more)
+          let (idle, more) = and_parts (list_all (may_go unread) (operations t.text)) _ (rw none at all) in
+          inl (idle, placed-stay unread f (n + 1) places ts on more)
     ]
 
--- What passes the test is a part.
-pub part-test : (place : Txn → ℕ) (part whole : List Txn) → IsTrue (is_part_at place part whole) → IsPart part whole
-part-test place part whole all =
-    let (placed, stays) = and_parts (are_placed (is_unread part) 0 (map place part) whole) _ all in
+each-left : (unread : ℕ → ℕ → Bool) (wholes ts : List Txn) → Each (IsAlike unread) wholes ts → Each (IsLeftOf unread) wholes ts
+each-left unread [] [] each = tt
+each-left unread (u ∷ wholes) (t ∷ ts) each = (each.0.left, each-left unread wholes ts each.1)
+each-left unread wholes ts each = absurd each
+
+-- What is kept so is a part.
+pub part-kept : (marks : List Bool) (window : List Event) → IsKept marks window → IsPart (part_of marks window) (transactions window)
+part-kept marks window k =
+    let whole = transactions window in
     record {
-      staying = map (txn_at whole) (map place part);
-      stay = placed-test (is_unread part) (txn_at whole) 0 (map place part) whole
-          (λ k low. let same : 0 + k ≡ k = omega arith in ap (txn_at whole) same) placed;
-      left = left-test place whole part part stays;
-      order = rows-test place whole part part stays;
+      staying = staying marks window;
+      stay = placed-stay (is_unread (part_of marks window)) (txn_at whole) 0 (owners marks window) whole
+          (λ n low. let same : 0 + n ≡ n = omega arith in ap (txn_at whole) same) k.stay;
+      left = each-left (is_unread (part_of marks window)) (staying marks window) (part_of marks window) k.left;
+      order = k.order;
     }

@@ -1,11 +1,12 @@
 -- What a search for an end state tells of events that were taken into its window.
-use Rattle.tmw_part.proofs.Shared.{AreTaken, Bool, Criterion, Err, Event, Fails, IfOk, IsFalse, IsPart, IsTrue, IsViolated, IsViolatedPart, List, Ok, Result, State, TellsViolated, all_kept, and_parts, are_whole, arith, calls_from, end_state, false, inl, inr, keeps_last, keeps_part, kept_of, length, may_miss_all, members, not, owner_in, places_of, refl, transactions, true, ℕ, ◌≡◌, ◌≤◌}
+use Rattle.tmw_part.proofs.Shared.{AreTaken, Bool, Criterion, Err, Event, Fails, IfOk, IsFalse, IsTrue, IsViolated, IsViolatedPart, List, Ok, Result, State, TellsViolated, all_kept, arith, end_state, false, inl, inr, kept_of, length, members, not, refl, sym, transactions, true, ℕ, ◌∙◌, ◌≡◌, ◌≤◌}
 use Rattle.tmw_cuts.specs.declared.states.States.{States}
 use Rattle.tmw_cuts.specs.declared.window.Window.{Window}
 use Rattle.tmw_search.specs.EndStates.{TellsEnd}
 use Rattle.tmw_part.proofs.Fewer.{kept-all, length-all}
 use Rattle.tmw_part.proofs.Parts.{part-fewer, part-whole}
-use Rattle.tmw_part.proofs.TestProof.{part-test}
+use Rattle.tmw_part.specs.PartTest.{keeps_part}
+use Rattle.tmw_part.proofs.TestProof.{kept-test, part-kept, test-kept}
 
 pub tells-searched : (criterion : Criterion) (registers : ℕ) (states : States) (events : List Event) (window : Window) (found : Bool)
     → AreTaken registers events window → TellsEnd criterion states window found
@@ -25,15 +26,6 @@ tells-searched criterion registers states events window false taken tells = reco
       absurd (cc);
 }
 
--- what passes the test of a part is one
-part-kept : (marks : List Bool) (window : List Event) → IsTrue (keeps_part marks window)
-    → IsPart (transactions (kept_of marks window)) (transactions window)
-part-kept marks window keeps =
-    let (last, more) = and_parts (keeps_last marks) _ keeps in
-    let (calls, rest) = and_parts (are_whole marks (calls_from 0 window)) _ more in
-    let (writes, part) = and_parts (may_miss_all (transactions (kept_of marks window)) marks window) _ rest in
-    part-test (owner_in (places_of marks) (transactions window)) (transactions (kept_of marks window)) (transactions window) part
-
 -- the answer on what is kept, which passes the test of a part, is that on the part
 pub told-part : {E : Type 0} (criterion : Criterion) (registers : ℕ) (states : List State) (window : List Event) (marks : List Bool)
     (answer : Result Bool E) → length marks ≡ length window → IsTrue (keeps_part marks window)
@@ -41,8 +33,8 @@ pub told-part : {E : Type 0} (criterion : Criterion) (registers : ℕ) (states :
     → IfOk answer (λ is. IsTrue is → IsViolatedPart criterion registers states window marks)
 told-part criterion registers states window marks (Ok true) each keeps told = λ is. record {
   each = each;
-  keeps = inr keeps;
-  part = part-kept marks window keeps;
+  keeps = inr (kept-test marks window keeps);
+  part = part-kept marks window (kept-test marks window keeps);
   violated = told;
 }
 told-part criterion registers states window marks (Ok false) each keeps told = λ is. absurd (cc)
@@ -55,11 +47,16 @@ pub told-fails : {E : Type 0} (criterion : Criterion) (registers : ℕ) (states 
 told-fails criterion registers states window marks (Ok true) few keeps told = λ is. absurd (cc)
 told-fails criterion registers states window marks (Ok false) few keeps (inl ill_formed) = λ is. inr (inl ill_formed)
 told-fails criterion registers states window marks (Ok false) few keeps (inr (inl many)) = λ is.
-    let is_part = part-kept marks window keeps in
+    let is_part = part-kept marks window (kept-test marks window keeps) in
     let fewer = part-fewer (transactions (kept_of marks window)) (transactions window) is_part in
     absurd (omega (arith, few, many, fewer))
 told-fails criterion registers states window marks (Ok false) few keeps (inr (inr order)) = λ is. inr (inr order)
 told-fails criterion registers states window marks (Err error) few keeps told = tt
+
+-- what fails the test is not kept
+pub not-kept : (criterion : Criterion) (registers : ℕ) (states : List State) (window : List Event) (marks : List Bool)
+    → keeps_part marks window ≡ false → Fails criterion registers states window marks
+not-kept criterion registers states window marks fails = inl (λ kept. let passes = sym (test-kept marks window kept) ∙ fails in absurd (cc))
 
 pub violated-whole : (criterion : Criterion) (registers : ℕ) (states : List State) (window : List Event)
     → IsViolated criterion registers states window → IsViolatedPart criterion registers states window (all_kept window)

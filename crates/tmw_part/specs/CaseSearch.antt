@@ -6,7 +6,7 @@ use Rattle.tmw_part.specs.declared.reason_case.Derivation.{Derivation}
 use Rattle.tmw_part.specs.declared.reason_case.Reason.{Reason}
 use Rattle.tmw_part.specs.declared.reason_case.ReasonCase.{ReasonCase}
 use Rattle.tmw_part.specs.DerivationSearch.{AreMade, EndsNowhere}
-use Rattle.tmw_part.specs.PartTest.{is_among}
+use Rattle.tmw_part.specs.KeptPart.{is_among}
 use Rattle.tmw_part.specs.Reasons.{AreOnce, IsDerivationIn, RefuteEachIn, is_said_for, said_places, states_at}
 use Rattle.tmw_part.specs.ReasonSteps.{Asked}
 

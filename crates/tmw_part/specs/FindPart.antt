@@ -11,7 +11,7 @@ use Rattle.tmw_part.specs.declared.piece.Piece.{Piece}
 use Rattle.tmw_part.specs.declared.whole_window.WholeWindow.{WholeWindow}
 use Rattle.tmw_part.specs.Marks.{all_kept, kept_of, without}
 use Rattle.tmw_part.specs.Pieces.{pieces, with_readers}
-use Rattle.tmw_part.specs.PartTest.{keeps_part}
+use Rattle.tmw_part.specs.KeptPart.{IsKept}
 
 -- From one of these states the events' transactions have a serial order.
 abbrev pub HasOrderFrom : Criterion → List State → List Event → Type 0
@@ -29,17 +29,17 @@ TellsViolated criterion registers states events true = IsViolated criterion regi
 TellsViolated criterion registers states events false =
     IsFalse (is_well_formed registers events) ⊎ ((8 < length (transactions events)) ⊎ HasOrderFrom criterion states events)
 
--- What is kept, a mark for each event, is all of the window or passes the test of a part of it, is such a part, and is violated.
+-- What is kept, a mark for each event, is all of the window or such a part of it, and is violated.
 pub record IsViolatedPart (criterion : Criterion) (registers : ℕ) (states : List State) (window : List Event) (marks : List Bool) : Type 0 where
   pub each : length marks ≡ length window
-  pub keeps : (marks ≡ all_kept window) ⊎ IsTrue (keeps_part marks window)
+  pub keeps : (marks ≡ all_kept window) ⊎ IsKept marks window
   pub part : IsPart (transactions (kept_of marks window)) (transactions window)
   pub violated : IsViolated criterion registers states (kept_of marks window)
 
--- What is kept does not pass the test of a part of the window, is ill-formed, or has an order.
+-- What is kept is no such part of the window, is ill-formed, or has an order.
 abbrev pub Fails : Criterion → ℕ → List State → List Event → List Bool → Type 0
 Fails criterion registers states window marks =
-    IsFalse (keeps_part marks window)
+    (IsKept marks window → ⊥)
     ⊎ (IsFalse (is_well_formed registers (kept_of marks window)) ⊎ HasOrderFrom criterion states (kept_of marks window))
 
 -- These pieces can't be taken out of what is kept: they are out already, or what is then kept fails.

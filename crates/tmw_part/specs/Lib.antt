@@ -6,6 +6,7 @@ pub mod FindReason
 pub mod Marks
 pub mod NameInWindow
 pub mod Origins
+pub mod KeptPart
 pub mod PartTest
 pub mod Pieces
 pub mod ReasonSteps

@@ -1,9 +1,16 @@
 -- Which transactions of a window are those of what is kept of it.
-use Rattle.std.specs.Prelude.{◌==◌, ◌&&◌, ℕ, Bool, nat_le, List, length, map, position, slice_index_or, unwrap_or}
+use Rattle.std.specs.Prelude.{◌==◌, ◌&&◌, ℕ, Bool, nat_le, List, [], length, map, position, slice_index_or, unwrap_or}
 use Rattle.tmw_events.specs.declared.event.Event.{Event}
 use Rattle.tmw_defs.specs.History.{Txn, transactions}
 use Rattle.tmw_part.specs.declared.name_in_window.Name.{Name}
 use Rattle.tmw_part.specs.Marks.{kept_of, places_of}
+
+-- The transaction at this place of a list; of none, one without events.
+abbrev pub nothing : Txn
+nothing = record { thread = 0; first = 0; last = 0; text = [] }
+
+abbrev pub txn_at : List Txn → ℕ → Txn
+txn_at ts place = slice_index_or ts place nothing
 
 -- The transaction is the thread's, and the events from the one place up to the other lie in it.
 abbrev pub lies_in : ℕ → ℕ → ℕ → Txn → Bool

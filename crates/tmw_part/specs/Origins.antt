@@ -13,10 +13,9 @@ use Rattle.tmw_cuts.specs.RegisterUse.{left_by}
 use Rattle.tmw_part.specs.declared.origin.Fate.{Fate}
 use Rattle.tmw_part.specs.declared.origin.Fate.TheVariants.{GivenUp, GivingUp, Unasked, Overwritten, Stays}
 use Rattle.tmw_part.specs.declared.origin.Origin.{Origin}
-use Rattle.tmw_part.specs.NameInWindow.{owner}
+use Rattle.tmw_part.specs.NameInWindow.{owner, txn_at}
 use Rattle.tmw_part.specs.Pieces.{call_of, next_of, puts}
 use Rattle.tmw_part.specs.ReasonSteps.{is_some_of}
-use Rattle.tmw_part.specs.PartTest.{txn_at}
 use Rattle.tmw_part.specs.UnlikeAnswers.{known_after}
 
 -- The operation that the call makes with what follows it in its thread.

@@ -17,7 +17,7 @@ use Rattle.tmw_part.specs.declared.reason_step.ReasonStep.{ReasonStep}
 use Rattle.tmw_part.specs.declared.reason_step.ReasonStep.TheVariants.{RealTime, From, TooLate, Overwritten, ReadFirst, ChangedFirst, Through}
 use Rattle.tmw_part.specs.declared.reason_step.Contradiction.{Contradiction}
 use Rattle.tmw_part.specs.declared.reason_step.Contradiction.TheVariants.{Cycle, NoSource, Unlike}
-use Rattle.tmw_part.specs.PartTest.{txn_at}
+use Rattle.tmw_part.specs.NameInWindow.{txn_at}
 use Rattle.tmw_part.specs.UnlikeAnswers.{first_unlike}
 
 -- What a reason speaks of: the transactions of a window, and the states from which and the criterion by which they have no serial order.

@@ -15,7 +15,7 @@ use Rattle.tmw_part.specs.declared.reason_step.ReasonStep.TheVariants.{RealTime,
 use Rattle.tmw_part.specs.declared.reason_step.ValueSource.{ValueSource}
 use Rattle.tmw_part.specs.declared.reason_step.Contradiction.{Contradiction}
 use Rattle.tmw_part.specs.ReasonSteps.{Asked, Derives, contradicts, from_else, gives, is_asked, may_come_from}
-use Rattle.tmw_part.specs.PartTest.{is_among}
+use Rattle.tmw_part.specs.KeptPart.{is_among}
 use Rattle.tmw_part.specs.FindPart.{HasOrderFrom}
 
 -- The transaction at place a of the list stands at place i of the order.

@@ -1,4 +1,4 @@
-ghost use Rattle.std.specs.Prelude.{◌≡◌, [], not};
+ghost use Rattle.std.specs.Prelude.{◌≡◌, not};
 ghost use Rattle.std.specs.List.{list_all};
 ghost use Rattle.tmw_defs.specs.History.{operations};
 ghost use Rattle.tmw_defs.specs.Part.{is_answered, is_unread, may_go};
@@ -84,9 +84,14 @@ fn are_ops_left(part: &[Transaction], left: &[Kind], whole: &[Kind]) -> bool
 
 /// Whether a transaction with this text may go as a whole.
 pub(crate) fn may_go_whole(part: &[Transaction], text: &[Kind]) -> bool
-    ensures { result ≡ are_ops_left (is_unread part.now) [] (operations text.now) }
+    ensures { result ≡ list_all (may_go (is_unread part.now)) (operations text.now) }
 {
-    are_ops_left(part, &[], text)
+    for op in TextOperations(text) {
+        if !may_go(part, op) {
+            return false;
+        }
+    }
+    true
 }
 
 /// Whether a transaction of which this text is left needs nothing in the register, or what its whole text needs; leaves

@@ -1,7 +1,9 @@
 //! Which events of a window are kept: a mark for each, in order.
 ghost use Rattle.std.specs.Prelude.{◌≡◌, IfOk, slice_index_or, true};
+ghost use Rattle.std.specs.List.{list_all};
 ghost use Rattle.tmw_part.specs.Marks.{is_of_any, keeps_last, kept_of, places_of, without};
-ghost use Rattle.tmw_part.specs.PartTest.{are_whole, may_miss, may_miss_all};
+ghost use Rattle.tmw_part.specs.KeptPart.{may_miss};
+ghost use Rattle.tmw_part.specs.PartTest.{is_whole, may_miss_all};
 
 use crate::is_left_of::is_unread;
 use crate::piece::Piece;
@@ -49,7 +51,7 @@ fn mark_at(marks: &[bool], place: usize) -> bool
 
 /// Tells whether each of these calls is kept with its answer, or neither is.
 pub(crate) fn are_whole(marks: &[bool], calls: &[Piece]) -> bool
-    ensures { result ≡ are_whole marks.now calls.now }
+    ensures { result ≡ list_all (is_whole marks.now) calls.now }
 {
     calls.iter().all(|call| mark_at(marks, call.from) == mark_at(marks, call.upto))
 }

@@ -2,7 +2,8 @@ ghost use Rattle.std.specs.Prelude.{◌≡◌, IfOk, map};
 ghost use Rattle.std.specs.List.{list_all};
 ghost use Rattle.tmw_defs.specs.Part.{is_unread};
 ghost use Rattle.tmw_part.specs.NameInWindow.{owner_in};
-ghost use Rattle.tmw_part.specs.PartTest.{are_placed, is_among, is_order_kept, is_part_at, is_row_kept, is_stay, without_number};
+ghost use Rattle.tmw_part.specs.KeptPart.{are_placed, is_among, without_number};
+ghost use Rattle.tmw_part.specs.PartTest.{is_order_kept, is_part_at, is_row_kept, is_stay};
 
 use crate::is_left_of::{is_left_of, may_go_whole};
 use crate::name_in_window::owner_in;
