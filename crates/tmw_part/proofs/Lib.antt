@@ -7,6 +7,7 @@ mod ListFacts
 mod MoreEvents
 mod OrderFacts
 mod OrderValues
+mod OriginsProof
 mod Parts
 mod PlacesProof
 mod Shared

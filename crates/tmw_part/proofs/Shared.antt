@@ -26,11 +26,13 @@ pub use Rattle.tmw_part.specs.FindPart.{Fails, IsNeededIn, IsPartIn, IsViolated,
 pub use Rattle.tmw_part.specs.Marks.{all_kept, is_of_any, keeps_last, kept_of, places_of, without_from}
 pub use Rattle.tmw_part.specs.KeptPart.{IsKept, are_placed, is_among, part_of, without_number}
 pub use Rattle.tmw_part.specs.NameInWindow.{nothing, owner_in, txn_at}
-pub use Rattle.tmw_part.specs.Origins.{or_before, origin_from, origin_of}
-pub use Rattle.tmw_part.specs.Pieces.{calls_from, is_put_from, readers_from}
+pub use Rattle.tmw_part.specs.Origins.{answered_at, latest}
+pub use Rattle.tmw_part.specs.Pieces.{calls, calls_from}
 pub use Rattle.tmw_part.specs.Reasons.{Changes, ComesFrom, ComesNot, HoldsIn, IsContradictedIn, IsNeededEachIn, IsUnchanged, ReasonLaw, ReasonTells, StandsAt, StandsBefore, StandsBeforeWriter, begin_apart, is_said_for, states_at}
 pub use Rattle.tmw_part.specs.ReasonSteps.{Asked, Derives, begins_before, comes_not_else, contradicts, ends_before, excludes, follows, from_else, gives, has_place, has_writer, is_asked, is_before, is_committed, is_held, is_known_rival, is_pair, is_rival, is_same_source, is_same_writer, is_some_of, may_come_from, needs, ops_at, orders, stands_between, supplies, tells}
 pub use Rattle.tmw_part.specs.TakeEvents.{AreTaken, AreUnfit}
 pub use Rattle.tmw_part.specs.UnlikeAnswers.{first_unlike, needed_of, unlike_or}
+pub use Rattle.tmw_part.specs.declared.origin.Origin.{Origin}
+pub use Rattle.tmw_part.specs.declared.piece.Call.{Call}
 pub use Rattle.tmw_part.specs.declared.piece.Piece.{Piece}
 pub use Rattle.tmw_part.specs.declared.reason_step.ReasonStep.{ReasonStep}

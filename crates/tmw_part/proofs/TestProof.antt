@@ -1,5 +1,5 @@
 -- The test of a part tells what is kept as a part, and that is one.
-use Rattle.tmw_part.proofs.Shared.{Add, All, All-from_recursion, AllByRecursion, AreOpsLeft, AreStaying, Bool, Each, Event, IsLeftOf, IsPart, IsTrue, List, None, Op, Option, Piece, Read, Some, Status, Txn, Write, [], and_from, and_parts, ap, arith, calls_from, cases_Bool, eq-eqb, eqb-true, inl, first_unlike, inr, is_unread, keeps_last, left_by, length, list_all, map, may_go, needed_of, operations, owner_in, places_of, precedes, range_with_len, refl, remove, slice_get, status_of, suc, sym, transactions, true, zero, ℕ, ◌+◌, ◌<◌, ◌==◌, ◌∙◌, ◌∷◌, ◌≡◌}
+use Rattle.tmw_part.proofs.Shared.{Add, All, All-from_recursion, AllByRecursion, AreOpsLeft, AreStaying, Bool, Call, Each, Event, IsLeftOf, IsPart, IsTrue, List, None, Op, Option, Read, Some, Status, Txn, Write, [], and_from, and_parts, ap, arith, calls, cases_Bool, eq-eqb, eqb-true, inl, first_unlike, inr, is_unread, keeps_last, left_by, length, list_all, map, may_go, needed_of, operations, owner_in, places_of, precedes, range_with_len, refl, remove, slice_get, status_of, suc, sym, transactions, true, zero, ℕ, ◌+◌, ◌<◌, ◌==◌, ◌∙◌, ◌∷◌, ◌≡◌}
 use Rattle.std.specs.Prelude.{zip}
 use Rattle.std.proofs.lemmas.List.Elements.{recursion_from_All}
 use Rattle.tmw_defs.specs.Part.{precedence}
@@ -206,7 +206,7 @@ module _ (place : Txn → ℕ) (whole part : List Txn) where
       (and_from _ _ (test-alike (is_unread part) (txn_at whole (place t)) t alike) (test-row (txn_at whole) place t part row))
       (test-stays ts each others)
 
-whole-test : (marks : List Bool) (call : Piece) → IsTrue (is_whole marks call) → IsWhole marks call
+whole-test : (marks : List Bool) (call : Call) → IsTrue (is_whole marks call) → IsWhole marks call
 whole-test marks call is = same-test _ _ is
 
 pub kept-test : (marks : List Bool) (window : List Event) → IsTrue (keeps_part marks window) → IsKept marks window
@@ -214,14 +214,14 @@ kept-test marks window all =
     let part = part_of marks window in
     let place = owner_in (places_of marks) (transactions window) in
     let (last, more) = and_parts (keeps_last marks) _ all in
-    let (calls, rest) = and_parts (list_all (is_whole marks) (calls_from 0 window)) _ more in
+    let (calls, rest) = and_parts (list_all (is_whole marks) (calls window)) _ more in
     let (writes, is) = and_parts (may_miss_all part marks window) _ rest in
     let (stay, stays) = and_parts (are_placed (is_unread part) 0 (owners marks window) (transactions window)) _ is in
     let (left, order) = stays-test place (transactions window) part part stays in
     record {
       last = last;
-      calls = All-from_recursion (IsWhole marks) (calls_from 0 window)
-          (all-test (is_whole marks) (IsWhole marks) (whole-test marks) (calls_from 0 window) calls);
+      calls = All-from_recursion (IsWhole marks) (calls window)
+          (all-test (is_whole marks) (IsWhole marks) (whole-test marks) (calls window) calls);
       writes = All-from_recursion _ (zip marks window) (all-test _ _ (λ pair is. is) (zip marks window) writes);
       stay = stay;
       left = left;
@@ -233,8 +233,8 @@ test-kept marks window k =
     let part = part_of marks window in
     let place = owner_in (places_of marks) (transactions window) in
     and_from _ _ k.last (and_from _ _
-      (test-all (is_whole marks) (IsWhole marks) (λ call is. test-same _ _ is) (calls_from 0 window)
-        (recursion_from_All (IsWhole marks) (calls_from 0 window) k.calls))
+      (test-all (is_whole marks) (IsWhole marks) (λ call is. test-same _ _ is) (calls window)
+        (recursion_from_All (IsWhole marks) (calls window) k.calls))
       (and_from _ _ (test-all _ _ (λ pair is. is) (zip marks window) (recursion_from_All _ (zip marks window) k.writes))
         (and_from _ _ k.stay (test-stays place (transactions window) part part k.left k.order))))
 

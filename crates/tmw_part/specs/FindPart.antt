@@ -29,14 +29,14 @@ TellsViolated criterion registers states events true = IsViolated criterion regi
 TellsViolated criterion registers states events false =
     IsFalse (is_well_formed registers events) ⊎ ((8 < length (transactions events)) ⊎ HasOrderFrom criterion states events)
 
--- What is kept, a mark for each event, is all of the window or such a part of it, and is violated.
+-- What is kept, a mark for each event, is all of the window or is kept as a part of it, and is violated.
 pub record IsViolatedPart (criterion : Criterion) (registers : ℕ) (states : List State) (window : List Event) (marks : List Bool) : Type 0 where
   pub each : length marks ≡ length window
   pub keeps : (marks ≡ all_kept window) ⊎ IsKept marks window
   pub part : IsPart (transactions (kept_of marks window)) (transactions window)
   pub violated : IsViolated criterion registers states (kept_of marks window)
 
--- What is kept is no such part of the window, is ill-formed, or has an order.
+-- What is kept is not kept as a part of the window, is ill-formed, or has an order.
 abbrev pub Fails : Criterion → ℕ → List State → List Event → List Bool → Type 0
 Fails criterion registers states window marks =
     (IsKept marks window → ⊥)

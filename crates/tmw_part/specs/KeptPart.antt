@@ -8,10 +8,10 @@ use Rattle.tmw_defs.specs.declared.op.Op.{Op}
 use Rattle.tmw_defs.specs.History.{Txn, operations, transactions}
 use Rattle.tmw_defs.specs.Part.{Each, IsLeftOf, is_unread, may_go_whole, precedence}
 use Rattle.tmw_cuts.specs.RegisterUse.{left_by}
-use Rattle.tmw_part.specs.declared.piece.Piece.{Piece}
+use Rattle.tmw_part.specs.declared.piece.Call.{Call}
 use Rattle.tmw_part.specs.Marks.{keeps_last, kept_of, places_of}
 use Rattle.tmw_part.specs.NameInWindow.{owner_in, txn_at}
-use Rattle.tmw_part.specs.Pieces.{calls_from}
+use Rattle.tmw_part.specs.Pieces.{calls}
 use Rattle.tmw_part.specs.UnlikeAnswers.{first_unlike, needed_of}
 
 -- The number is one of these; and they without the first that is this one.
@@ -36,7 +36,7 @@ IsNoneOr left whole = (left ≡ None) ⊎ (left ≡ whole)
 
 -- In the register, the operations that are left need nothing before them or what the whole needs, and leave nothing or what the whole
 -- leaves there; and they were given no answer of it unlike the operations before it, or the first has the values of the first such
--- answer of the whole. (What an add that is not answered would leave isn't known.)
+-- answer of the whole. (Calls without an answer don't count.)
 pub record AgreesOn (left whole : List Op) (r : ℕ) : Type 0 where
   pub needs : IsNoneOr (needed_of r left) (needed_of r whole)
   pub leaves : IsNoneOr (left_by r None left) (left_by r None whole)
@@ -47,7 +47,8 @@ pub record IsAlike (unread : ℕ → ℕ → Bool) (whole kept : Txn) : Type 0 w
   pub left : IsLeftOf unread whole kept
   pub agrees : (r : ℕ) → r < 8 → AgreesOn (operations kept.text) (operations whole.text) r
 
--- The transactions of what is kept; and for each the place of that one of the window in which its own events lie, and that one.
+-- The transactions of what is kept; for each the number of that one of the window in which its own events lie, or how many there are; and
+-- that one, or one without events.
 abbrev pub part_of : List Bool → List Event → List Txn
 part_of marks window = transactions (kept_of marks window)
 
@@ -58,8 +59,8 @@ abbrev pub staying : List Bool → List Event → List Txn
 staying marks window = map (txn_at (transactions window)) (owners marks window)
 
 -- The call is kept with its answer, or neither is.
-abbrev pub IsWhole : List Bool → Piece → Type 0
-IsWhole marks call = slice_index_or marks call.from true ≡ slice_index_or marks call.upto true
+abbrev pub IsWhole : List Bool → Call → Type 0
+IsWhole marks call = slice_index_or marks call.piece.from true ≡ slice_index_or marks call.piece.upto true
 
 -- An event of this kind may be missing: it calls no write, answered or not, of a value that the part reads.
 abbrev pub may_miss : List Txn → Kind → Bool
@@ -70,7 +71,7 @@ may_miss part _ = true
 -- what is left of the one in which its own events lie, and agrees with that.
 pub record IsKept (marks : List Bool) (window : List Event) : Type 0 where
   pub last : IsTrue (keeps_last marks)
-  pub calls : All (IsWhole marks) (calls_from 0 window)
+  pub calls : All (IsWhole marks) (calls window)
   pub writes : All (λ pair. IsTrue (pair.0 || may_miss (part_of marks window) pair.1.kind)) (zip marks window)
   pub stay : IsTrue (are_placed (is_unread (part_of marks window)) 0 (owners marks window) (transactions window))
   pub left : Each (IsAlike (is_unread (part_of marks window))) (staying marks window) (part_of marks window)

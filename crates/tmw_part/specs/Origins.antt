@@ -1,6 +1,7 @@
 -- Who in a window wrote a value that a transaction read of a register, and what became of that write.
-use Rattle.std.specs.Prelude.{◌==◌, ◌&&◌, ◌+◌, ◌-◌, ℕ, Bool, true, false, not, nat_lt, List, [], ◌∷◌, length, slice_get, Option, Some, None, if◌then◌else◌}
+use Rattle.std.specs.Prelude.{◌==◌, ◌&&◌, ◌-◌, ℕ, Bool, true, false, not, nat_lt, List, [], ◌∷◌, filter, length, map, slice_get, unwrap_or, Option, Some, None, if◌then◌else◌}
 use Rattle.std.specs.List.{list_any}
+use Rattle.std.specs.Option.{option_or}
 use Rattle.tmw_events.specs.declared.event.Event.{Event}
 use Rattle.tmw_events.specs.declared.event.Kind.{Kind}
 use Rattle.tmw_events.specs.declared.event.Kind.TheVariants.{X}
@@ -13,12 +14,13 @@ use Rattle.tmw_cuts.specs.RegisterUse.{left_by}
 use Rattle.tmw_part.specs.declared.origin.Fate.{Fate}
 use Rattle.tmw_part.specs.declared.origin.Fate.TheVariants.{GivenUp, GivingUp, Unasked, Overwritten, Stays}
 use Rattle.tmw_part.specs.declared.origin.Origin.{Origin}
+use Rattle.tmw_part.specs.declared.piece.Call.{Call}
 use Rattle.tmw_part.specs.NameInWindow.{owner, txn_at}
-use Rattle.tmw_part.specs.Pieces.{call_of, next_of, puts}
+use Rattle.tmw_part.specs.Pieces.{calls, puts}
 use Rattle.tmw_part.specs.ReasonSteps.{is_some_of}
 use Rattle.tmw_part.specs.UnlikeAnswers.{known_after}
 
--- The operation that the call makes with what follows it in its thread.
+-- The operation that a call makes with what follows it in its thread.
 abbrev pub made : Kind → Option Kind → List Op
 made call None = []
 made call (Some answer) = operation call answer
@@ -37,27 +39,25 @@ abbrev pub known_past : ℕ → Option ℕ → List Op → Option ℕ
 known_past r known [] = known
 known_past r known (op ∷ ops) = known_past r (known_after r known op) ops
 
--- The place of the answer by which the reader first reads the value from the register, or first does so while its own calls make that
--- register the value `expected`. The first of these events has this place, and so much is known before it.
-abbrev pub answered_from : List Txn → ℕ → ℕ → Option ℕ → ℕ → Option ℕ → ℕ → List Event → ℕ
-answered_from window r v expected reader known place [] = place
-answered_from window r v expected reader known place (e ∷ events) =
-    if owner window e.thread.number place place == reader
-    then (if reads_as r v expected known (made e.kind (next_of e.thread.number events))
-    then (call_of place e events).upto
-    else answered_from window r v expected reader (known_past r known (made e.kind (next_of e.thread.number events))) (place + 1) events)
-    else answered_from window r v expected reader known (place + 1) events
+-- The place of the answer by which a transaction, which makes these calls, first reads the value from the register; or, with a value
+-- `expected`, first does so where its calls before say that the register holds that. So much they say before these.
+abbrev pub answered_at : ℕ → ℕ → Option ℕ → Option ℕ → List Call → Option ℕ
+answered_at r v expected known [] = None
+answered_at r v expected known (call ∷ calls) =
+    if reads_as r v expected known (made call.kind call.next) then Some call.piece.upto
+    else answered_at r v expected (known_past r known (made call.kind call.next)) calls
+
+-- The transaction that makes the call; and those calls that one makes.
+abbrev pub caller : List Txn → Call → ℕ
+caller window call = owner window call.piece.thread call.piece.from call.piece.from
+
+abbrev pub own_calls : List Txn → ℕ → List Call → List Call
+own_calls window reader calls = filter (λ call. caller window call == reader) calls
 
 -- What was put there may count.
 abbrev pub stays : Fate → Bool
 stays Stays = true
 stays _ = false
-
--- the later of two, unless only the earlier one may count
-abbrev pub or_before : Option Origin → Option Origin → Option Origin
-or_before None before = before
-or_before (Some later) None = Some later
-or_before (Some later) (Some before) = if stays before.fate && not (stays later.fate) then Some before else Some later
 
 -- A transaction whose last event is this one has asked to abort.
 abbrev pub asks_abort : Option Kind → Bool
@@ -78,28 +78,31 @@ fate_of r v true t = Overwritten
 fate_of r v false t =
     fate_by (status_of t.text) (asks_abort (slice_get t.text (length t.text - 1))) (is_some_of v (left_by r None (operations t.text)))
 
-abbrev pub origin_at : List Txn → ℕ → ℕ → ℕ → ℕ → Event → Origin
-origin_at window r v reader place e = record {
-  place = place;
-  writer = owner window e.thread.number place place;
-  fate = fate_of r v (owner window e.thread.number place place == reader) (txn_at window (owner window e.thread.number place place));
+abbrev pub origin_at : List Txn → ℕ → ℕ → ℕ → Call → Origin
+origin_at window r v reader call = record {
+  place = call.piece.from;
+  writer = caller window call;
+  fate = fate_of r v (caller window call == reader) (txn_at window (caller window call));
 }
 
--- The call at this place, before these events, puts the value into the register; it comes before that answer, which is not its own.
-abbrev pub puts_before : ℕ → ℕ → ℕ → ℕ → Event → List Event → Bool
-puts_before r v upto place e events =
-    nat_lt place upto && (not ((call_of place e events).upto == upto) && puts r v e.kind (next_of e.thread.number events))
+-- The call comes before that answer, which is not its own, and puts the value into the register.
+abbrev pub puts_before : ℕ → ℕ → ℕ → Call → Bool
+puts_before r v upto call = nat_lt call.piece.from upto && (not (call.piece.upto == upto) && puts r v call)
 
--- The last of these events that does so and may count, or else the last that does so. The first of them has this place.
-abbrev pub origin_from : List Txn → ℕ → ℕ → ℕ → ℕ → ℕ → List Event → Option Origin
-origin_from window r v reader upto place [] = None
-origin_from window r v reader upto place (e ∷ events) =
-    or_before (origin_from window r v reader upto (place + 1) events)
-    (if puts_before r v upto place e events then Some (origin_at window r v reader place e) else None)
+abbrev pub origins : List Txn → List Call → ℕ → ℕ → ℕ → ℕ → List Origin
+origins window calls r v reader upto = map (origin_at window r v reader) (filter (puts_before r v upto) calls)
 
--- Of the window's events the last that may count, or else the last, that puts the value into the register before the reader, the transaction at this place, is first
--- answered it, or first while its own calls make the register `expected`.
+-- The last of these; and the last that may count, or else the last.
+abbrev pub last_of : List Origin → Option Origin
+last_of origins = slice_get origins (length origins - 1)
+
+abbrev pub latest : List Origin → Option Origin
+latest origins = option_or (last_of (filter (λ origin. stays origin.fate) origins)) (last_of origins)
+
+-- Of the window's calls the last that may count, or else the last, that puts the value into the register before the reader, the
+-- transaction of this number, is answered it so, or before the window's end if it isn't.
 abbrev pub origin_of : List Event → ℕ → ℕ → Option ℕ → ℕ → Option Origin
 origin_of window r v expected reader =
     let ts = transactions window in
-    origin_from ts r v reader (answered_from ts r v expected reader None 0 window) 0 window
+    let upto = unwrap_or (answered_at r v expected None (own_calls ts reader (calls window))) (length window) in
+    latest (origins ts (calls window) r v reader upto)

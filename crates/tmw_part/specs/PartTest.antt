@@ -11,11 +11,11 @@ use Rattle.tmw_defs.specs.Opaque.{precedes}
 use Rattle.tmw_defs.specs.Part.{is_unread, may_go}
 use Rattle.tmw_cuts.specs.RegisterUse.{left_by}
 use Rattle.tmw_events.specs.declared.event.Kind.{Kind}
-use Rattle.tmw_part.specs.declared.piece.Piece.{Piece}
+use Rattle.tmw_part.specs.declared.piece.Call.{Call}
 use Rattle.tmw_part.specs.KeptPart.{are_placed, may_miss, part_of}
 use Rattle.tmw_part.specs.Marks.{keeps_last, places_of}
 use Rattle.tmw_part.specs.NameInWindow.{owner_in, txn_at}
-use Rattle.tmw_part.specs.Pieces.{calls_from}
+use Rattle.tmw_part.specs.Pieces.{calls}
 use Rattle.tmw_part.specs.UnlikeAnswers.{first_unlike, needed_of}
 
 abbrev pub is_same_op : Op → Op → Bool
@@ -79,8 +79,8 @@ is_stay place whole part t = is_left_of (is_unread part) t.text (txn_at whole (p
 abbrev pub is_part_at : (Txn → ℕ) → List Txn → List Txn → Bool
 is_part_at place part whole = are_placed (is_unread part) 0 (map place part) whole && list_all (is_stay place whole part) part
 
-abbrev pub is_whole : List Bool → Piece → Bool
-is_whole marks call = is_same (slice_index_or marks call.from true) (slice_index_or marks call.upto true)
+abbrev pub is_whole : List Bool → Call → Bool
+is_whole marks call = is_same (slice_index_or marks call.piece.from true) (slice_index_or marks call.piece.upto true)
 
 abbrev pub may_miss_all : List Txn → List Bool → List Event → Bool
 may_miss_all part marks window = list_all (λ pair. pair.0 || may_miss part pair.1.kind) (zip marks window)
@@ -88,6 +88,6 @@ may_miss_all part marks window = list_all (λ pair. pair.0 || may_miss part pair
 abbrev pub keeps_part : List Bool → List Event → Bool
 keeps_part marks window =
     keeps_last marks
-    && (list_all (is_whole marks) (calls_from 0 window)
+    && (list_all (is_whole marks) (calls window)
     && (may_miss_all (part_of marks window) marks window
     && is_part_at (owner_in (places_of marks) (transactions window)) (part_of marks window) (transactions window)))

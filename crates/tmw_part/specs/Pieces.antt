@@ -1,10 +1,12 @@
 -- The pieces of a window, each of which is taken out at once, alone or together with the reads of its values: its transactions, and their
 -- calls, each with its answer if it has one.
-use Rattle.std.specs.Prelude.{◌==◌, ◌&&◌, ◌||◌, ◌+◌, ◌%◌, ◌^◌, ℕ, Bool, false, nat_le, List, [], ◌∷◌, ◌++◌, find, map, option_map, position, Option, Some, None, if◌then◌else◌}
+use Rattle.std.specs.Prelude.{◌==◌, ◌&&◌, ◌+◌, ◌%◌, ◌^◌, ℕ, Bool, false, nat_le, List, [], ◌∷◌, ◌++◌, filter, find, map, option_map, position, Option, Some, None, if◌then◌else◌}
+use Rattle.std.specs.List.{list_any}
 use Rattle.tmw_events.specs.declared.event.Event.{Event}
 use Rattle.tmw_events.specs.declared.event.Kind.{Kind}
 use Rattle.tmw_events.specs.declared.event.Kind.TheVariants.{R, W, N, V}
 use Rattle.tmw_defs.specs.History.{Txn, is_call, transactions}
+use Rattle.tmw_part.specs.declared.piece.Call.{Call}
 use Rattle.tmw_part.specs.declared.piece.Piece.{Piece}
 
 -- The whole transaction.
@@ -17,56 +19,62 @@ behind place None = place
 behind place (Some n) = place + 1 + n
 
 -- A call at this place, before these events: with the next event of its thread, which is its answer where they are well-formed.
-abbrev pub call_of : ℕ → Event → List Event → Piece
+abbrev pub call_of : ℕ → Event → List Event → Call
 call_of place e events = record {
-  thread = e.thread.number;
-  from = place;
-  upto = behind place (position (λ other. other.thread.number == e.thread.number) events);
+  piece = record {
+    thread = e.thread.number;
+    from = place;
+    upto = behind place (position (λ other. other.thread.number == e.thread.number) events);
+  };
+  kind = e.kind;
+  next = option_map (λ other. other.kind) (find (λ other. other.thread.number == e.thread.number) events);
 }
 
 -- The calls among these events, of which the first has this place.
-abbrev pub calls_from : ℕ → List Event → List Piece
+abbrev pub calls_from : ℕ → List Event → List Call
 calls_from place [] = []
 calls_from place (e ∷ events) =
     if is_call 8 e.kind then call_of place e events ∷ calls_from (place + 1) events else calls_from (place + 1) events
 
+abbrev pub calls : List Event → List Call
+calls window = calls_from 0 window
+
 abbrev pub pieces : List Event → List Piece
-pieces window = map whole_of (transactions window) ++ calls_from 0 window
+pieces window = map whole_of (transactions window) ++ map (λ call. call.piece) (calls window)
 
 -- The event at this place is one of the piece.
 abbrev pub is_of : Piece → ℕ → Event → Bool
 is_of piece place e = (e.thread.number == piece.thread) && (nat_le piece.from place && nat_le place piece.upto)
 
--- The call, with what follows it in its thread, puts the value into the register: a write of it, answered or not, or an add that ends there.
-abbrev pub puts : ℕ → ℕ → Kind → Option Kind → Bool
-puts r v (W q w) next = (q.number == r) && (w == v)
-puts r v (N q d) (Some (V w)) = (q.number == r) && ((w + d) % 2 ^ 64 == v)
-puts r v kind next = false
+-- The call is one of the piece.
+abbrev pub is_within : Piece → Piece → Bool
+is_within piece call = (call.thread == piece.thread) && (nat_le piece.from call.from && nat_le call.from piece.upto)
 
--- The thread's first event among these.
-abbrev pub next_of : ℕ → List Event → Option Kind
-next_of thread events = option_map (λ e. e.kind) (find (λ e. e.thread.number == thread) events)
+-- The call puts the value into the register: a write of it, answered or not, or an add that ends there.
+abbrev pub puts_by : ℕ → ℕ → Kind → Option Kind → Bool
+puts_by r v (W q w) next = (q.number == r) && (w == v)
+puts_by r v (N q d) (Some (V w)) = (q.number == r) && ((w + d) % 2 ^ 64 == v)
+puts_by r v kind next = false
 
--- An event of the piece puts the value into the register. The first of these events has this place.
-abbrev pub is_put_from : Piece → ℕ → ℕ → ℕ → List Event → Bool
-is_put_from piece r v place [] = false
-is_put_from piece r v place (e ∷ events) =
-    (is_of piece place e && puts r v e.kind (next_of e.thread.number events)) || is_put_from piece r v (place + 1) events
+abbrev pub puts : ℕ → ℕ → Call → Bool
+puts r v call = puts_by r v call.kind call.next
 
--- The call, with what follows it in its thread, reads such a value.
-abbrev pub reads_put : Piece → List Event → Kind → Option Kind → Bool
-reads_put piece window (R q) (Some (V w)) = is_put_from piece q.number w 0 window
-reads_put piece window (N q d) (Some (V w)) = is_put_from piece q.number w 0 window
-reads_put piece window kind next = false
+-- One of these calls is of the piece and puts the value into the register.
+abbrev pub is_put : Piece → List Call → ℕ → ℕ → Bool
+is_put piece calls r v = list_any (λ call. is_within piece call.piece && puts r v call) calls
 
--- The calls among these events that read a value of the piece, each with its answer. The first event has this place.
-abbrev pub readers_from : Piece → List Event → ℕ → List Event → List Piece
-readers_from piece window place [] = []
-readers_from piece window place (e ∷ events) =
-    if reads_put piece window e.kind (next_of e.thread.number events)
-    then call_of place e events ∷ readers_from piece window (place + 1) events
-    else readers_from piece window (place + 1) events
+-- The call was answered a value that the piece puts there, before it or after.
+abbrev pub reads_by : Piece → List Call → Kind → Option Kind → Bool
+reads_by piece calls (R q) (Some (V w)) = is_put piece calls q.number w
+reads_by piece calls (N q d) (Some (V w)) = is_put piece calls q.number w
+reads_by piece calls kind next = false
 
--- A piece together with the reads of its values.
+abbrev pub reads_put : Piece → List Call → Call → Bool
+reads_put piece calls call = reads_by piece calls call.kind call.next
+
+-- The calls that read a value of the piece; and the piece together with them.
+abbrev pub readers : Piece → List Call → List Piece
+readers piece calls = map (λ call. call.piece) (filter (reads_put piece calls) calls)
+
 abbrev pub with_readers : Piece → List Event → List Piece
-with_readers piece window = piece ∷ readers_from piece window 0 window
+with_readers piece window = readers piece (calls window) ++ piece ∷ []

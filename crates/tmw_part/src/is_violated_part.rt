@@ -7,7 +7,7 @@ ghost use Rattle.tmw_part.specs.PartTest.{keeps_part};
 use crate::is_violated::is_violated;
 use crate::marks::{are_whole, keeps_last, kept_of, may_miss_all, places_of};
 use crate::part_test::is_part;
-use crate::piece::push_calls;
+use crate::piece::calls;
 use crate::transaction::transactions;
 use crate::whole_window::WholeWindow;
 use std::alloc::{AllocError, Global};
@@ -26,9 +26,7 @@ fn keeps_part(
     if !keeps_last(marks) {
         return Ok(false);
     }
-    let mut calls = Vec::new(alloc);
-    push_calls(events, &mut calls)?;
-    if !are_whole(marks, &calls) {
+    if !are_whole(marks, &calls(alloc, events)?) {
         return Ok(false);
     }
     let part = transactions(alloc, kept)?;

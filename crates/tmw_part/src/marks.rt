@@ -6,7 +6,7 @@ ghost use Rattle.tmw_part.specs.KeptPart.{may_miss};
 ghost use Rattle.tmw_part.specs.PartTest.{is_whole, may_miss_all};
 
 use crate::is_left_of::is_unread;
-use crate::piece::Piece;
+use crate::piece::{Call, Piece};
 use crate::transaction::Transaction;
 use std::alloc::{AllocError, Global};
 use tmw_events::{Event, Kind};
@@ -50,10 +50,12 @@ fn mark_at(marks: &[bool], place: usize) -> bool
 }
 
 /// Tells whether each of these calls is kept with its answer, or neither is.
-pub(crate) fn are_whole(marks: &[bool], calls: &[Piece]) -> bool
+pub(crate) fn are_whole(marks: &[bool], calls: &[Call]) -> bool
     ensures { result ≡ list_all (is_whole marks.now) calls.now }
 {
-    calls.iter().all(|call| mark_at(marks, call.from) == mark_at(marks, call.upto))
+    calls
+        .iter()
+        .all(|call| mark_at(marks, call.piece.from) == mark_at(marks, call.piece.upto))
 }
 
 /// Whether an event of this kind may be missing: it calls no write, answered or not, of a value that the part reads.

@@ -5,7 +5,7 @@ ghost use Rattle.tmw_part.specs.NameInWindow.{lies_in, name_in, names_of, owner,
 use crate::marks::{kept_of, places_of};
 use crate::transaction::{Transaction, transactions};
 use std::alloc::{AllocError, Global};
-use tmw_events::{Event, Ix};
+use tmw_events::Event;
 
 /// What a transaction of what is kept is in the window.
 #[derive(Clone, Copy)]
@@ -17,15 +17,15 @@ pub struct Name {
 }
 
 /// Whether the transaction is the thread's, and the events from the one place up to the other lie in it.
-fn lies_in(transaction: &Transaction, thread: Ix, from: usize, upto: usize) -> bool
-    ensures { result ≡ lies_in thread.number from upto transaction.now }
+fn lies_in(transaction: &Transaction, thread: u8, from: usize, upto: usize) -> bool
+    ensures { result ≡ lies_in thread from upto transaction.now }
 {
-    transaction.thread == thread && transaction.first <= from && upto <= transaction.last
+    transaction.thread.get() == thread && transaction.first <= from && upto <= transaction.last
 }
 
 /// The number of the thread's transaction in which these events lie, if they lie in one.
-fn find_owner(whole: &[Transaction], thread: Ix, from: usize, upto: usize) -> Option<usize>
-    ensures { result ≡ position (lies_in thread.number from upto) whole.now }
+fn find_owner(whole: &[Transaction], thread: u8, from: usize, upto: usize) -> Option<usize>
+    ensures { result ≡ position (lies_in thread from upto) whole.now }
 {
     whole
         .iter()
@@ -33,8 +33,8 @@ fn find_owner(whole: &[Transaction], thread: Ix, from: usize, upto: usize) -> Op
 }
 
 /// The number of the thread's transaction in which these events lie, or how many there are.
-pub(crate) fn owner(whole: &[Transaction], thread: Ix, from: usize, upto: usize) -> usize
-    ensures { result ≡ owner whole.now thread.number from upto }
+pub(crate) fn owner(whole: &[Transaction], thread: u8, from: usize, upto: usize) -> usize
+    ensures { result ≡ owner whole.now thread from upto }
 {
     find_owner(whole, thread, from, upto).unwrap_or(whole.len())
 }
@@ -52,7 +52,7 @@ fn name_in(places: &[usize], window: &[Transaction], transaction: &Transaction) 
 {
     let first = number_at(places, transaction.first);
     let last = number_at(places, transaction.last);
-    let transaction = owner(window, transaction.thread, first, last);
+    let transaction = owner(window, transaction.thread.get(), first, last);
     Name { first, transaction }
 }
 

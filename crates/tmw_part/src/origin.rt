@@ -1,10 +1,10 @@
-ghost use Rattle.std.specs.Prelude.{◌≡◌, ◌⊎◌, ◌+◌, ◌<◌, ◌^◌, IfOk, IfSome, MatchOption, Some, [], ◌∷◌, length};
-ghost use Rattle.tmw_part.specs.Origins.{answered_from, fate_by, is_as_expected, made, or_before, origin_at, origin_of, puts_before};
+ghost use Rattle.std.specs.Prelude.{◌≡◌, ◌==◌, ◌<◌, IfOk, IfSome, MatchOption, None, [], ◌∷◌, filter, length};
+ghost use Rattle.tmw_part.specs.Origins.{answered_at, caller, fate_by, is_as_expected, latest, made, origin_at, origin_of, origins, own_calls, puts_before, stays};
 
 use crate::is_left_of::is_answered;
 use crate::name_in_window::owner;
-use crate::piece::call_of;
-use crate::readers::{next_of, puts};
+use crate::piece::{Call, calls};
+use crate::readers::puts;
 use crate::register_use::{known_after, left_by};
 use crate::step_rules::text_at;
 use crate::transaction::{Transaction, status_of, transactions};
@@ -55,35 +55,44 @@ fn is_as_expected(expected: Option<u64>, known: Option<u64>) -> bool
     expected.is_none() || known == expected
 }
 
-/// The place of the answer by which the reader first reads the value from the register, or first while its own calls make
-/// it the expected one; or the length.
-fn answered_at(
-    window: &[Transaction],
-    register: Ix,
-    value: u64,
-    expected: Option<u64>,
-    reader: usize,
-    events: &[Event],
-) -> usize
-    ensures { result ≡ answered_from window.now register.number value expected reader
-        None 0 events.now }
+/// The place of the answer by which a transaction, which makes these calls, first reads the value from the register; or,
+/// with an expected value, first where its calls before say that the register holds that.
+fn answered_at(register: Ix, value: u64, expected: Option<u64>, calls: &[Call]) -> Option<usize>
+    ensures { result ≡ answered_at register.number value expected None calls.now }
 {
     let mut known = None;
-    let mut place = 0;
-    let mut rest = events;
-    while let [event, more @ ..] = rest {
-        if owner(window, event.thread, place, place) == reader {
-            if let Some(op) = made(event.kind, next_of(event.thread, more)) {
-                if is_as_expected(expected, known) && is_answered(register, value, op) {
-                    return call_of(place, *event, more).upto;
-                }
-                known = known_after(register.get(), known, op);
+    for call in calls {
+        if let Some(op) = made(call.kind, call.next) {
+            if is_as_expected(expected, known) && is_answered(register, value, op) {
+                return Some(call.piece.upto);
             }
+            known = known_after(register.get(), known, op);
         }
-        place += 1;
-        rest = more;
     }
-    place
+    None
+}
+
+/// The transaction that makes the call.
+fn caller(window: &[Transaction], call: &Call) -> usize
+    ensures { result ≡ caller window.now call.now }
+{
+    owner(window, call.piece.thread, call.piece.from, call.piece.from)
+}
+
+/// Returns the calls that the transaction makes.
+fn own_calls(
+    alloc: Global,
+    window: &[Transaction],
+    reader: usize,
+    calls: &[Call],
+) -> Result<Vec<Call>, AllocError>
+    ensures { IfOk result (λ own. own.items ≡ own_calls window.now reader calls.now) }
+{
+    calls
+        .iter()
+        .filter(|call| caller(window, call) == reader)
+        .copied()
+        .collect(alloc)
 }
 
 /// What became of what a transaction of this status put there, which has asked to abort or not, and at last left the value
@@ -100,18 +109,17 @@ fn fate_by(status: Status, asked: bool, last: bool) -> Fate
     }
 }
 
-/// The origin of a value that the event at this place put into the register.
+/// The origin of a value that the call put into the register.
 fn origin_at(
     window: &[Transaction],
     register: Ix,
     value: u64,
     reader: usize,
-    place: usize,
-    event: &Event,
+    call: &Call,
 ) -> Origin
-    ensures { result ≡ origin_at window.now register.number value reader place event.now }
+    ensures { result ≡ origin_at window.now register.number value reader call.now }
 {
-    let writer = owner(window, event.thread, place, place);
+    let writer = caller(window, call);
     let text = text_at(window, writer);
     let last = left_by(register.get(), text) == Some(value);
     let asked = matches!(text.last(), Some(Kind::X));
@@ -121,43 +129,62 @@ fn origin_at(
         fate_by(status_of(text), asked, last)
     };
     Origin {
-        place,
+        place: call.piece.from,
         writer,
         fate,
     }
 }
 
-/// Whether the call at this place, before these events, puts the value into the register before that answer, which is not
-/// its own.
-fn puts_before(
+/// Whether the call puts the value into the register before that answer, which is not its own.
+fn puts_before(register: Ix, value: u64, upto: usize, call: &Call) -> bool
+    ensures { result ≡ puts_before register.number value upto call.now }
+{
+    call.piece.from < upto && call.piece.upto != upto && puts(register, value, call)
+}
+
+/// Returns the origins of the value before that answer, in order.
+fn origins(
+    alloc: Global,
+    window: &[Transaction],
+    calls: &[Call],
     register: Ix,
     value: u64,
+    reader: usize,
     upto: usize,
-    place: usize,
-    event: &Event,
-    events: &[Event],
-) -> bool
-    requires { place + 1 + length events.now < 2 ^ 64 }
-    ensures { result ≡ puts_before register.number value upto place event.now events.now }
+) -> Result<Vec<Origin>, AllocError>
+    ensures { IfOk result (λ found. found.items
+        ≡ origins window.now calls.now register.number value reader upto) }
 {
-    place < upto
-        && call_of(place, *event, events).upto != upto
-        && puts(register, value, event.kind, next_of(event.thread, events))
+    calls
+        .iter()
+        .filter(|call| puts_before(register, value, upto, call))
+        .map(|call| origin_at(window, register, value, reader, call))
+        .collect(alloc)
 }
 
-/// The later of two, unless only the earlier one may count.
-fn or_before(later: Origin, before: Option<Origin>) -> Origin
-    ensures is { Some result ≡ or_before (Some later) before }
-    ensures one { (result ≡ later) ⊎ (before ≡ Some result) }
+/// Returns those of the origins that may count.
+fn counting(alloc: Global, origins: &[Origin]) -> Result<Vec<Origin>, AllocError>
+    ensures { IfOk result (λ found. found.items
+        ≡ filter (λ origin. stays origin.fate) origins.now) }
 {
-    match before {
-        Some(origin) if origin.fate == Fate::Stays && later.fate != Fate::Stays => origin,
-        _ => later,
-    }
+    origins
+        .iter()
+        .filter(|origin| matches!(origin.fate, Fate::Stays))
+        .copied()
+        .collect(alloc)
 }
 
-/// Finds the last event of a window that may count, or else the last, that puts the value into the register before the reader, the transaction at this
-/// place, is first answered it, or first while its own calls make the register the expected value.
+/// Finds the last of the origins that may count, or else the last.
+fn latest(alloc: Global, origins: &[Origin]) -> Result<Option<Origin>, AllocError>
+    ensures { IfOk result (λ found. found ≡ latest origins.now) }
+{
+    let counting = counting(alloc, origins)?;
+    Ok(counting.last().or(origins.last()).copied())
+}
+
+/// Finds the last call of a window that may count, or else the last, that puts the value into the register before the
+/// reader, the transaction of this number, is first answered it; or, with an expected value, first where its own calls say
+/// that the register holds that. Of one that isn't answered it, the whole window is searched.
 pub fn find_origin(
     alloc: Global,
     events: &[Event],
@@ -171,17 +198,9 @@ pub fn find_origin(
     ensures within { IfOk result (λ found. IfSome found (λ origin. origin.place < length events.now)) }
 {
     let window = transactions(alloc, events)?;
-    let mut found = None;
-    let mut place = 0;
-    let mut rest = events;
-    let upto = answered_at(&window, register, value, expected, reader, events);
-    while let [event, more @ ..] = rest {
-        if puts_before(register, value, upto, place, event, more) {
-            let later = origin_at(&window, register, value, reader, place, event);
-            found = Some(or_before(later, found));
-        }
-        place += 1;
-        rest = more;
-    }
-    Ok(found)
+    let calls = calls(alloc, events)?;
+    let own = own_calls(alloc, &window, reader, &calls)?;
+    let upto = answered_at(register, value, expected, &own).unwrap_or(events.len());
+    let origins = origins(alloc, &window, &calls, register, value, reader, upto)?;
+    latest(alloc, &origins)
 }

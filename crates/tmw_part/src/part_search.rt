@@ -109,10 +109,10 @@ fn take_all_out(search: &WholeWindow, marks: &mut Vec<bool>) -> Result<(), Alloc
 
 /// Finds a part of a window that is violated by itself, from any of the states, and of which nothing more can be taken
 /// out, one transaction or one call with its answer at a time, alone or with the reads of its values: for each event,
-/// whether it is kept. The last event is, and each write of a value that the part reads. What a transaction leaves at last
-/// in a register that the part has it change is what it leaves in the window. The first answer unlike its own calls has
-/// the values that it has in the window. In a window of more than `MOST_EVENTS` events, and in one that is not violated,
-/// all are kept. It fails only if an allocation does.
+/// whether it is kept. The last event is, and each write of a value that the part reads. What a transaction needs of a
+/// register or leaves there at last, if the part has it do so, is what it needs or leaves in the window. The first answer
+/// unlike its own calls has the values that it has in the window. Of a window with no state before it, of more than
+/// `MOST_EVENTS` events, or that is not violated, all are kept. It fails only if an allocation does.
 pub fn find_part(
     criterion: Criterion,
     alloc: Global,

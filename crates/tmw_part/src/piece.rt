@@ -1,6 +1,6 @@
-ghost use Rattle.std.specs.Prelude.{◌≡◌, ◌+◌, ◌<◌, ◌==◌, ◌^◌, ◌++◌, IfOk, IfSome, OnOk, length, map, position};
+ghost use Rattle.std.specs.Prelude.{◌≡◌, ◌+◌, ◌<◌, ◌==◌, ◌^◌, IfOk, IfSome, find, length, map, option_map, position};
 ghost use Rattle.tmw_defs.specs.History.{is_call};
-ghost use Rattle.tmw_part.specs.Pieces.{call_of, calls_from, is_of, pieces, whole_of};
+ghost use Rattle.tmw_part.specs.Pieces.{call_of, calls, is_of, is_within, pieces, whole_of};
 
 use crate::transaction::{Transaction, transactions};
 use std::alloc::{AllocError, Global};
@@ -14,12 +14,27 @@ pub struct Piece {
     pub upto: usize,
 }
 
+/// A call of a window, with the next event of its thread: its answer, if it has one and the events are well-formed.
+#[derive(Clone, Copy)]
+pub struct Call {
+    pub piece: Piece,
+    pub kind: Kind,
+    pub next: Option<Kind>,
+}
+
 impl Piece {
     /// Tells whether the event at this place is one of the piece.
     pub fn has(&self, place: usize, event: Event) -> bool
         ensures { result ≡ is_of self.now place event }
     {
         event.thread.get() == self.thread && self.from <= place && place <= self.upto
+    }
+
+    /// Tells whether the call is one of the piece.
+    pub(crate) fn has_call(&self, call: &Piece) -> bool
+        ensures { result ≡ is_within self.now call.now }
+    {
+        call.thread == self.thread && self.from <= call.from && call.from <= self.upto
     }
 }
 
@@ -42,8 +57,19 @@ fn first_of(thread: Ix, events: &[Event]) -> Option<usize>
     events.iter().position(|event| event.thread == thread)
 }
 
+/// The thread's first event among these.
+fn next_of(thread: Ix, events: &[Event]) -> Option<Kind>
+    ensures { result ≡ option_map (λ event. event.kind)
+        (find (λ event. event.thread.number == thread.number) events.now) }
+{
+    events
+        .iter()
+        .find(|event| event.thread == thread)
+        .map(|event| event.kind)
+}
+
 /// The call at this place, before these events, with its answer if it has one.
-pub(crate) fn call_of(place: usize, call: Event, events: &[Event]) -> Piece
+fn call_of(place: usize, call: Event, events: &[Event]) -> Call
     requires { place + 1 + length events.now < 2 ^ 64 }
     ensures { result ≡ call_of place call events.now }
 {
@@ -51,27 +77,32 @@ pub(crate) fn call_of(place: usize, call: Event, events: &[Event]) -> Piece
         Some(number) => place + 1 + number,
         None => place,
     };
-    Piece {
-        thread: call.thread.get(),
-        from: place,
-        upto,
+    Call {
+        piece: Piece {
+            thread: call.thread.get(),
+            from: place,
+            upto,
+        },
+        kind: call.kind,
+        next: next_of(call.thread, events),
     }
 }
 
-/// Adds the calls among these events, each with its answer if it has one.
-pub fn push_calls(events: &[Event], pieces: &mut Vec<Piece>) -> Result<(), AllocError>
-    ensures { OnOk result (pieces.new.items ≡ pieces.old.items ++ calls_from 0 events.now) }
+/// Returns the calls of a window, each with its answer if it has one.
+pub fn calls(alloc: Global, events: &[Event]) -> Result<Vec<Call>, AllocError>
+    ensures { IfOk result (λ all. all.items ≡ calls events.now) }
 {
+    let mut calls = Vec::new(alloc);
     let mut rest = events;
     let mut place = 0;
     while let [event, more @ ..] = rest {
         if is_call(event.kind) {
-            pieces.push(call_of(place, *event, more))?;
+            calls.push(call_of(place, *event, more))?;
         }
         place += 1;
         rest = more;
     }
-    Ok(())
+    Ok(calls)
 }
 
 /// Each of these transactions as a piece.
@@ -88,11 +119,18 @@ fn wholes(alloc: Global, transactions: &[Transaction]) -> Result<Vec<Piece>, All
         .collect(alloc)
 }
 
+/// Each of these calls as a piece.
+fn call_pieces(alloc: Global, calls: &[Call]) -> Result<Vec<Piece>, AllocError>
+    ensures { IfOk result (λ all. all.items ≡ map (λ call. call.piece) calls.now) }
+{
+    calls.iter().map(|call| call.piece).collect(alloc)
+}
+
 /// Returns the pieces of a window: its transactions, and then their calls, each with its answer if it has one.
 pub fn pieces(alloc: Global, events: &[Event]) -> Result<Vec<Piece>, AllocError>
     ensures { IfOk result (λ all. all.items ≡ pieces events.now) }
 {
     let mut pieces = wholes(alloc, &transactions(alloc, events)?)?;
-    push_calls(events, &mut pieces)?;
+    pieces.extend_from_slice(&call_pieces(alloc, &calls(alloc, events)?)?)?;
     Ok(pieces)
 }

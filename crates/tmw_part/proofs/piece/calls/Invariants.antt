@@ -1,9 +1,9 @@
 use Rattle.tmw_part.proofs.Shared.{calls_from, length, ◌++◌, ◌+◌, ◌≡◌}
-use Rattle.tmw_part.proofs.piece.push_calls.Given as goal
+use Rattle.tmw_part.proofs.piece.calls.Given as goal
 
 abbrev pub invariant-loop-rest : goal.invariant-loop-rest
 invariant-loop-rest l = record {
-  same : l.pieces.items ++ calls_from l.place l.rest ≡ l.initial.pieces.items ++ calls_from 0 l.events;
+  same : l.calls.items ++ calls_from l.place l.rest ≡ calls_from 0 l.events;
   count : l.place + length l.rest ≡ length l.events;
 }
 
