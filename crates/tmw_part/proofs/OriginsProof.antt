@@ -1,5 +1,5 @@
 -- The origin of a value has a place in the window.
-use Rattle.tmw_part.proofs.Shared.{All, All-from_recursion, AllByRecursion, Bool, Call, Err, Event, IfOk, IfSome, List, None, Ok, Option, Origin, Result, Some, [], answered_at, arith, calls, calls_from, cases_Bool, filter, inl, inr, is_call, latest, length, map, slice_get, suc, transactions, zero, ℕ, ◌+◌, ◌-◌, ◌<◌, ◌∷◌, ◌≡◌, ◌≤◌}
+use Rattle.tmw_part.proofs.Shared.{All, All-from_recursion, AllByRecursion, Call, Err, Event, IfOk, IfSome, List, None, Ok, Option, Origin, Result, Some, [], answered_at, arith, calls, calls_from, cases_Bool, filter, inl, inr, is_call, latest, length, slice_get, suc, transactions, zero, ℕ, ◌+◌, ◌-◌, ◌<◌, ◌∷◌, ◌≡◌, ◌≤◌}
 use Rattle.std.proofs.lemmas.List.Elements.{All-filter, All-map, recursion_from_All}
 use Rattle.std.specs.Option.{option_or}
 use Rattle.std.specs.Prelude.{unwrap_or}
@@ -35,6 +35,7 @@ origin-within events r v expected reader =
   where
     P : Origin → Type 0
     P o = o.place < length events
+
     within : (ts : List Txn) (upto : ℕ) → IfSome (latest (origins ts (calls events) r v reader upto)) P
     within ts upto =
         let C : Call → Type 0 = λ call. call.piece.from < length events in

@@ -1,31 +1,9 @@
 -- The test of a part tells what is kept as a part, and that is one.
-use Rattle.tmw_part.proofs.Shared.{Add, All, All-from_recursion, AllByRecursion, AreOpsLeft, AreStaying, Bool, Call, Each, Event, IsLeftOf, IsPart, IsTrue, List, None, Op, Option, Read, Some, Status, Txn, Write, [], and_from, and_parts, ap, arith, calls, cases_Bool, eq-eqb, eqb-true, inl, first_unlike, inr, is_unread, keeps_last, left_by, length, list_all, map, may_go, needed_of, operations, owner_in, places_of, precedes, range_with_len, refl, remove, slice_get, status_of, suc, sym, transactions, true, zero, ℕ, ◌+◌, ◌<◌, ◌==◌, ◌∙◌, ◌∷◌, ◌≡◌}
-use Rattle.std.specs.Prelude.{zip}
-use Rattle.std.proofs.lemmas.List.Elements.{recursion_from_All}
-use Rattle.tmw_defs.specs.Part.{precedence}
+use Rattle.tmw_part.proofs.Shared.{Add, AreOpsLeft, AreStaying, Bool, Each, Event, IsLeftOf, IsPart, IsTrue, List, Op, Read, Some, Status, Txn, Write, [], and_from, and_parts, ap, arith, calls, cases_Bool, eq-eqb, eqb-true, inl, inr, is_unread, keeps_last, length, list_all, map, may_go, operations, owner_in, places_of, precedes, refl, remove, slice_get, status_of, suc, sym, transactions, true, ℕ, ◌+◌, ◌<◌, ◌==◌, ◌∙◌, ◌∷◌, ◌≡◌}
 use Rattle.tmw_events.proofs.Same.{same_ix}
-use Rattle.tmw_part.specs.KeptPart.{AgreesOn, IsAlike, IsKept, IsNoneOr, IsWhole, are_placed, is_among, may_miss, owners, part_of, staying, without_number}
+use Rattle.tmw_part.specs.KeptPart.{IsAlike, IsKept, agree, are_placed, is_among, is_same, is_whole, may_miss_all, owners, part_of, staying, without_number}
 use Rattle.tmw_part.specs.NameInWindow.{txn_at}
-use Rattle.tmw_part.proofs.ListFacts.{each_place}
-use Rattle.tmw_part.specs.PartTest.{agree, agrees, are_ops_left, is_left_of, is_order_kept, is_part_at, is_row_kept, is_same, is_same_op, is_same_or_none, is_same_pair_or_none, is_same_status, is_stay, is_whole, keeps_part, may_miss_all}
-
--- what a test tells of each, each is
-all-test : {A : Type 0} (test : A → Bool) (P : A → Type 0) → ((x : A) → IsTrue (test x) → P x) → (xs : List A) → IsTrue (list_all test xs)
-    → AllByRecursion P xs
-all-test test P is [] all = tt
-all-test test P is (x ∷ xs) all = let (here, more) = and_parts (test x) _ all in (is x here, all-test test P is xs more)
-
-test-all : {A : Type 0} (test : A → Bool) (P : A → Type 0) → ((x : A) → P x → IsTrue (test x)) → (xs : List A) → AllByRecursion P xs
-    → IsTrue (list_all test xs)
-test-all test P is [] all = refl
-test-all test P is (x ∷ xs) all = and_from _ _ (is x all.0) (test-all test P is xs all.1)
-
-place-each : (test : ℕ → Bool) (from n : ℕ) → ((a : ℕ) → a < n → IsTrue (test (from + a))) → IsTrue (list_all test (range_with_len from n))
-place-each test from zero each = refl
-place-each test from (suc n) each =
-    let first : from + 0 ≡ from = omega arith in
-    and_from _ _ (rw first at (each 0 (omega arith))) (place-each test (from + 1) n (λ a low.
-        let same : from + suc a ≡ from + 1 + a = omega arith in rw same at (each (suc a) (omega (arith, low)))))
+use Rattle.tmw_part.specs.PartTest.{are_ops_left, is_left_of, is_same_op, is_same_status, is_stay, keeps_part}
 
 same_op : (x y : Op) → is_same_op x y ≡ true → x ≡ y
 same_op (Read q w) (Read r v) same =
@@ -98,43 +76,6 @@ same_status = grind arith
 status_same : (a b : Status) → a ≡ b → is_same_status a b ≡ true
 status_same = grind arith
 
-none-or : (x y : Option ℕ) → IsTrue (is_same_or_none x y) → IsNoneOr x y
-none-or None y is = inl refl
-none-or (Some v) None is = absurd (cc)
-none-or (Some v) (Some w) is = inr (ap (λ x. Some x) (eqb-true v w is))
-
-or-none : (x y : Option ℕ) → IsNoneOr x y → IsTrue (is_same_or_none x y)
-or-none None y is = refl
-or-none (Some v) y (inl none) = absurd (cc)
-or-none (Some v) y (inr same) = rw (← same) (eq-eqb v v refl)
-
-pair-none-or : (x y : Option (ℕ × ℕ)) → IsTrue (is_same_pair_or_none x y) → IsNoneOr x y
-pair-none-or None y is = inl refl
-pair-none-or (Some p) None is = absurd (cc)
-pair-none-or (Some (a, b)) (Some (c, d)) is =
-    let (one, two) = and_parts (a == c) _ is in inr (rw (eqb-true a c one, eqb-true b d two) refl)
-
-pair-or-none : (x y : Option (ℕ × ℕ)) → IsNoneOr x y → IsTrue (is_same_pair_or_none x y)
-pair-or-none None y is = refl
-pair-or-none (Some p) y (inl none) = absurd (cc)
-pair-or-none (Some (a, b)) y (inr same) = rw (← same) (and_from _ _ (eq-eqb a a refl) (eq-eqb b b refl))
-
-agrees-test : (left whole : List Op) (r : ℕ) → IsTrue (agrees left whole r) → AgreesOn left whole r
-agrees-test left whole r all =
-    let (needs, more) = and_parts (is_same_or_none (needed_of r left) (needed_of r whole)) _ all in
-    let (leaves, unlike) = and_parts (is_same_or_none (left_by r None left) (left_by r None whole)) _ more in
-    record {
-      needs = none-or (needed_of r left) (needed_of r whole) needs;
-      leaves = none-or (left_by r None left) (left_by r None whole) leaves;
-      unlike = pair-none-or (first_unlike r None left) (first_unlike r None whole) unlike;
-    }
-
-test-agrees : (left whole : List Op) (r : ℕ) → AgreesOn left whole r → IsTrue (agrees left whole r)
-test-agrees left whole r a =
-    and_from _ _ (or-none (needed_of r left) (needed_of r whole) a.needs)
-    (and_from _ _ (or-none (left_by r None left) (left_by r None whole) a.leaves)
-    (pair-or-none (first_unlike r None left) (first_unlike r None whole) a.unlike))
-
 alike-test : (unread : ℕ → ℕ → Bool) (whole left : Txn) → IsTrue (is_left_of unread left.text whole.text) → IsAlike unread whole left
 alike-test unread whole left all =
     let (status, more) = and_parts (is_same_status (status_of left.text) (status_of whole.text)) _ all in
@@ -144,19 +85,13 @@ alike-test unread whole left all =
         status = same_status (status_of left.text) (status_of whole.text) status;
         ops = ops_left-test unread (operations left.text) (operations whole.text) ops;
       };
-      agrees = λ r low. agrees-test (operations left.text) (operations whole.text) r
-          (let same : 0 + r ≡ r = omega arith in
-          rw same at (each_place (agrees (operations left.text) (operations whole.text)) 0 8 r alike low));
+      agrees = alike;
     }
 
 test-alike : (unread : ℕ → ℕ → Bool) (whole left : Txn) → IsAlike unread whole left → IsTrue (is_left_of unread left.text whole.text)
 test-alike unread whole left a =
     and_from _ _ (status_same (status_of left.text) (status_of whole.text) a.left.status)
-    (and_from _ _
-      (place-each (agrees (operations left.text) (operations whole.text)) 0 8
-        (λ r low. let same : 0 + r ≡ r = omega arith in
-          rw same (test-agrees (operations left.text) (operations whole.text) r (a.agrees r low))))
-      (test-ops_left unread (operations left.text) (operations whole.text) a.left.ops))
+    (and_from _ _ a.agrees (test-ops_left unread (operations left.text) (operations whole.text) a.left.ops))
 
 same-test : (a b : Bool) → IsTrue (is_same a b) → a ≡ b
 same-test = grind arith
@@ -201,28 +136,24 @@ module _ (place : Txn → ℕ) (whole part : List Txn) where
   test-stays (t ∷ ts) (alike, each) rows =
       let row : map (λ u. precedes u t) part ≡ map (λ u. precedes u (txn_at whole (place t))) (map (txn_at whole) (map place part)) = cc in
       let others : map (λ v. map (λ u. precedes u v) part) ts
-          ≡ map (λ v. map (λ u. precedes u v) (map (txn_at whole) (map place part))) (map (txn_at whole) (map place ts)) = cc in
+      ≡ map (λ v. map (λ u. precedes u v) (map (txn_at whole) (map place part))) (map (txn_at whole) (map place ts)) = cc in
       and_from _ _
       (and_from _ _ (test-alike (is_unread part) (txn_at whole (place t)) t alike) (test-row (txn_at whole) place t part row))
       (test-stays ts each others)
-
-whole-test : (marks : List Bool) (call : Call) → IsTrue (is_whole marks call) → IsWhole marks call
-whole-test marks call is = same-test _ _ is
 
 pub kept-test : (marks : List Bool) (window : List Event) → IsTrue (keeps_part marks window) → IsKept marks window
 kept-test marks window all =
     let part = part_of marks window in
     let place = owner_in (places_of marks) (transactions window) in
     let (last, more) = and_parts (keeps_last marks) _ all in
-    let (calls, rest) = and_parts (list_all (is_whole marks) (calls window)) _ more in
+    let (whole, rest) = and_parts (list_all (is_whole marks) (calls window)) _ more in
     let (writes, is) = and_parts (may_miss_all part marks window) _ rest in
     let (stay, stays) = and_parts (are_placed (is_unread part) 0 (owners marks window) (transactions window)) _ is in
     let (left, order) = stays-test place (transactions window) part part stays in
     record {
       last = last;
-      calls = All-from_recursion (IsWhole marks) (calls window)
-          (all-test (is_whole marks) (IsWhole marks) (whole-test marks) (calls window) calls);
-      writes = All-from_recursion _ (zip marks window) (all-test _ _ (λ pair is. is) (zip marks window) writes);
+      calls = whole;
+      writes = writes;
       stay = stay;
       left = left;
       order = order;
@@ -232,11 +163,8 @@ pub test-kept : (marks : List Bool) (window : List Event) → IsKept marks windo
 test-kept marks window k =
     let part = part_of marks window in
     let place = owner_in (places_of marks) (transactions window) in
-    and_from _ _ k.last (and_from _ _
-      (test-all (is_whole marks) (IsWhole marks) (λ call is. test-same _ _ is) (calls window)
-        (recursion_from_All (IsWhole marks) (calls window) k.calls))
-      (and_from _ _ (test-all _ _ (λ pair is. is) (zip marks window) (recursion_from_All _ (zip marks window) k.writes))
-        (and_from _ _ k.stay (test-stays place (transactions window) part part k.left k.order))))
+    and_from _ _ k.last (and_from _ _ k.calls (and_from _ _ k.writes
+    (and_from _ _ k.stay (test-stays place (transactions window) part part k.left k.order))))
 
 -- where the number is among the places, the transaction of that number is among those that stay
 found : (f : ℕ → Txn) (n : ℕ) (places : List ℕ) → IsTrue (is_among n places)

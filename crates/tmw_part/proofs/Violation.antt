@@ -1,8 +1,12 @@
 -- What a search for an end state tells of events that were taken into its window.
-use Rattle.tmw_part.proofs.Shared.{AreTaken, Bool, Criterion, Err, Event, Fails, IfOk, IsFalse, IsTrue, IsViolated, IsViolatedPart, List, Ok, Result, State, TellsViolated, all_kept, arith, end_state, false, inl, inr, kept_of, length, members, not, refl, sym, transactions, true, ℕ, ◌∙◌, ◌≡◌, ◌≤◌}
+use Rattle.tmw_part.proofs.Shared.{AreTaken, Bool, Criterion, Err, Event, Fails, IfNone, IfOk, IsFalse, IsNeededIn, IsTrue, IsViolated, IsViolatedPart, List, None, Ok, Option, Piece, Result, Some, State, TellsViolated, all_kept, arith, [], end_state, false, inl, inr, kept_of, length, members, not, refl, sym, transactions, true, ℕ, ◌∙◌, ◌∷◌, ◌≡◌, ◌≤◌}
 use Rattle.tmw_cuts.specs.declared.states.States.{States}
 use Rattle.tmw_cuts.specs.declared.window.Window.{Window}
 use Rattle.tmw_search.specs.EndStates.{TellsEnd}
+use Rattle.std.specs.Prelude.{is_some}
+use Rattle.tmw_part.specs.declared.whole_window.WholeWindow.{WholeWindow}
+use Rattle.tmw_part.specs.FindPart.{AreNeededIn}
+use Rattle.tmw_part.specs.Pieces.{with_readers}
 use Rattle.tmw_part.proofs.Fewer.{kept-all, length-all}
 use Rattle.tmw_part.proofs.Parts.{part-fewer, part-whole}
 use Rattle.tmw_part.specs.PartTest.{keeps_part}
@@ -57,6 +61,16 @@ told-fails criterion registers states window marks (Err error) few keeps told = 
 pub not-kept : (criterion : Criterion) (registers : ℕ) (states : List State) (window : List Event) (marks : List Bool)
     → keeps_part marks window ≡ false → Fails criterion registers states window marks
 not-kept criterion registers states window marks fails = inl (λ kept. let passes = sym (test-kept marks window kept) ∙ fails in absurd (cc))
+
+-- a piece that can't be taken out alone, nor with the reads of its values, is needed
+pub both-needed : {A E : Type 0} (s : WholeWindow) (marks : List Bool) (piece : Piece) (answer : Result (Option A) E) (alone : Option A)
+    → is_some alone ≡ false → IfNone alone (AreNeededIn s marks (piece ∷ []))
+    → IfOk answer (λ found. IfNone found (AreNeededIn s marks (with_readers piece s.events.now)))
+    → IfOk answer (λ found. IfNone found (IsNeededIn s marks piece))
+both-needed s marks piece (Ok None) None none one more = (one, more)
+both-needed s marks piece (Ok None) (Some left) none one more = absurd (cc)
+both-needed s marks piece (Ok (Some left)) alone none one more = tt
+both-needed s marks piece (Err error) alone none one more = tt
 
 pub violated-whole : (criterion : Criterion) (registers : ℕ) (states : List State) (window : List Event)
     → IsViolated criterion registers states window → IsViolatedPart criterion registers states window (all_kept window)

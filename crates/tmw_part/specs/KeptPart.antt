@@ -1,6 +1,6 @@
 -- What is kept of a window, a mark for each event, as a part of the window's transactions that agrees with them.
-use Rattle.std.specs.Prelude.{◌≡◌, ◌==◌, ◌&&◌, ◌||◌, ◌⊎◌, ◌+◌, ◌<◌, ℕ, Bool, true, false, List, [], ◌∷◌, map, slice_index_or, zip, Option, None, All, IsTrue, if◌then◌else◌}
-use Rattle.std.specs.List.{list_any}
+use Rattle.std.specs.Prelude.{◌≡◌, ◌==◌, ◌&&◌, ◌||◌, ◌+◌, ℕ, Bool, true, false, not, List, [], ◌∷◌, map, slice_index_or, zip, Option, Some, None, IsTrue, if◌then◌else◌}
+use Rattle.std.specs.List.{list_all, list_any, range_with_len}
 use Rattle.tmw_events.specs.declared.event.Event.{Event}
 use Rattle.tmw_events.specs.declared.event.Kind.{Kind}
 use Rattle.tmw_events.specs.declared.event.Kind.TheVariants.{W}
@@ -30,22 +30,33 @@ are_placed unread n places (t ∷ ts) =
     if is_among n places then are_placed unread (n + 1) (without_number n places) ts
     else may_go_whole unread t && are_placed unread (n + 1) places ts
 
--- The part has nothing, or what the whole has.
-abbrev pub IsNoneOr : {A : Type 0} → Option A → Option A → Type 0
-IsNoneOr left whole = (left ≡ None) ⊎ (left ≡ whole)
+-- What is left has none, or what the whole has.
+abbrev pub is_same_or_none : Option ℕ → Option ℕ → Bool
+is_same_or_none None whole = true
+is_same_or_none (Some v) None = false
+is_same_or_none (Some v) (Some w) = v == w
+
+abbrev pub is_same_pair_or_none : Option (ℕ × ℕ) → Option (ℕ × ℕ) → Bool
+is_same_pair_or_none None whole = true
+is_same_pair_or_none (Some p) None = false
+is_same_pair_or_none (Some p) (Some q) = (p.0 == q.0) && (p.1 == q.1)
 
 -- In the register, the operations that are left need nothing before them or what the whole needs, and leave nothing or what the whole
 -- leaves there; and they were given no answer of it unlike the operations before it, or the first has the values of the first such
 -- answer of the whole. (Calls without an answer don't count.)
-pub record AgreesOn (left whole : List Op) (r : ℕ) : Type 0 where
-  pub needs : IsNoneOr (needed_of r left) (needed_of r whole)
-  pub leaves : IsNoneOr (left_by r None left) (left_by r None whole)
-  pub unlike : IsNoneOr (first_unlike r None left) (first_unlike r None whole)
+abbrev pub agrees : List Op → List Op → ℕ → Bool
+agrees left whole r =
+    is_same_or_none (needed_of r left) (needed_of r whole)
+    && (is_same_or_none (left_by r None left) (left_by r None whole)
+    && is_same_pair_or_none (first_unlike r None left) (first_unlike r None whole))
+
+abbrev pub agree : List Op → List Op → Bool
+agree left whole = list_all (agrees left whole) (range_with_len 0 8)
 
 -- The one transaction is what is left of the other, and agrees with it on each register.
 pub record IsAlike (unread : ℕ → ℕ → Bool) (whole kept : Txn) : Type 0 where
   pub left : IsLeftOf unread whole kept
-  pub agrees : (r : ℕ) → r < 8 → AgreesOn (operations kept.text) (operations whole.text) r
+  pub agrees : IsTrue (agree (operations kept.text) (operations whole.text))
 
 -- The transactions of what is kept; for each the number of that one of the window in which its own events lie, or how many there are; and
 -- that one, or one without events.
@@ -58,21 +69,29 @@ owners marks window = map (owner_in (places_of marks) (transactions window)) (pa
 abbrev pub staying : List Bool → List Event → List Txn
 staying marks window = map (txn_at (transactions window)) (owners marks window)
 
+abbrev pub is_same : Bool → Bool → Bool
+is_same true b = b
+is_same false b = not b
+
 -- The call is kept with its answer, or neither is.
-abbrev pub IsWhole : List Bool → Call → Type 0
-IsWhole marks call = slice_index_or marks call.piece.from true ≡ slice_index_or marks call.piece.upto true
+abbrev pub is_whole : List Bool → Call → Bool
+is_whole marks call = is_same (slice_index_or marks call.piece.from true) (slice_index_or marks call.piece.upto true)
 
 -- An event of this kind may be missing: it calls no write, answered or not, of a value that the part reads.
 abbrev pub may_miss : List Txn → Kind → Bool
 may_miss part (W r v) = is_unread part r.number v
 may_miss part _ = true
 
+-- So may each that is not kept.
+abbrev pub may_miss_all : List Txn → List Bool → List Event → Bool
+may_miss_all part marks window = list_all (λ pair. pair.0 || may_miss part pair.1.kind) (zip marks window)
+
 -- What is kept has the last event, whole calls and each write whose value it reads. It is a part of the window, each transaction of it
 -- what is left of the one in which its own events lie, and agrees with that.
 pub record IsKept (marks : List Bool) (window : List Event) : Type 0 where
   pub last : IsTrue (keeps_last marks)
-  pub calls : All (IsWhole marks) (calls window)
-  pub writes : All (λ pair. IsTrue (pair.0 || may_miss (part_of marks window) pair.1.kind)) (zip marks window)
+  pub calls : IsTrue (list_all (is_whole marks) (calls window))
+  pub writes : IsTrue (may_miss_all (part_of marks window) marks window)
   pub stay : IsTrue (are_placed (is_unread (part_of marks window)) 0 (owners marks window) (transactions window))
   pub left : Each (IsAlike (is_unread (part_of marks window))) (staying marks window) (part_of marks window)
   pub order : precedence (part_of marks window) ≡ precedence (staying marks window)

@@ -2,7 +2,8 @@ ghost use Rattle.std.specs.Prelude.{◌≡◌, not};
 ghost use Rattle.std.specs.List.{list_all};
 ghost use Rattle.tmw_defs.specs.History.{operations};
 ghost use Rattle.tmw_defs.specs.Part.{is_answered, is_unread, may_go};
-ghost use Rattle.tmw_part.specs.PartTest.{agree, agrees, are_ops_left, is_left_of, is_same_op};
+ghost use Rattle.tmw_part.specs.KeptPart.{agree, agrees};
+ghost use Rattle.tmw_part.specs.PartTest.{are_ops_left, is_left_of, is_same_op};
 
 use crate::register_use::{find_unlike, left_by, needed_of};
 use crate::transaction::{TextOperations, Transaction, status_of};

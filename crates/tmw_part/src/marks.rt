@@ -2,8 +2,7 @@
 ghost use Rattle.std.specs.Prelude.{◌≡◌, IfOk, slice_index_or, true};
 ghost use Rattle.std.specs.List.{list_all};
 ghost use Rattle.tmw_part.specs.Marks.{is_of_any, keeps_last, kept_of, places_of, without};
-ghost use Rattle.tmw_part.specs.KeptPart.{may_miss};
-ghost use Rattle.tmw_part.specs.PartTest.{is_whole, may_miss_all};
+ghost use Rattle.tmw_part.specs.KeptPart.{is_whole, may_miss, may_miss_all};
 
 use crate::is_left_of::is_unread;
 use crate::piece::{Call, Piece};
@@ -53,9 +52,7 @@ fn mark_at(marks: &[bool], place: usize) -> bool
 pub(crate) fn are_whole(marks: &[bool], calls: &[Call]) -> bool
     ensures { result ≡ list_all (is_whole marks.now) calls.now }
 {
-    calls
-        .iter()
-        .all(|call| mark_at(marks, call.piece.from) == mark_at(marks, call.piece.upto))
+    calls.iter().all(|call| mark_at(marks, call.piece.from) == mark_at(marks, call.piece.upto))
 }
 
 /// Whether an event of this kind may be missing: it calls no write, answered or not, of a value that the part reads.

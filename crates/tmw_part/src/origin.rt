@@ -110,13 +110,7 @@ fn fate_by(status: Status, asked: bool, last: bool) -> Fate
 }
 
 /// The origin of a value that the call put into the register.
-fn origin_at(
-    window: &[Transaction],
-    register: Ix,
-    value: u64,
-    reader: usize,
-    call: &Call,
-) -> Origin
+fn origin_at(window: &[Transaction], register: Ix, value: u64, reader: usize, call: &Call) -> Origin
     ensures { result ≡ origin_at window.now register.number value reader call.now }
 {
     let writer = caller(window, call);

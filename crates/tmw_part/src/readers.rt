@@ -22,9 +22,7 @@ pub(crate) fn puts(register: Ix, value: u64, call: &Call) -> bool
 fn is_put(piece: &Piece, calls: &[Call], register: Ix, value: u64) -> bool
     ensures { result ≡ is_put piece.now calls.now register.number value }
 {
-    calls
-        .iter()
-        .any(|call| piece.has_call(&call.piece) && puts(register, value, call))
+    calls.iter().any(|call| piece.has_call(&call.piece) && puts(register, value, call))
 }
 
 /// Whether the call was answered a value that the piece puts there.

@@ -1,4 +1,5 @@
-use Rattle.tmw_part.proofs.Shared.{inl, sym, ◌∙◌}
+use Rattle.tmw_part.proofs.Shared.{Bool, List, inl, inr, subst, sym, ◌∙◌}
+use Rattle.tmw_part.specs.FindPart.{FailsIn}
 use Rattle.tmw_part.proofs.Fewer.{length-without, fewer-kept, same-marks}
 use Rattle.tmw_part.proofs.part_search.try_without.Goals as goal
 
@@ -11,6 +12,11 @@ pub is_violated_part-requires-clause-each : goal.is_violated_part-requires-claus
 is_violated_part-requires-clause-each c =
     rw (c.deref.ensures.value, c.in_ok-left.ensures)
     (length-without c.args.pieces.now c.args.marks.now c.args.search.now.events.now c.requires.each)
+
+pub returns-then-not-branch-clause-needed : goal.returns-then-not-branch-clause-needed
+returns-then-not-branch-clause-needed c =
+    inr (subst (λ (marks : List Bool). FailsIn c.args.search.now marks) (c.deref.ensures.value ∙ c.in_ok-left.ensures)
+    (c.in_ok-is_violated_part.ensures.fails c.if-not-branch.true))
 
 pub returns-clause-fewer : goal.returns-clause-fewer
 returns-clause-fewer c =
