@@ -52,24 +52,23 @@ static bool is_violated_by_load(struct bench *b, struct second_runs *it)
 
 static tmwatch_plan next_plan(const struct session *session, uint64_t leg, uint64_t *draws);
 
-/* Makes a second run in this process, whose session is as before the run: whether the record that would be is violated. */
+/* Makes a second run in this process, whose session is as before the run: whether the record that would be is violated. (One that is stuck
+   leaves its watch open, so that none is judged.) */
 static bool make_second_run(struct session *session)
 {
+    static struct bench bench;
     struct second_runs *it = session->second_runs;
-    struct bench *b = calloc(1, sizeof *b);
     uint64_t draws = 0;
     tmwatch_benched out;
-    if (!b)
-        return false;
     tmwatch_plan plan = next_plan(session, 0, &draws);
     plan.rounds = it->delays.made->round - 1;
     plan.seconds = SECOND_RUNS_SECONDS;
     plan.patience = 1;
     plan.progress = NULL;
     it->delays.answered = it->delays.stored = 0;
-    b->delays = &it->delays;
-    bool is_whole = run_leg(b, session, &plan, &out) == TMWATCH_DONE && !session->is_stuck && !out.unseen && !out.race[0];
-    return is_whole && it->delays.answered > 0 && it->delays.answered < it->delays.stored && is_violated_by_load(b, it);
+    bench.delays = &it->delays;
+    bool is_whole = run_leg(&bench, session, &plan, &out) == TMWATCH_DONE && !out.unseen && !out.race[0];
+    return is_whole && it->delays.answered > 0 && it->delays.answered < it->delays.stored && is_violated_by_load(&bench, it);
 }
 
 /* Waits until the run is over, and makes second runs until the record of one would be violated. */

@@ -4,7 +4,7 @@
 #
 #   tests/long/planted.sh [GROUP]..
 #
-# The GROUPs are bench, steps, model, rust, ci, import and recorder, or all. A row fails if more than one mistake in ten survives in a group; survivors
+# The GROUPs are bench, steps, model, rust, ci, import and recorder, or all. A row fails if more than one mistake in ten survives in a file; survivors
 # and tables stand before it. The last line is 'N passed, M failed', and the exit status is 1 if a row failed.
 # Environment: BUILT (tests/common.sh), NUMBER (20, mistakes of each file), SEED (1), JOBS (2), THEN (a command for mistakes in the bench in
 # C that are not noticed else, as tests/c_steps.sh).
