@@ -3,8 +3,8 @@
 
    A memory can't be put back to its beginning. So a process is split off before the run, and waits; each second run is a child of it. */
 
-/* All second runs take so many seconds at most. */
-enum { MOST_TRACE = 1 << 19, SECOND_RUNS_SECONDS = 10 };
+/* A second run takes so many seconds of the processors at most. */
+enum { MOST_TRACE = 1 << 19, MOST_SECONDS = 5 };
 
 /* What these processes share. */
 struct second_runs {
@@ -62,7 +62,7 @@ static bool make_second_run(struct session *session)
     tmwatch_benched out;
     tmwatch_plan plan = next_plan(session, 0, &draws);
     plan.rounds = it->delays.made->round - 1;
-    plan.seconds = SECOND_RUNS_SECONDS;
+    plan.seconds = 0;
     plan.patience = 1;
     plan.progress = NULL;
     it->delays.answered = it->delays.stored = 0;
@@ -80,7 +80,7 @@ static void make_second_runs(struct session *session)
     dup2(none, STDOUT_FILENO);
     dup2(none, STDERR_FILENO);
     await(&it->goes);
-    session->began = microseconds_of(CLOCK_MONOTONIC);
+    setrlimit(RLIMIT_CPU, &(struct rlimit){MOST_SECONDS, MOST_SECONDS});
     for (unsigned i = 0; i < it->delays.count && !it->is_violated && !is_interrupted; i++) {
         it->delays.made = &it->delays.found[i];
         pid_t child = fork();

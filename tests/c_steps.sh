@@ -39,6 +39,8 @@ again() {
 }
 
 ends 'a replay compiles' 0 "$cc" "${strict[@]}" -o "$folder/replay" "$top/tests/c/bench_replay.c" "${bench[@]}"
+ends 'parts of the bench compile' 0 "$cc" "${strict[@]}" -o "$folder/parts" "$top/tests/c/bench_parts.c" "${bench[@]:1}"
+ends 'parts of the bench' 0 "$folder/parts"
 paused norec examples/c/norec.c NONE
 paused norec_READS examples/c/norec.c READS
 paused tl2 tests/c/bench_tl2.c NONE
@@ -124,6 +126,9 @@ ends 'crashes and permits' 4 "$folder/outside_CRASHES" --crashes --schedule perm
 # A leg by steps that takes long ends, and then one in rounds comes.
 ends 'slow rounds' 0 "$folder/outside_CRAWLS" --seconds 7 --legs
 has_told 'slow rounds: a leg by steps, and one in rounds' -Pz 'leg 1: --schedule steps.*\nleg 21: --schedule rounds'
+
+ends 'quick rounds of a memory that asks' 0 "$folder/outside" --rounds 1001 --legs
+has_told 'quick rounds of a memory that asks: two legs by steps' '^leg 2: --schedule steps'
 
 # After what is wrong the rounds go on.
 ends 'a run that goes on' 1 "$folder/norec_READS" --go-on --schedule steps --rounds 300

@@ -369,6 +369,13 @@ marked right memories/readers -DWRONG=6 -DTELLS=2
 ends 'a delayed load, and then a race' 0 "$folder/right" --schedule steps --orders c++ --rounds 1000
 has_told 'a delayed load, and then a race: the race' '"race":'
 ends 'a delayed load, and then a race: that alone' 1 grep delayed "$folder/told"
+marked right memories/readers -DWRONG=6 -DTELLS=4
+ends 'a delayed load, and a race when it is made' 0 "$folder/right" --schedule steps --orders c++ --rounds 1000
+cp "$folder/output" "$folder/told"
+ends 'a delayed load, and a race when it is made: neither' 1 grep 'delayed\|race' "$folder/told"
+marked right memories/readers -DWRONG=6 -DTELLS=5
+ends 'a delayed load, and signals' 0 "$folder/right" --schedule steps --orders c++ --rounds 1000
+has_told 'a delayed load, and signals: it is told' '"delayed":'
 marked right memories/readers -DWRONG=6 -DTELLS=3
 ends 'a memory that asks elsewhere' 0 "$folder/right" --schedule steps --orders c++ --rounds 1000
 cp "$folder/output" "$folder/told"

@@ -57,6 +57,9 @@ plant_model() {
         for test in told plain delayed litmus "exact 2000" "random 50000"; do
             cc -std=c11 -g -O1 -w -Iinclude -o model "tests/orders/${test%% *}.c" && ./model "${test#* }" || exit
         done
+        mkdir -p few/bench-c few/tests && cp -r bench-c/instrumented few/bench-c && cp -r tests/orders tests/c few/tests &&
+            sed -i "s/MOST_SEQUENTIAL = [0-9]*/MOST_SEQUENTIAL = 2/" few/bench-c/instrumented/orders/simulation.c &&
+            cc -std=c11 -g -O1 -w -Iinclude -o model few/tests/orders/random.c && ./model 50000 || exit
         for test in told plain delayed; do
             cc -std=c11 -g -O1 -w -fsanitize=address,undefined -fno-sanitize-recover -Iinclude -o model "tests/orders/$test.c" && ./model || exit
         done'

@@ -1,7 +1,7 @@
-/* The watchdog of the steps by itself: after how many looks it rescues the others from a runner, and what it leaves of the locks. */
+/* Parts of the bench by themselves. The watchdog of the steps: after how many looks it rescues the others from a runner, and what it leaves of
+   the locks. And what legs come to, one after another. */
 #include "../../bench-c/tmwatch_bench.c"
 #include "check.h"
-#include <sys/resource.h>
 
 enum { NEXT, RUNNER, STUCK, SHORT = 200, MEDIUM = 3000, LONG = 300000 /* microseconds */ };
 enum { FILES = 32 };
@@ -154,6 +154,19 @@ static void check_changes(void)
     bench.orders = NULL;
 }
 
+/* Nothing has overlapped if that is so of each leg. */
+static void check_legs(void)
+{
+    for (unsigned legs = 0; legs < 8; legs++) {
+        tmwatch_benched all = {0};
+        for (unsigned i = 0; i < 3; i++) {
+            tmwatch_benched leg = {.told = {.events = 10}, .counts = {.none_overlapped = legs >> i & 1}};
+            add_leg(&all, &leg);
+        }
+        CHECK(all.counts.none_overlapped == (legs == 7) && all.told.events == 30);
+    }
+}
+
 int main(void)
 {
     struct worker *worker = calloc(1, sizeof *worker);
@@ -165,6 +178,7 @@ int main(void)
     for (; (!bench.steps.tid[RUNNER] || !is_asleep(bench.steps.tid[RUNNER])) && waits < 10000; waits++)
         nap(1000);
     CHECK(waits < 10000 && !is_asleep((int)syscall(SYS_gettid)) && !is_asleep(0));
+    check_legs();
     check_sleep();
     check_changes();
     spins = true;
