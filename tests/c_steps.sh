@@ -41,6 +41,8 @@ again() {
 ends 'a replay compiles' 0 "$cc" "${strict[@]}" -o "$folder/replay" "$top/tests/c/bench_replay.c" "${bench[@]}"
 ends 'parts of the bench compile' 0 "$cc" "${strict[@]}" -o "$folder/parts" "$top/tests/c/bench_parts.c" "${bench[@]:1}"
 ends 'parts of the bench' 0 "$folder/parts"
+ends 'blocks that are given back compile' 0 "$cc" "${strict[@]}" -o "$folder/blocks" "$top/tests/c/bench_blocks.c"
+ends 'blocks that are given back' 0 "$folder/blocks"
 paused norec examples/c/norec.c NONE
 paused norec_READS examples/c/norec.c READS
 paused tl2 tests/c/bench_tl2.c NONE
@@ -422,6 +424,11 @@ for compiler in "${compilers[@]}"; do
         read -r -a words <<<"$wide"
         unpaused "accesses_$compiler" $compiler tests/c/accesses.c NONE "${words[@]}"
         ends "each access by $compiler $wide" 0 "$folder/accesses_$compiler"
+        ends "steps of accesses by $compiler $wide compile" 0 $compiler -std=c11 -g -O2 -fsanitize=thread -Wno-tsan -Wno-unknown-warning-option \
+            "-I$top/include" -DSTEPS "${words[@]}" -c -o "$folder/memory.o" "$top/tests/c/accesses.c"
+        ends "steps of accesses by $compiler $wide are linked" 0 "$cc" -pthread -o "$folder/accesses" "$folder/memory.o" \
+            -Wl,--wrap=tmwatch_orders_wide "${bench[0]}"
+        ends "each access is a step, by $compiler $wide" 0 "$folder/accesses"
     done
     for file in norec:READS tl2:AFTER versions:CLOCK undo:UNLOCK locks:EARLY readers:NONE; do
         name=${file%:*} fault=${file#*:} path=tests/c/bench_${file%:*}.c

@@ -1,6 +1,7 @@
 /*
 Each atomic access of each size, in a program that is compiled with -fsanitize=thread and linked with libtmwatch_steps.a: it has to do
-what it does without. Plain and volatile accesses, memory functions and fences, too.
+what it does without. Plain and volatile accesses, memory functions and fences, too. By -DSTEPS, without the bench and linked with
+-Wl,--wrap=tmwatch_orders_wide, each atomic one has to be one step of one pause, and each of 16 bytes simulated as a whole.
 */
 #include "check.h"
 #include <stdbool.h>
@@ -10,6 +11,11 @@ what it does without. Plain and volatile accesses, memory functions and fences, 
     do {                                                                                         \
         static type at, other;                                                                   \
         type held = 5, got;                                                                      \
+        for (int i = 0; i < 2; i++) {                                                            \
+            __atomic_store_n(&at, (type)i, __ATOMIC_RELEASE);                                    \
+            CHECK(__atomic_load_n(&at, __ATOMIC_ACQUIRE) == (type)i);                            \
+            CHECK(__atomic_load_n(&at, __ATOMIC_ACQUIRE) == (type)i);                            \
+        }                                                                                        \
         __atomic_store_n(&at, (type)9, __ATOMIC_RELEASE);                                        \
         CHECK(__atomic_load_n(&at, __ATOMIC_ACQUIRE) == 9);                                      \
         __atomic_store_n(&at, (type)7, __ATOMIC_SEQ_CST);                                        \
@@ -30,6 +36,58 @@ what it does without. Plain and volatile accesses, memory functions and fences, 
         CHECK(*(volatile type *)&other == 9);                                                    \
     } while (0)
 
+#ifdef STEPS
+#include "../../bench-c/instrumented/step.h"
+#define UNMARKED __attribute__((no_sanitize("thread")))
+#ifdef __clang__ /* (which makes one of two) */
+enum { FENCES = 2 };
+#else
+enum { FENCES = 3 };
+#endif
+enum { ALL = 22, THREAD = 5 };
+static tmwatch_simulation *orders;
+static unsigned steps, wides;
+
+UNMARKED tmwatch_simulation *tmwatch_step_orders(void)
+{
+    return orders;
+}
+
+UNMARKED tmwatch_step_how *tmwatch_step_accesses(void)
+{
+    static tmwatch_step_how how;
+    return &how;
+}
+
+UNMARKED unsigned tmwatch_thread(void)
+{
+    return THREAD;
+}
+
+UNMARKED void tmwatch_step_at(const void *caller, unsigned pauses)
+{
+    CHECK(caller && pauses == 1);
+    steps++;
+}
+
+UNMARKED void __wrap_tmwatch_orders_wide(const tmwatch_access *it)
+{
+    CHECK(it->orders == orders && it->thread == THREAD && it->caller && it->bytes == 16 && it->order == __ATOMIC_ACQ_REL);
+    wides++;
+}
+
+/* How many steps there were since the last time. */
+UNMARKED static unsigned made(void)
+{
+    unsigned before = steps;
+    steps = 0;
+    return before;
+}
+#define CHECK_STEPS(most) CHECK(made() == (most))
+#else
+#define CHECK_STEPS(most) (void)0
+#endif
+
 static void check_fences(void)
 {
     static char from[100], to[100];
@@ -46,13 +104,28 @@ static void check_fences(void)
 int main(void)
 {
     CHECK_ALL(uint8_t);
+    CHECK_STEPS(ALL);
     CHECK_ALL(uint16_t);
+    CHECK_STEPS(ALL);
     CHECK_ALL(uint32_t);
+    CHECK_STEPS(ALL);
     CHECK_ALL(uint64_t);
+    CHECK_STEPS(ALL);
+    check_fences();
+    CHECK_STEPS(FENCES);
 #ifdef WIDE
     __extension__ typedef unsigned __int128 wide;
     CHECK_ALL(wide);
+    CHECK_STEPS(ALL);
+#ifdef STEPS
+    static const atomic_uint_least64_t recorded;
+    orders = tmwatch_orders_new(1, &recorded, NULL);
+    CHECK(orders);
+    CHECK_ALL(wide);
+    orders = NULL;
+    CHECK_STEPS(ALL);
+    CHECK(wides == ALL);
 #endif
-    check_fences();
+#endif
     return 0;
 }
