@@ -462,6 +462,10 @@ for compiler in "${compilers[@]}"; do
         unpaused "own_$kind" $compiler tests/c/bench_own.c NONE -DKIND=$kind
         ends "own bytes, $kind, by $compiler" 0 "$folder/own_$kind" --schedule steps --rounds 2000 --orders x86
         ends "own bytes, $kind, by $compiler, in several legs" 0 "$folder/own_$kind" --rounds 3000
+        [ $kind = HEAP ] || continue
+        ends "blocks that are given back unseen, by $compiler, are linked" 0 "$cc" -pthread -o "$folder/unseen" "$folder/memory.o" "$waits" "${bench[@]}"
+        ends "blocks that are given back unseen, by $compiler" 0 "$folder/unseen" --schedule steps --rounds 100 --orders x86
+        has_told "blocks that are given back unseen, by $compiler: it is told" '"unseen":\["blocks"\]}$'
     done
     ends "own bytes, $kind, by $compiler, c++" 0 "$folder/own_$kind" --schedule steps --rounds 500 --orders c++
     has_told "own bytes, $kind, by $compiler, c++: all is seen" '"rounds":500,"steps":[0-9]*,"switches":[0-9]*}$'

@@ -97,10 +97,10 @@ cp "$folder/output" "$folder/told"
 ends 'locks that are not wrapped: no leg of other orders' 1 grep -q -- --orders "$folder/told"
 wraps=("$waits" "$blocks")
 
-# Whether the first rounds of a leg have stale loads or delayed stores: a fence that is missing is found by ten seeds, but in none of these.
+# Whether the first rounds of a leg have stale loads or delayed stores: a fence that is missing is found by twenty seeds, but in none of these.
 first_rounds() {
     local seed
-    for seed in {1..10}; do
+    for seed in {1..20}; do
         "$folder/fenceless" --schedule steps --orders "$1" --seed "$seed" --rounds "$2" || return
     done
 }
@@ -109,6 +109,7 @@ for orders in x86 c++; do
     ends "the first rounds, $orders" 0 first_rounds $orders 16
     ends "rounds after those, $orders" 1 first_rounds $orders 60
 done
+ends 'the round after those' 1 first_rounds c++ 17
 
 # By all, legs in rounds and by permits have no orders, also if the others are to have some.
 ends 'the legs of given orders' 0 sh -c '"$@" --orders x86 --rounds 21001 --threads 2 --registers 1 --calls 1 --mixes 0 --legs 2>&1 >/dev/null' sh \

@@ -46,7 +46,8 @@ enum { FENCES = 3 };
 #endif
 enum { ALL = 22, THREAD = 5 };
 static tmwatch_simulation *orders;
-static unsigned steps, wides;
+static tmwatch_step_how how;
+static volatile unsigned steps, wides; /* (the compiler marks accesses after it has looked who changes what) */
 
 UNMARKED tmwatch_simulation *tmwatch_step_orders(void)
 {
@@ -55,7 +56,6 @@ UNMARKED tmwatch_simulation *tmwatch_step_orders(void)
 
 UNMARKED tmwatch_step_how *tmwatch_step_accesses(void)
 {
-    static tmwatch_step_how how;
     return &how;
 }
 
@@ -84,8 +84,34 @@ UNMARKED static unsigned made(void)
     return before;
 }
 #define CHECK_STEPS(most) CHECK(made() == (most))
+
+__attribute__((noinline)) static void put(uint64_t *to)
+{
+    *to = 1;
+    __asm__ volatile("" ::"r"(to) : "memory");
+}
+
+/* With plain steps, a plain access is one, but of the thread's own bytes. */
+UNMARKED static void check_plain(void)
+{
+    static uint64_t all[4];
+    put(&all[1]);
+    CHECK_STEPS(0);
+    how.has_plain = true;
+    for (int part = 0; part < 2; part++) {
+        how.own[part] = (uintptr_t)&all[1];
+        how.own_end[part] = (uintptr_t)&all[3];
+        for (unsigned i = 0; i < 4; i++) {
+            put(&all[i]);
+            CHECK_STEPS(i == 0 || i == 3);
+        }
+        how.own[part] = how.own_end[part] = 0;
+    }
+    how.has_plain = false;
+}
 #else
 #define CHECK_STEPS(most) (void)0
+#define check_plain() (void)0
 #endif
 
 static void check_fences(void)
@@ -113,6 +139,7 @@ int main(void)
     CHECK_STEPS(ALL);
     check_fences();
     CHECK_STEPS(FENCES);
+    check_plain();
 #ifdef WIDE
     __extension__ typedef unsigned __int128 wide;
     CHECK_ALL(wide);
