@@ -427,7 +427,7 @@ for compiler in "${compilers[@]}"; do
         ends "steps of accesses by $compiler $wide compile" 0 $compiler -std=c11 -g -O2 -fsanitize=thread -Wno-tsan -Wno-unknown-warning-option \
             "-I$top/include" -DSTEPS "${words[@]}" -c -o "$folder/memory.o" "$top/tests/c/accesses.c"
         ends "steps of accesses by $compiler $wide are linked" 0 "$cc" -pthread -o "$folder/accesses" "$folder/memory.o" \
-            -Wl,--wrap=tmwatch_orders_wide "${bench[0]}"
+            -Wl,--wrap=tmwatch_orders_wide,--wrap=tmwatch_orders_plain "${bench[0]}"
         ends "each access is a step, by $compiler $wide" 0 "$folder/accesses"
     done
     for file in norec:READS tl2:AFTER versions:CLOCK undo:UNLOCK locks:EARLY readers:NONE; do
