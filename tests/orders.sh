@@ -414,6 +414,9 @@ has_told 'a lost hand-over: the order' -E '^  (stale load|late store): thread [0
 marked unmarked unmarked -DKIND=STORES
 ends 'an unlock by inline assembly' 2 "$folder/unmarked" --schedule steps --orders c++
 has_told 'an unlock by inline assembly: what is told' '^code that the compiler has not marked, or .* stores to what is loaded at .*may be false$'
+ends 'an unlock by inline assembly, right so far' 0 "$folder/unmarked" --schedule steps --orders c++ --rounds 12
+has_told 'an unlock by inline assembly, right so far: the report' '"unseen":\["stores"'
+ends 'an unlock by inline assembly, right so far: no line' 1 grep 'may be false' "$folder/told"
 marked unmarked unmarked -DKIND=FUTEX
 ends 'a lock by inline assembly' 2 "$folder/unmarked" --schedule steps --orders c++
 has_told 'a lock by inline assembly: what is told' '^a lock or a wait of code that the compiler has not marked, in .*may be false$'

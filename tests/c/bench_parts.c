@@ -1,7 +1,8 @@
 /* Parts of the bench by themselves. The watchdog of the steps: after how many looks it rescues the others from a runner, and what it leaves of
-   the locks. And what legs come to, one after another. */
+   the locks. What legs come to, one after another. And what a system call that isn't for a futex gets. */
 #include "../../bench-c/tmwatch_bench.c"
 #include "check.h"
+#include <stdarg.h>
 
 enum { NEXT, RUNNER, STUCK, SHORT = 200, MEDIUM = 3000, LONG = 300000 /* microseconds */ };
 enum { FILES = 32 };
@@ -167,6 +168,19 @@ static void check_legs(void)
     }
 }
 
+enum { CALL_WORDS = 6, NO_CALL = 100000, RETURNED = 77 };
+long __wrap_syscall(long number, long first, long what, long third, long fourth, long fifth, long sixth);
+
+long __real_syscall(long number, ...)
+{
+    va_list words;
+    va_start(words, number);
+    for (long i = 1; i <= CALL_WORDS; i++)
+        CHECK(va_arg(words, long) == number - NO_CALL + i);
+    va_end(words);
+    return RETURNED;
+}
+
 int main(void)
 {
     struct worker *worker = calloc(1, sizeof *worker);
@@ -179,6 +193,7 @@ int main(void)
         nap(1000);
     CHECK(waits < 10000 && !is_asleep((int)syscall(SYS_gettid)) && !is_asleep(0));
     check_legs();
+    CHECK(__wrap_syscall(NO_CALL, 1, 2, 3, 4, 5, 6) == RETURNED);
     check_sleep();
     check_changes();
     spins = true;
