@@ -1,5 +1,6 @@
 /* Parts of the bench by themselves. The watchdog of the steps: after how many looks it rescues the others from a runner, and what it leaves of
-   the locks. What legs come to, one after another. And what a system call that isn't for a futex gets. */
+   the locks. What legs come to, one after another. What a system call that isn't for a futex gets. And
+   that after a leg by steps all is unlocked. */
 #include "../../bench-c/tmwatch_bench.c"
 #include "check.h"
 #include <stdarg.h>
@@ -168,6 +169,54 @@ static void check_legs(void)
     }
 }
 
+static uint64_t words[MOST_REGISTERS], calls;
+
+static bool begins(void *memory, void *tx)
+{
+    (void)memory, (void)tx;
+    return true;
+}
+
+/* The thread pauses, or waits outside. */
+static bool reads(void *memory, void *tx, unsigned reg, uint64_t *value)
+{
+    (void)memory, (void)tx;
+    *value = words[reg];
+    tmwatch_pause();
+    if (++calls % 3 == 0 && tmwatch_asks())
+        tmwatch_waits();
+    return true;
+}
+
+static bool writes(void *memory, void *tx, unsigned reg, uint64_t value)
+{
+    (void)memory, (void)tx;
+    words[reg] = value;
+    return true;
+}
+
+static void ends(void *memory, void *tx)
+{
+    (void)memory, (void)tx;
+}
+
+static void check_locks(void)
+{
+    static const tmwatch_memory memory = {NULL, 1, begins, reads, writes, NULL, begins, ends, NULL};
+    static const tmwatch_plan given = TMWATCH_PLAN;
+    static struct bench leg;
+    struct session of = {.memory = &memory, .plan = &given};
+    tmwatch_benched out;
+    tmwatch_plan plan = filled_plan(&given, NULL);
+    plan.schedule = TMWATCH_STEPS;
+    plan.rounds = 200;
+    plan.adds = 0;
+    plan.goes_on = 1;
+    CHECK(run_leg(&leg, &of, &plan, &out) == TMWATCH_DONE && calls > plan.rounds && out.waits > 0);
+    CHECK(value_of(&leg.steps.free) == 1);
+    end_threads(&of, false);
+}
+
 enum { CALL_WORDS = 6, NO_CALL = 100000, RETURNED = 77 };
 long __wrap_syscall(long number, long first, long what, long third, long fourth, long fifth, long sixth);
 
@@ -193,6 +242,7 @@ int main(void)
         nap(1000);
     CHECK(waits < 10000 && !is_asleep((int)syscall(SYS_gettid)) && !is_asleep(0));
     check_legs();
+    check_locks();
     CHECK(__wrap_syscall(NO_CALL, 1, 2, 3, 4, 5, 6) == RETURNED);
     check_sleep();
     check_changes();
