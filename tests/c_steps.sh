@@ -476,6 +476,7 @@ for compiler in g++ clang++; do
         "$top/tests/c/bench_exit.cpp" "${bench[@]}"
     ends "a class that never returns, by $compiler" 4 "$folder/exit" --writes 0 --patience 1
     has_told "a class that never returns, by $compiler: the fault" -x '{"fault":"stuck"}'
+    ends "a class that never returns, by $compiler: what it uses stays" 1 grep destroyed "$folder/told"
     for fault in NONE READS; do
         ends "a class without a pause, by $compiler, $fault, compiles" 0 $compiler -std=c++17 -O2 -fsanitize=thread "-I$top/include" \
             "-DFAULT=$fault" -c -o "$folder/memory.o" "$top/tests/c/bench_class.cpp"
