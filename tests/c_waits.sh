@@ -140,6 +140,14 @@ if has addr2line 'races'; then
 fi
 ends 'races that are neither told nor fail' 4 "$folder/locks_gcc" --races none
 ends 'no race, which would fail' 0 "$folder/plain_gcc" --schedule steps --orders c++ --rounds 200 --races fail
+# Plain accesses are steps by --plain alone.
+steps_of() {
+    LOCK=MUTEX "$folder/plain_gcc" --schedule steps --rounds 20 "$@" 2>/dev/null | sed -n 's/.*"steps":\([0-9]*\),.*/\1/p'
+}
+more_steps() {
+    [ "$(steps_of --plain)" -gt "$(steps_of)" ]
+}
+ends 'plain accesses as steps' 0 more_steps
 
 # A signal that is lost: by steps the memory never returns, and that comes again. With a thread of its own, somebody else may signal.
 ends 'a lost signal' 4 env LOCK=LOST "$folder/locks_gcc" --schedule steps --patience 1

@@ -18,11 +18,12 @@ unset CARGO_TARGET_DIR
 
 # (a compiler refuses words of another type, as the tests compile)
 compile='cc -std=c11 -O2 -Werror=incompatible-pointer-types -Werror=int-conversion -Iinclude'
-# What c.sh runs of a bench that gets no memory, thread or place.
+# What c.sh runs of a bench that gets no memory, thread or place, and c_steps.sh of parts of the bench by themselves.
 # shellcheck disable=SC2016
 refused='linked="bench-c/tmwatch_bench.c bench-c/instrumented/waits.c $BUILT/lib/libtmwatch.a" &&
     cc -std=c11 -pthread -Iinclude -o refused tests/c/bench_memory.c $linked \
-        -Wl,--wrap=malloc,--wrap=calloc,--wrap=realloc,--wrap=free,--wrap=pthread_create,--wrap=tmwatch_room && ./refused'
+        -Wl,--wrap=malloc,--wrap=calloc,--wrap=realloc,--wrap=free,--wrap=pthread_create,--wrap=tmwatch_room && ./refused &&
+    cc -std=c11 -pthread -Iinclude -o parts tests/c/bench_parts.c bench-c/instrumented/waits.c "$BUILT/lib/libtmwatch.a" && ./parts'
 # The tests of a group notice its mistakes: its name, further words of plant.py and the files, `--` and the command.
 planted() {
     local status=0
