@@ -214,6 +214,8 @@ static void check_locks(void)
     plan.goes_on = 1;
     CHECK(run_leg(&leg, &of, &plan, &out) == TMWATCH_DONE && calls > plan.rounds && out.waits > 0);
     CHECK(value_of(&leg.steps.free) == 1);
+    /* (by which each thread draws when its stores come out) */
+    CHECK(leg.parts[0].how.draws != leg.parts[1].how.draws);
     end_threads(&of, false);
 }
 
