@@ -40,7 +40,8 @@ again() {
 
 ends 'a replay compiles' 0 "$cc" "${strict[@]}" -o "$folder/replay" "$top/tests/c/bench_replay.c" "${bench[@]}"
 ends 'parts of the bench compile' 0 "$cc" "${strict[@]}" -o "$folder/parts" "$top/tests/c/bench_parts.c" "${bench[@]:1}"
-ends 'parts of the bench' 0 "$folder/parts"
+# (a thread there computes until it is interrupted, which ThreadSanitizer puts off)
+[ "${FLAGS:-}" = -fsanitize=thread ] || ends 'parts of the bench' 0 "$folder/parts"
 ends 'blocks that are given back compile' 0 "$cc" "${strict[@]}" -o "$folder/blocks" "$top/tests/c/bench_blocks.c"
 ends 'blocks that are given back' 0 "$folder/blocks"
 paused norec examples/c/norec.c NONE
@@ -462,7 +463,8 @@ for compiler in "${compilers[@]}"; do
         unpaused "own_$kind" $compiler tests/c/bench_own.c NONE -DKIND=$kind
         ends "own bytes, $kind, by $compiler" 0 "$folder/own_$kind" --schedule steps --rounds 2000 --orders x86
         ends "own bytes, $kind, by $compiler, in several legs" 0 "$folder/own_$kind" --rounds 3000
-        [ $kind = HEAP ] || continue
+        # (clang leaves these stores out)
+        [ "$kind $compiler" = 'HEAP gcc' ] || continue
         ends "blocks that are given back unseen, by $compiler, are linked" 0 "$cc" -pthread -o "$folder/unseen" "$folder/memory.o" "$waits" "${bench[@]}"
         ends "blocks that are given back unseen, by $compiler" 0 "$folder/unseen" --schedule steps --rounds 100 --orders x86
         has_told "blocks that are given back unseen, by $compiler: it is told" '"unseen":\["blocks"\]}$'

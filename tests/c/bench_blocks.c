@@ -103,5 +103,6 @@ int main(void)
     /* (this program's own operators above may have blocks that are none of malloc) */
     CHECK(size_of(block, __real__ZdlPv) == 0 && size_of(block, free) == usable);
     CHECK(tmwatch_step_sees_free());
+    free(block);
     return 0;
 }

@@ -6,7 +6,7 @@
 #include <stdarg.h>
 
 enum { NEXT, RUNNER, STUCK, SHORT = 200, MEDIUM = 3000, LONG = 300000 /* microseconds */ };
-enum { FILES = 32 };
+enum { FILES = 32, FEW_LOOKS = 10, MANY_LOOKS = 10000 };
 static const unsigned both = 1u << RUNNER | 1u << NEXT;
 
 static struct bench bench;
@@ -112,10 +112,10 @@ static void check_use(void)
     CHECK(looks_until_rescue(1, LOOK_MICROSECONDS) == 0 && !bench.watchdog.computes);
     CHECK(looks_until_rescue(1, LOOK_MICROSECONDS) == 0 && bench.watchdog.computes);
     nap(LONG);
-    CHECK(looks_until_rescue(MOST_USED / MOST_EACH, LOOK_MICROSECONDS) == 0);
-    CHECK(looks_until_rescue(100 * MOST_SLEEPS, LOOK_MICROSECONDS) > MOST_USED / MOST_EACH);
+    CHECK(looks_until_rescue(FEW_LOOKS, LOOK_MICROSECONDS) == 0);
+    CHECK(looks_until_rescue(MANY_LOOKS, LOOK_MICROSECONDS) > MOST_USED / MOST_EACH - FEW_LOOKS - 3);
     begin(both, FEW_RESCUES);
-    CHECK(looks_until_rescue(MOST_SLEEPS, LOOK_MICROSECONDS) > 1 + LATER_USED / MOST_EACH);
+    CHECK(looks_until_rescue(MANY_LOOKS, LOOK_MICROSECONDS) > LATER_USED / MOST_EACH);
     bench.steps.asks = true;
     watch_steps(&bench, now += LOOK_MICROSECONDS);
     CHECK(!bench.watchdog.computes);
