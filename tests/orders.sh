@@ -364,6 +364,7 @@ tells() {
 marked right memories/readers -DWRONG=6 -DTELLS
 ends 'a run that is made again' 0 tells 'with a child' --orders c++
 ends 'a run that is not made again' 0 tells 'without a child' --orders sequential
+ends 'a run of sequential first legs is not made again' 0 tells 'without a child' --schedule all
 ends 'a run that may crash is not made again' 0 tells 'without a child' --orders c++ --crashes
 marked right memories/readers -DWRONG=6 -DTELLS=2
 ends 'a delayed load, and then a race' 0 "$folder/right" --schedule steps --orders c++ --rounds 1000
