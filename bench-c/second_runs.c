@@ -3,8 +3,8 @@
 
    A memory can't be put back to its beginning. So a process is split off before the run, and waits; each second run is a child of it. */
 
-/* All second runs take so many seconds at most. */
-enum { MOST_TRACE = 1 << 19, SECOND_RUNS_SECONDS = 10 };
+/* A second run takes so many seconds of the processors at most. */
+enum { MOST_TRACE = 1 << 19, MOST_SECONDS = 5 };
 
 /* What these processes share. */
 struct second_runs {
@@ -52,24 +52,23 @@ static bool is_violated_by_load(struct bench *b, struct second_runs *it)
 
 static tmwatch_plan next_plan(const struct session *session, uint64_t leg, uint64_t *draws);
 
-/* Makes a second run in this process, whose session is as before the run: whether the record that would be is violated. */
+/* Makes a second run in this process, whose session is as before the run: whether the record that would be is violated. (One that is stuck
+   leaves its watch open, so that none is judged.) */
 static bool make_second_run(struct session *session)
 {
+    static struct bench bench;
     struct second_runs *it = session->second_runs;
-    struct bench *b = calloc(1, sizeof *b);
     uint64_t draws = 0;
     tmwatch_benched out;
-    if (!b)
-        return false;
     tmwatch_plan plan = next_plan(session, 0, &draws);
     plan.rounds = it->delays.made->round - 1;
-    plan.seconds = SECOND_RUNS_SECONDS;
+    plan.seconds = 0;
     plan.patience = 1;
     plan.progress = NULL;
     it->delays.answered = it->delays.stored = 0;
-    b->delays = &it->delays;
-    bool is_whole = run_leg(b, session, &plan, &out) == TMWATCH_DONE && !session->is_stuck && !out.unseen && !out.race[0];
-    return is_whole && it->delays.answered > 0 && it->delays.answered < it->delays.stored && is_violated_by_load(b, it);
+    bench.delays = &it->delays;
+    bool is_whole = run_leg(&bench, session, &plan, &out) == TMWATCH_DONE && !out.unseen && !out.race[0];
+    return is_whole && it->delays.answered > 0 && it->delays.answered < it->delays.stored && is_violated_by_load(&bench, it);
 }
 
 /* Waits until the run is over, and makes second runs until the record of one would be violated. */
@@ -81,7 +80,7 @@ static void make_second_runs(struct session *session)
     dup2(none, STDOUT_FILENO);
     dup2(none, STDERR_FILENO);
     await(&it->goes);
-    session->began = microseconds_of(CLOCK_MONOTONIC);
+    setrlimit(RLIMIT_CPU, &(struct rlimit){MOST_SECONDS, MOST_SECONDS});
     for (unsigned i = 0; i < it->delays.count && !it->is_violated && !is_interrupted; i++) {
         it->delays.made = &it->delays.found[i];
         pid_t child = fork();

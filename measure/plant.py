@@ -4,7 +4,8 @@
     measure/plant.py [OPTION VALUE].. FILE.. -- COMMAND..
 
 An operator, a constant or a condition is turned, a statement dropped, or two arguments swapped, in a copy of the repository, where the
-COMMAND then runs. It notices a mistake if it writes `: FAILED`, fails, or is not done in time. The FILEs are .c, .h, .rs, .rt, .py or .sh.
+COMMAND then runs. It notices a mistake if it writes `: FAILED`, fails, or is late: not done in time. The FILEs are .c, .h, .rs, .rt, .py or
+.sh.
 
     --seed N          by which mistakes are drawn (1)
     --number N        how many of each FILE (30); 0: all
@@ -16,9 +17,10 @@ COMMAND then runs. It notices a mistake if it writes `: FAILED`, fails, or is no
     --jobs N          so many at once, each in a copy of its own (1)
 
 plant.txt lists mistakes that nobody can observe, with the reasons. They don't count; nor do those that change nothing.
-Standard output has each survivor, with its line as it was and as it is, and then a table. Nothing is left of the copies, nor a process.
-Exit status: 0 at most one in ten of those that count survives; 1 more do; 2 wrong words, an interrupt, or the command fails without a
-mistake.
+Standard output has each that survived or was late, which load may do to a survivor, with its line as it was and as it is, and then a table.
+Nothing is left of the copies, nor a process.
+Exit status: 0 in each FILE at most one in ten of those that count survives; 1 more do; 2 wrong words, an interrupt, or the command fails
+without a mistake.
 """
 import argparse
 import concurrent.futures
@@ -261,7 +263,7 @@ class Copy:
             return False
 
     def run(self, command, seconds):
-        """Runs a command: its exit status, or None if it isn't done in time."""
+        """Runs a command: its exit status, or what ended it."""
         scratch = tempfile.mkdtemp(dir=self.folder)
         name, value = self.mark.split("=")
         environment = {**os.environ, name: value, "TMPDIR": scratch, "OBJECT": self.object}
@@ -276,14 +278,15 @@ class Copy:
                 shutil.rmtree(scratch, ignore_errors=True)
 
     def status_of(self, process, seconds):
-        """Waits for its exit status: None if it isn't done in time, and also once a row has failed."""
+        """Waits for its exit status: `late` if it isn't done in time, and `noticed` once a row has failed."""
         began = time.monotonic()
         while process.poll() is None:
             time.sleep(0.05)
             with open(f"{self.folder}/output", "rb") as output:
-                is_late = seconds and time.monotonic() - began > seconds
-                if is_late or is_over.is_set() or FAILED in output.read():
-                    return None
+                if is_over.is_set() or FAILED in output.read():
+                    return "noticed"
+            if seconds and time.monotonic() - began > seconds:
+                return "late"
         return process.returncode
 
     def bytes_of_object(self):
@@ -308,8 +311,8 @@ def end_of(mistake, copy, options, bytes_before):
                 compile(mistake.text, mistake.path, "exec")
             except SyntaxError:
                 return "not compiled"
-        is_unnoticed = all(copy.run(command, options.limit) == 0 for command in options.commands)
-        return "survived" if is_unnoticed else "noticed"
+        status = next((it for it in (copy.run(command, options.limit) for command in options.commands) if it != 0), "survived")
+        return status if status in ("survived", "late") else "noticed"
     finally:
         copy.write(mistake.path, text)
 
@@ -357,20 +360,21 @@ def try_all(mistakes, copies, options, bytes_before):
         ends = []
         for mistake, found in zip(mistakes, pool.map(end, mistakes)):
             ends.append(found)
-            if found == "survived":
-                print(f"{mistake.path}:{mistake.line}\n- {mistake.was}\n+ {mistake.now}", flush=True)
+            if found in ("survived", "late"):
+                print(f"{mistake.path}:{mistake.line} {found}\n- {mistake.was}\n+ {mistake.now}", flush=True)
         return ends
 
 
 def print_table(mistakes, ends, files):
-    columns = ("planted", "not compiled", "the same", "not seen", "noticed", "survived", "not tried")
+    columns, status = ("planted", "not compiled", "the same", "not seen", "noticed", "late", "survived", "not tried"), 0
     print(" ".join(f"{name:>12}" for name in columns), " file")
     for path in [*files, "all"]:
         of_file = [end for mistake, end in zip(mistakes, ends) if path in ("all", mistake.path)]
         numbers = [len(of_file)] + [of_file.count(name) for name in columns[1:]]
         print(" ".join(f"{number:>12}" for number in numbers), f" {path}")
-    survived, counted = ends.count("survived"), ends.count("survived") + ends.count("noticed")
-    return 0 if survived <= MOST_SURVIVORS * counted else 1
+        survived, counted = of_file.count("survived"), sum(of_file.count(name) for name in ("noticed", "late", "survived"))
+        status = 1 if survived > MOST_SURVIVORS * counted else status
+    return status
 
 
 def main(words):

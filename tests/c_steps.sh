@@ -39,6 +39,11 @@ again() {
 }
 
 ends 'a replay compiles' 0 "$cc" "${strict[@]}" -o "$folder/replay" "$top/tests/c/bench_replay.c" "${bench[@]}"
+ends 'parts of the bench compile' 0 "$cc" "${strict[@]}" -o "$folder/parts" "$top/tests/c/bench_parts.c" "${bench[@]:1}"
+# (a thread there computes until it is interrupted, which ThreadSanitizer puts off)
+[ "${FLAGS:-}" = -fsanitize=thread ] || ends 'parts of the bench' 0 "$folder/parts"
+ends 'blocks that are given back compile' 0 "$cc" "${strict[@]}" -o "$folder/blocks" "$top/tests/c/bench_blocks.c"
+ends 'blocks that are given back' 0 "$folder/blocks"
 paused norec examples/c/norec.c NONE
 paused norec_READS examples/c/norec.c READS
 paused tl2 tests/c/bench_tl2.c NONE
@@ -124,6 +129,9 @@ ends 'crashes and permits' 4 "$folder/outside_CRASHES" --crashes --schedule perm
 # A leg by steps that takes long ends, and then one in rounds comes.
 ends 'slow rounds' 0 "$folder/outside_CRAWLS" --seconds 7 --legs
 has_told 'slow rounds: a leg by steps, and one in rounds' -Pz 'leg 1: --schedule steps.*\nleg 21: --schedule rounds'
+
+ends 'quick rounds of a memory that asks' 0 "$folder/outside" --rounds 1001 --legs
+has_told 'quick rounds of a memory that asks: two legs by steps' '^leg 2: --schedule steps'
 
 # After what is wrong the rounds go on.
 ends 'a run that goes on' 1 "$folder/norec_READS" --go-on --schedule steps --rounds 300
@@ -417,6 +425,11 @@ for compiler in "${compilers[@]}"; do
         read -r -a words <<<"$wide"
         unpaused "accesses_$compiler" $compiler tests/c/accesses.c NONE "${words[@]}"
         ends "each access by $compiler $wide" 0 "$folder/accesses_$compiler"
+        ends "steps of accesses by $compiler $wide compile" 0 $compiler -std=c11 -g -O2 -fsanitize=thread -Wno-tsan -Wno-unknown-warning-option \
+            "-I$top/include" -DSTEPS "${words[@]}" -c -o "$folder/memory.o" "$top/tests/c/accesses.c"
+        ends "steps of accesses by $compiler $wide are linked" 0 "$cc" -pthread -o "$folder/accesses" "$folder/memory.o" \
+            -Wl,--wrap=tmwatch_orders_wide,--wrap=tmwatch_orders_plain "${bench[0]}"
+        ends "each access is a step, by $compiler $wide" 0 "$folder/accesses"
     done
     for file in norec:READS tl2:AFTER versions:CLOCK undo:UNLOCK locks:EARLY readers:NONE; do
         name=${file%:*} fault=${file#*:} path=tests/c/bench_${file%:*}.c
@@ -450,6 +463,11 @@ for compiler in "${compilers[@]}"; do
         unpaused "own_$kind" $compiler tests/c/bench_own.c NONE -DKIND=$kind
         ends "own bytes, $kind, by $compiler" 0 "$folder/own_$kind" --schedule steps --rounds 2000 --orders x86
         ends "own bytes, $kind, by $compiler, in several legs" 0 "$folder/own_$kind" --rounds 3000
+        # (clang leaves these stores out)
+        [ "$kind $compiler" = 'HEAP gcc' ] || continue
+        ends "blocks that are given back unseen, by $compiler, are linked" 0 "$cc" -pthread -o "$folder/unseen" "$folder/memory.o" "$waits" "${bench[@]}"
+        ends "blocks that are given back unseen, by $compiler" 0 "$folder/unseen" --schedule steps --rounds 100 --orders x86
+        has_told "blocks that are given back unseen, by $compiler: it is told" '"unseen":\["blocks"\]}$'
     done
     ends "own bytes, $kind, by $compiler, c++" 0 "$folder/own_$kind" --schedule steps --rounds 500 --orders c++
     has_told "own bytes, $kind, by $compiler, c++: all is seen" '"rounds":500,"steps":[0-9]*,"switches":[0-9]*}$'
@@ -460,6 +478,7 @@ for compiler in g++ clang++; do
         "$top/tests/c/bench_exit.cpp" "${bench[@]}"
     ends "a class that never returns, by $compiler" 4 "$folder/exit" --writes 0 --patience 1
     has_told "a class that never returns, by $compiler: the fault" -x '{"fault":"stuck"}'
+    ends "a class that never returns, by $compiler: what it uses stays" 1 grep destroyed "$folder/told"
     for fault in NONE READS; do
         ends "a class without a pause, by $compiler, $fault, compiles" 0 $compiler -std=c++17 -O2 -fsanitize=thread "-I$top/include" \
             "-DFAULT=$fault" -c -o "$folder/memory.o" "$top/tests/c/bench_class.cpp"

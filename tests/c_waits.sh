@@ -97,10 +97,10 @@ cp "$folder/output" "$folder/told"
 ends 'locks that are not wrapped: no leg of other orders' 1 grep -q -- --orders "$folder/told"
 wraps=("$waits" "$blocks")
 
-# Whether the first rounds of a leg have stale loads or delayed stores: a fence that is missing is found by ten seeds, but in none of these.
+# Whether the first rounds of a leg have stale loads or delayed stores: a fence that is missing is found by twenty seeds, but in none of these.
 first_rounds() {
     local seed
-    for seed in {1..10}; do
+    for seed in {1..20}; do
         "$folder/fenceless" --schedule steps --orders "$1" --seed "$seed" --rounds "$2" || return
     done
 }
@@ -109,6 +109,7 @@ for orders in x86 c++; do
     ends "the first rounds, $orders" 0 first_rounds $orders 16
     ends "rounds after those, $orders" 1 first_rounds $orders 60
 done
+ends 'the round after those' 1 first_rounds c++ 17
 
 # By all, legs in rounds and by permits have no orders, also if the others are to have some.
 ends 'the legs of given orders' 0 sh -c '"$@" --orders x86 --rounds 21001 --threads 2 --registers 1 --calls 1 --mixes 0 --legs 2>&1 >/dev/null' sh \
@@ -139,6 +140,14 @@ if has addr2line 'races'; then
 fi
 ends 'races that are neither told nor fail' 4 "$folder/locks_gcc" --races none
 ends 'no race, which would fail' 0 "$folder/plain_gcc" --schedule steps --orders c++ --rounds 200 --races fail
+# Plain accesses are steps by --plain alone.
+steps_of() {
+    LOCK=MUTEX "$folder/plain_gcc" --schedule steps --rounds 20 "$@" 2>/dev/null | sed -n 's/.*"steps":\([0-9]*\),.*/\1/p'
+}
+more_steps() {
+    [ "$(steps_of --plain)" -gt "$(steps_of)" ]
+}
+ends 'plain accesses as steps' 0 more_steps
 
 # A signal that is lost: by steps the memory never returns, and that comes again. With a thread of its own, somebody else may signal.
 ends 'a lost signal' 4 env LOCK=LOST "$folder/locks_gcc" --schedule steps --patience 1

@@ -364,11 +364,19 @@ tells() {
 marked right memories/readers -DWRONG=6 -DTELLS
 ends 'a run that is made again' 0 tells 'with a child' --orders c++
 ends 'a run that is not made again' 0 tells 'without a child' --orders sequential
+ends 'a run of sequential first legs is not made again' 0 tells 'without a child' --schedule all
 ends 'a run that may crash is not made again' 0 tells 'without a child' --orders c++ --crashes
 marked right memories/readers -DWRONG=6 -DTELLS=2
 ends 'a delayed load, and then a race' 0 "$folder/right" --schedule steps --orders c++ --rounds 1000
 has_told 'a delayed load, and then a race: the race' '"race":'
 ends 'a delayed load, and then a race: that alone' 1 grep delayed "$folder/told"
+marked right memories/readers -DWRONG=6 -DTELLS=4
+ends 'a delayed load, and a race when it is made' 0 "$folder/right" --schedule steps --orders c++ --rounds 1000
+cp "$folder/output" "$folder/told"
+ends 'a delayed load, and a race when it is made: neither' 1 grep 'delayed\|race' "$folder/told"
+marked right memories/readers -DWRONG=6 -DTELLS=5
+ends 'a delayed load, and signals' 0 "$folder/right" --schedule steps --orders c++ --rounds 1000
+has_told 'a delayed load, and signals: it is told' '"delayed":'
 marked right memories/readers -DWRONG=6 -DTELLS=3
 ends 'a memory that asks elsewhere' 0 "$folder/right" --schedule steps --orders c++ --rounds 1000
 cp "$folder/output" "$folder/told"
@@ -407,6 +415,9 @@ has_told 'a lost hand-over: the order' -E '^  (stale load|late store): thread [0
 marked unmarked unmarked -DKIND=STORES
 ends 'an unlock by inline assembly' 2 "$folder/unmarked" --schedule steps --orders c++
 has_told 'an unlock by inline assembly: what is told' '^code that the compiler has not marked, or .* stores to what is loaded at .*may be false$'
+ends 'an unlock by inline assembly, right so far' 0 "$folder/unmarked" --schedule steps --orders c++ --rounds 12
+has_told 'an unlock by inline assembly, right so far: the report' '"unseen":\["stores"'
+ends 'an unlock by inline assembly, right so far: no line' 1 grep 'may be false' "$folder/told"
 marked unmarked unmarked -DKIND=FUTEX
 ends 'a lock by inline assembly' 2 "$folder/unmarked" --schedule steps --orders c++
 has_told 'a lock by inline assembly: what is told' '^a lock or a wait of code that the compiler has not marked, in .*may be false$'

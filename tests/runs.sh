@@ -56,6 +56,7 @@ made LEFT '--schedule rounds --threads 1'
 made LOST '--schedule permits --threads 1'
 made LEFT '--schedule permits --threads 1'
 made READS '--round 50 --event 3'
+made NONE '--round 1'
 for fault in BEGIN COMMIT CANCEL RUN-RUNS CANCEL-RUNS COMMIT-RUNS; do
     made $fault '--patience 1 --schedule steps'
 done

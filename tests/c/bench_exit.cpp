@@ -1,9 +1,10 @@
 /*
 A memory that never returns from a read after a while, and whose words are destroyed when the program ends: the threads that are stuck in
-them must not see that.
+them must not see that, so that it isn't told.
 */
 #include "tmwatch_bench.hpp"
 #include <atomic>
+#include <cstdio>
 #include <memory>
 #include <vector>
 
@@ -21,6 +22,7 @@ struct Words {
     }
     ~Words()
     {
+        std::fputs("destroyed\n", stderr);
         for (auto &word : words)
             word.reset();
     }

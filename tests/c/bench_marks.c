@@ -9,6 +9,7 @@ does the 200th mark, and the reads shortly before find what nobody wrote. After 
 its transactions again by itself. LACKS names functions that it lacks.
 */
 #include "tmwatch_bench.h"
+#include <errno.h>
 #include <stdatomic.h>
 #include <stdlib.h>
 #include <string.h>
@@ -160,5 +161,6 @@ int main(int count, char **given)
     words[0] = fault == START ? NOBODYS : 0;
     if (name && strcmp(name + length, "-RUNS") == 0)
         memory.run = run;
+    errno = ERANGE; /* (what has failed before is no matter) */
     return tmwatch_bench_main(&memory, count, given);
 }

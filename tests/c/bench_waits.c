@@ -90,10 +90,30 @@ static const struct timespec *later(clockid_t clock)
 MUTEX_CONDITION(condition, pthread_cond_wait(&is_free, &mutex), pthread_cond_signal)
 MUTEX_CONDITION(timed, pthread_cond_timedwait(&is_free, &mutex, REAL), pthread_cond_signal)
 MUTEX_CONDITION(clocked, pthread_cond_clockwait(&is_free, &mutex, STEADY), pthread_cond_signal)
-MUTEX_CONDITION(broadcast, pthread_cond_wait(&is_free, &mutex), pthread_cond_broadcast)
 C11_CONDITION(cnd, cnd_wait(&is_free_c11, &mutex_c11), cnd_signal)
 C11_CONDITION(cnd_timed, cnd_timedwait(&is_free_c11, &mutex_c11, REAL), cnd_signal)
-C11_CONDITION(cnd_broadcast, cnd_wait(&is_free_c11, &mutex_c11), cnd_broadcast)
+
+/* By tickets, so that all have to be told: each waits for its own. */
+#define BY_TICKETS(name, lock, unlock, wait, signal) \
+    static unsigned given_##name, served_##name;     \
+    static void take_##name(void)                    \
+    {                                                \
+        lock;                                        \
+        unsigned own = given_##name++;               \
+        while (served_##name != own)                 \
+            wait;                                    \
+        unlock;                                      \
+    }                                                \
+    static void give_##name(void)                    \
+    {                                                \
+        lock;                                        \
+        served_##name++;                             \
+        signal;                                      \
+        unlock;                                      \
+    }
+BY_TICKETS(broadcast, pthread_mutex_lock(&mutex), pthread_mutex_unlock(&mutex), pthread_cond_wait(&is_free, &mutex),
+           pthread_cond_broadcast(&is_free))
+BY_TICKETS(cnd_broadcast, mtx_lock(&mutex_c11), mtx_unlock(&mutex_c11), cnd_wait(&is_free_c11, &mutex_c11), cnd_broadcast(&is_free_c11))
 
 static void wait_late(void)
 {

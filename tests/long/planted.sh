@@ -4,7 +4,7 @@
 #
 #   tests/long/planted.sh [GROUP]..
 #
-# The GROUPs are bench, steps, model, rust, ci, import and recorder, or all. A row fails if more than one mistake in ten survives in a group; survivors
+# The GROUPs are bench, steps, model, rust, ci, import and recorder, or all. A row fails if more than one mistake in ten survives in a file; survivors
 # and tables stand before it. The last line is 'N passed, M failed', and the exit status is 1 if a row failed.
 # Environment: BUILT (tests/common.sh), NUMBER (20, mistakes of each file), SEED (1), JOBS (2), THEN (a command for mistakes in the bench in
 # C that are not noticed else, as tests/c_steps.sh).
@@ -18,11 +18,12 @@ unset CARGO_TARGET_DIR
 
 # (a compiler refuses words of another type, as the tests compile)
 compile='cc -std=c11 -O2 -Werror=incompatible-pointer-types -Werror=int-conversion -Iinclude'
-# What c.sh runs of a bench that gets no memory, thread or place.
+# What c.sh runs of a bench that gets no memory, thread or place, and c_steps.sh of parts of the bench by themselves.
 # shellcheck disable=SC2016
 refused='linked="bench-c/tmwatch_bench.c bench-c/instrumented/waits.c $BUILT/lib/libtmwatch.a" &&
     cc -std=c11 -pthread -Iinclude -o refused tests/c/bench_memory.c $linked \
-        -Wl,--wrap=malloc,--wrap=calloc,--wrap=realloc,--wrap=free,--wrap=pthread_create,--wrap=tmwatch_room && ./refused'
+        -Wl,--wrap=malloc,--wrap=calloc,--wrap=realloc,--wrap=free,--wrap=pthread_create,--wrap=tmwatch_room && ./refused &&
+    cc -std=c11 -pthread -Iinclude -o parts tests/c/bench_parts.c bench-c/instrumented/waits.c "$BUILT/lib/libtmwatch.a" && ./parts'
 # The tests of a group notice its mistakes: its name, further words of plant.py and the files, `--` and the command.
 planted() {
     local status=0
@@ -57,6 +58,9 @@ plant_model() {
         for test in told plain delayed litmus "exact 2000" "random 50000"; do
             cc -std=c11 -g -O1 -w -Iinclude -o model "tests/orders/${test%% *}.c" && ./model "${test#* }" || exit
         done
+        mkdir -p few/bench-c few/tests && cp -r bench-c/instrumented few/bench-c && cp -r tests/orders tests/c few/tests &&
+            sed -i "s/MOST_SEQUENTIAL = [0-9]*/MOST_SEQUENTIAL = 2/" few/bench-c/instrumented/orders/simulation.c &&
+            cc -std=c11 -g -O1 -w -Iinclude -o model few/tests/orders/random.c && ./model 50000 || exit
         for test in told plain delayed; do
             cc -std=c11 -g -O1 -w -fsanitize=address,undefined -fno-sanitize-recover -Iinclude -o model "tests/orders/$test.c" && ./model || exit
         done'

@@ -40,6 +40,13 @@ static void begin(void)
     orders->unseen[UNMARKED_STORE] = NULL;
 }
 
+/* Whether the race is that of these. */
+static bool is_race(unsigned thread, enum access_kind kind, unsigned other, enum access_kind other_kind)
+{
+    const struct race *it = &orders->race;
+    return orders->has_race && it->thread == thread && it->kind == kind && it->other == other && it->other_kind == other_kind;
+}
+
 /* Hands over from thread 0 to thread 1. */
 static void hand_over(int release, int acquire)
 {
@@ -55,13 +62,13 @@ static void check_races(void)
     loads(0, bytes, 8);
     CHECK(!orders->has_race);
     loads(1, bytes + 4, 1);
-    CHECK(orders->has_race && orders->race.thread == 1 && orders->race.other == 0 && orders->race.other_kind == PLAIN_STORE);
+    CHECK(is_race(1, PLAIN_LOAD, 0, PLAIN_STORE));
     begin();
     loads(0, bytes, 8);
     loads(1, bytes, 8);
     CHECK(!orders->has_race);
     stores(1, bytes, 1);
-    CHECK(orders->has_race && orders->race.kind == PLAIN_STORE && orders->race.other_kind == PLAIN_LOAD);
+    CHECK(is_race(1, PLAIN_STORE, 0, PLAIN_LOAD));
     begin();
     stores(0, bytes, 1);
     stores(1, bytes + 1, 1);
@@ -111,6 +118,14 @@ static void check_handed(void)
     CHECK(!orders->has_race);
 }
 
+static unsigned used_cells(void)
+{
+    unsigned count = 0;
+    for (unsigned i = 0; i < CELLS; i++)
+        count += orders->cells[i].round == orders->round;
+    return count;
+}
+
 static void check_ordered(void)
 {
     static const struct {
@@ -133,6 +148,7 @@ static void check_ordered(void)
     begin();
     stores(0, bytes, 8);
     tmwatch_orders_forget(orders, bytes, sizeof bytes);
+    CHECK(used_cells() == 1);
     stores(1, bytes, 8);
     CHECK(!orders->has_race);
     begin_run(orders);
@@ -144,20 +160,20 @@ static void check_ordered(void)
 static void check_atomic(void)
 {
     begin();
-    makes(0, WRITE, Y, 1, RELAXED);
+    makes(5, WRITE, Y, 1, RELAXED);
     makes(1, WRITE, Y, 2, RELAXED);
     makes(2, READ, Y, 0, RELAXED);
     CHECK(!orders->has_race);
     loads(2, (const void *)(uintptr_t)&words[Y], 8);
-    CHECK(orders->has_race && orders->race.other_kind == ATOMIC_STORE);
+    CHECK(is_race(2, PLAIN_LOAD, 5, ATOMIC_STORE));
     begin();
     stores(0, (const void *)(uintptr_t)&words[Y], 8);
     makes(1, READ, Y, 0, SEQUENTIAL);
-    CHECK(orders->has_race && orders->race.kind == ATOMIC_LOAD && orders->race.other_kind == PLAIN_STORE);
+    CHECK(is_race(1, ATOMIC_LOAD, 0, PLAIN_STORE));
     begin();
     loads(0, (const void *)(uintptr_t)&words[Y], 8);
     makes(1, SWAP, Y, 1, SEQUENTIAL); /* (succeeds) */
-    CHECK(orders->has_race && orders->race.kind == ATOMIC_STORE && orders->race.other_kind == PLAIN_LOAD);
+    CHECK(is_race(1, ATOMIC_STORE, 0, PLAIN_LOAD));
     begin();
     words[Y] = 7;
     loads(0, (const void *)(uintptr_t)&words[Y], 8);
@@ -167,13 +183,13 @@ static void check_atomic(void)
     words[Y] = 7;
     stores(0, (const void *)(uintptr_t)&words[Y], 8);
     makes(1, SWAP, Y, 1, SEQUENTIAL);
-    CHECK(orders->has_race && orders->race.kind == ATOMIC_LOAD && orders->race.other_kind == PLAIN_STORE);
+    CHECK(is_race(1, ATOMIC_LOAD, 0, PLAIN_STORE));
     begin();
-    makes(1, READ, Y, 0, RELAXED);
+    makes(6, READ, Y, 0, RELAXED);
     loads(0, (const void *)(uintptr_t)&words[Y], 8);
     CHECK(!orders->has_race);
     stores(0, (const void *)(uintptr_t)&words[Y], 1);
-    CHECK(orders->has_race && orders->race.kind == PLAIN_STORE && orders->race.other_kind == ATOMIC_LOAD);
+    CHECK(is_race(0, PLAIN_STORE, 6, ATOMIC_LOAD));
     begin();
     makes(0, WRITE, Y, 1, RELAXED);
     loads(1, (const void *)(uintptr_t)&words[Z], 8);
@@ -424,6 +440,11 @@ static void check_full(void)
         last.thread = 1;
         tmwatch_orders_load(&last);
         CHECK(makes(1, READ, Y, 0, RELAXED) == 1);
+        tmwatch_access wide = {orders, 1, bytes, bytes, 16, RELAXED};
+        tmwatch_orders_wide(&wide);
+        wide.thread = 2;
+        tmwatch_orders_wide(&wide);
+        CHECK(makes(2, READ, Y, 0, RELAXED) == 1);
     }
 }
 

@@ -14,7 +14,7 @@ static _Atomic uint64_t words[WORDS];
 static uint64_t plain;
 
 /* Places in the program, each in a line of its own: where a call returns to is in the next one. */
-enum mark { NEWER, LATER, LATEST, READS_LATER, READS_LATEST, MISSES, STORES_LATE, UNSEEN, PASSED_IN_CXX, PASSED_IN_RUST, QUOTED, MARKS };
+enum mark { NEWER, LATER, LATEST, READS_LATER, READS_LATEST, MISSES, STORES_LATE, UNSEEN, PASSED_IN_CXX, PASSED_IN_RUST, QUOTED, PASSED_ALONE, MARKS };
 static const void *places[MARKS];
 static unsigned first_line;
 
@@ -27,11 +27,12 @@ __attribute__((noinline)) static void keep(enum mark mark)
 #define PASS __attribute__((always_inline)) static inline void
 #line 1 "/usr/include/c++/12/bits/atomic_base.h"
 PASS pass_in_cxx(enum mark mark) { keep(mark); }
+__attribute__((noinline)) static void keep_passed(void) { keep(PASSED_ALONE); __asm__ volatile(""); }
 #line 1 "/rust/src/sync/atomic.rs"
 PASS pass_in_rust(enum mark mark) { keep(mark); }
 #line 1 "a \"file\\"
 __attribute__((noinline)) static void keep_quoted(void) { keep(QUOTED); __asm__ volatile(""); }
-#line 35 "told.c"
+#line 36 "told.c"
 
 __attribute__((noinline)) static void keep_all(void)
 {
@@ -80,6 +81,7 @@ static void meets_all(void)
     loads(4, MISSES, Y, false);
     loads(1, READS_LATER, Y, true);
     loads(1, READS_LATEST, Z, true);
+    loads(1, READS_LATER, Z, true);
     loads(1, MISSES, X, false);
     loads(1, READS_LATER, Y, true);
     loads(1, MISSES, X, false);
@@ -184,6 +186,9 @@ int main(void)
     orders = tmwatch_orders_new(1, &event, NULL);
     keep_all();
     keep_quoted();
+    keep_passed();
+    /* (one that waits for a further line without end is wrong) */
+    alarm(60);
     CHECK(is_text(told_unseen(true, 0), "") && is_text(told_race(), ""));
     meets_all();
     CHECK(is_text(told(FIRST, LAST), "the orders of C++20 allow this, in this round before what went wrong:\n"
@@ -205,6 +210,7 @@ int main(void)
                   "not seen, so a violation may be false\n"
                   "a lock or a wait of code that the compiler has not marked, in %7: what that orders is not seen, so a violation may be false\n"));
     CHECK(is_text(told_place(PASSED_IN_CXX), "%8") && is_text(told_place(PASSED_IN_RUST), "%9"));
+    CHECK(is_text(told_place(PASSED_ALONE), "atomic_base.h:2 (keep_passed)"));
     /* (each process that was asked for lines has been waited for) */
     CHECK(waitpid(-1, NULL, WNOHANG) < 0);
     free(orders);

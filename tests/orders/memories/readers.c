@@ -5,11 +5,14 @@ lock; a writer locks and looks at the flags. Each has a fence between.
 WRONG: 1 no fence of the reader; 2 its look at the lock is relaxed; 3 no fence of the writer; 4 its look at the flags is relaxed; 5 unlocked
 relaxed; 6 a flag is lowered relaxed. 4 and 6 take loads that are delayed past later stores. By -DDEPENDS a lowered flag has what was read:
 then C++20 lets no load be delayed past that either, unless values come out of thin air. By -DTELLS the first transaction of a process tells,
-on both streams, whether that has a child; by -DTELLS=2 threads race once 6,000 transactions have begun; and by -DTELLS=3 the memory asks elsewhere.
+on both streams, whether that has a child; by -DTELLS=2 threads race once 6,000 transactions have begun; by -DTELLS=3 the memory asks elsewhere;
+by -DTELLS=4 threads race in other processes than the first; and by -DTELLS=5 signals come all the time.
 */
-#define _POSIX_C_SOURCE 200809L
+#define _XOPEN_SOURCE 700
 #include "ordered.h"
+#include <signal.h>
 #include <stdio.h>
+#include <sys/time.h>
 #include <sys/wait.h>
 
 #ifdef DEPENDS
@@ -28,13 +31,31 @@ static struct word words[REGISTERS];
 
 #ifdef TELLS
 /* (nothing of this is simulated) */
-__attribute__((no_sanitize("thread"))) static bool tell(void)
+#define UNSEEN __attribute__((no_sanitize("thread")))
+static pid_t first;
+pid_t getpid(void);
+
+UNSEEN static void note(int signal UNUSED)
+{
+}
+
+__attribute__((constructor)) UNSEEN static void start(void)
+{
+    const struct itimerval often = {{0, 1000}, {0, 1000}};
+    first = getpid();
+    sigaction(SIGALRM, &(struct sigaction){.sa_handler = note}, NULL);
+    if (TELLS == 5)
+        setitimer(ITIMER_REAL, &often, NULL);
+}
+
+UNSEEN static bool tell(void)
 {
     static unsigned begun;
     const char *told = waitpid(-1, NULL, WNOHANG) == 0 ? "with a child" : "without a child";
     for (int stream = 1; begun == 0 && stream <= 2; stream++)
         dprintf(stream, "begins %s\n", told);
-    return ++begun > 6000 && TELLS == 2;
+    begun++;
+    return TELLS == 2 ? begun > 6000 : TELLS == 4 && getpid() != first;
 }
 #endif
 

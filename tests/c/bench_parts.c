@@ -1,0 +1,257 @@
+/* Parts of the bench by themselves. The watchdog of the steps: after how many looks it rescues the others from a runner, and what it leaves of
+   the locks. What legs come to, one after another. What a system call that isn't for a futex gets. And
+   that after a leg by steps all is unlocked. */
+#include "../../bench-c/tmwatch_bench.c"
+#include "check.h"
+#include <stdarg.h>
+
+enum { NEXT, RUNNER, STUCK, SHORT = 200, MEDIUM = 3000, LONG = 300000 /* microseconds */ };
+enum { FILES = 32, FEW_LOOKS = 10, MANY_LOOKS = 10000 };
+static const unsigned both = 1u << RUNNER | 1u << NEXT;
+
+static struct bench bench;
+static struct session session;
+static uint64_t now;
+static atomic_bool spins;
+static long pause_each = 1;
+static unsigned stills; /* how often the orders were to be still */
+
+void tmwatch_orders_still(tmwatch_simulation *orders)
+{
+    (void)orders;
+    stills++;
+}
+
+/* Tells its number, and then sleeps or computes. */
+static void *run(void *number)
+{
+    *(atomic_int *)number = (int)syscall(SYS_gettid);
+    for (;;)
+        if (!spins)
+            pause();
+    return NULL;
+}
+
+static int value_of(sem_t *semaphore)
+{
+    int value = -1;
+    sem_getvalue(semaphore, &value);
+    return value;
+}
+
+/* Nobody has made a step for long, after so many rescues: these threads have not ended the round. */
+static void begin(unsigned ready, uint64_t rescues)
+{
+    struct steps *s = &bench.steps;
+    int tid = s->tid[RUNNER];
+    memset(s, 0, sizeof *s);
+    set_steps(&bench);
+    s->tid[RUNNER] = tid;
+    s->ready = ready;
+    s->stuck = 1u << STUCK;
+    s->runner = s->awake = RUNNER;
+    s->rescues = rescues;
+    bench.watchdog = (struct watchdog){.runner = NOBODY, .looked = now};
+}
+
+/* Looks so often, that many microseconds apart: how often until it let another one go, or 0. All is unlocked then. */
+static unsigned looks_until_rescue(unsigned most, uint64_t apart)
+{
+    struct steps *s = &bench.steps;
+    uint64_t before = s->rescues;
+    unsigned looks = 0;
+    while (looks < most && s->rescues == before) {
+        nap(pause_each);
+        watch_steps(&bench, now += apart);
+        looks++;
+        CHECK(value_of(&s->free) == 1 && (spins || !bench.watchdog.computes));
+    }
+    bool is_rescued = s->rescues > before;
+    CHECK(s->rescues == before + is_rescued && s->stuck == ((is_rescued ? 1u << RUNNER : 0) | 1u << STUCK));
+    CHECK(s->runner == (is_rescued ? NEXT : RUNNER) && value_of(&s->go[NEXT]) == is_rescued && value_of(&s->go[RUNNER]) == 0);
+    return is_rescued ? looks : 0;
+}
+
+static void check_sleep(void)
+{
+    begin(both, 0);
+    CHECK(looks_until_rescue(200, LOOK_MICROSECONDS) == 1 + MOST_SLEEPS);
+    begin(both, FEW_RESCUES - 1);
+    CHECK(looks_until_rescue(200, LOOK_MICROSECONDS) == 1 + MOST_SLEEPS);
+    for (pause_each = MEDIUM; pause_each > 0; pause_each -= MEDIUM - 1) {
+        begin(both, FEW_RESCUES);
+        CHECK(looks_until_rescue(200, LOOK_MICROSECONDS) == 1 + LATER_SLEEPS);
+    }
+    pause_each = 1;
+    begin(both, 0);
+    CHECK(looks_until_rescue(1000, LOOK_MICROSECONDS / 2) == 2 * (1 + MOST_SLEEPS));
+    /* Nobody else is to go, the runner asks elsewhere, or another one is awake. */
+    begin(1u << RUNNER, 0);
+    CHECK(looks_until_rescue(200, LOOK_MICROSECONDS) == 0);
+    begin(both, 0);
+    bench.steps.asks = true;
+    CHECK(looks_until_rescue(200, LOOK_MICROSECONDS) == 0);
+    begin(both, 0);
+    bench.steps.awake = NEXT;
+    CHECK(looks_until_rescue(200, LOOK_MICROSECONDS) == 0);
+    begin(both, 0);
+    bench.is_over = true;
+    CHECK(looks_until_rescue(200, LOOK_MICROSECONDS) == 0);
+    bench.is_over = false;
+    /* A step of the runner begins the count anew. */
+    begin(both, 0);
+    CHECK(looks_until_rescue(MOST_SLEEPS, LOOK_MICROSECONDS) == 0);
+    bench.steps.steps++;
+    CHECK(looks_until_rescue(200, LOOK_MICROSECONDS) == 1 + MOST_SLEEPS);
+}
+
+/* One that computes has longer. Not more is counted for a look than MOST_EACH. */
+static void check_use(void)
+{
+    begin(both, 0);
+    CHECK(looks_until_rescue(1, LOOK_MICROSECONDS) == 0 && !bench.watchdog.computes);
+    CHECK(looks_until_rescue(1, LOOK_MICROSECONDS) == 0 && bench.watchdog.computes);
+    nap(LONG);
+    CHECK(looks_until_rescue(FEW_LOOKS, LOOK_MICROSECONDS) == 0);
+    CHECK(looks_until_rescue(MANY_LOOKS, LOOK_MICROSECONDS) > MOST_USED / MOST_EACH - FEW_LOOKS - 3);
+    begin(both, FEW_RESCUES);
+    CHECK(looks_until_rescue(MANY_LOOKS, LOOK_MICROSECONDS) > LATER_USED / MOST_EACH);
+    bench.steps.asks = true;
+    watch_steps(&bench, now += LOOK_MICROSECONDS);
+    CHECK(!bench.watchdog.computes);
+}
+
+/* What another thread changes while the watchdog waits for the lock. */
+enum change { NONE, ITS_STEPS, THE_RUNNER, WHO_IS_AWAKE, CHANGES };
+static enum change change;
+static int own_tid;
+
+static void *change_and_unlock(void *none)
+{
+    struct steps *s = &bench.steps;
+    while (!is_asleep(own_tid))
+        ;
+    s->steps += change == ITS_STEPS;
+    s->runner = change == THE_RUNNER ? NEXT : RUNNER;
+    s->awake = change == WHO_IS_AWAKE ? NEXT : RUNNER;
+    post(&s->free);
+    return none;
+}
+
+/* One that has gone on meanwhile is not stuck. */
+static void check_changes(void)
+{
+    own_tid = (int)syscall(SYS_gettid);
+    bench.orders = (tmwatch_simulation *)&bench;
+    for (change = NONE; change < CHANGES; change++) {
+        pthread_t other;
+        begin(both, 0);
+        CHECK(looks_until_rescue(MOST_SLEEPS, LOOK_MICROSECONDS) == 0);
+        await(&bench.steps.free);
+        CHECK(pthread_create(&other, NULL, change_and_unlock, NULL) == 0);
+        watch_steps(&bench, now += LOOK_MICROSECONDS);
+        pthread_join(other, NULL);
+        CHECK(bench.steps.rescues == (change == NONE) && stills == 1 && value_of(&bench.steps.free) == 1);
+    }
+    bench.orders = NULL;
+}
+
+/* Nothing has overlapped if that is so of each leg. */
+static void check_legs(void)
+{
+    for (unsigned legs = 0; legs < 8; legs++) {
+        tmwatch_benched all = {0};
+        for (unsigned i = 0; i < 3; i++) {
+            tmwatch_benched leg = {.told = {.events = 10}, .counts = {.none_overlapped = legs >> i & 1}};
+            add_leg(&all, &leg);
+        }
+        CHECK(all.counts.none_overlapped == (legs == 7) && all.told.events == 30);
+    }
+}
+
+static uint64_t words[MOST_REGISTERS], calls;
+
+static bool begins(void *memory, void *tx)
+{
+    (void)memory, (void)tx;
+    return true;
+}
+
+/* The thread pauses, or waits outside. */
+static bool reads(void *memory, void *tx, unsigned reg, uint64_t *value)
+{
+    (void)memory, (void)tx;
+    *value = words[reg];
+    tmwatch_pause();
+    if (++calls % 3 == 0 && tmwatch_asks())
+        tmwatch_waits();
+    return true;
+}
+
+static bool writes(void *memory, void *tx, unsigned reg, uint64_t value)
+{
+    (void)memory, (void)tx;
+    words[reg] = value;
+    return true;
+}
+
+static void ends(void *memory, void *tx)
+{
+    (void)memory, (void)tx;
+}
+
+static void check_locks(void)
+{
+    static const tmwatch_memory memory = {NULL, 1, begins, reads, writes, NULL, begins, ends, NULL};
+    static const tmwatch_plan given = TMWATCH_PLAN;
+    static struct bench leg;
+    struct session of = {.memory = &memory, .plan = &given};
+    tmwatch_benched out;
+    tmwatch_plan plan = filled_plan(&given, NULL);
+    plan.schedule = TMWATCH_STEPS;
+    plan.rounds = 200;
+    plan.adds = 0;
+    plan.goes_on = 1;
+    CHECK(run_leg(&leg, &of, &plan, &out) == TMWATCH_DONE && calls > plan.rounds && out.waits > 0);
+    CHECK(value_of(&leg.steps.free) == 1);
+    /* (by which each thread draws when its stores come out) */
+    CHECK(leg.parts[0].how.draws != leg.parts[1].how.draws);
+    end_threads(&of, false);
+}
+
+enum { CALL_WORDS = 6, NO_CALL = 100000, RETURNED = 77 };
+long __wrap_syscall(long number, long first, long what, long third, long fourth, long fifth, long sixth);
+
+long __real_syscall(long number, ...)
+{
+    va_list words;
+    va_start(words, number);
+    for (long i = 1; i <= CALL_WORDS; i++)
+        CHECK(va_arg(words, long) == number - NO_CALL + i);
+    va_end(words);
+    return RETURNED;
+}
+
+int main(void)
+{
+    struct worker *worker = calloc(1, sizeof *worker);
+    unsigned waits = 0;
+    setrlimit(RLIMIT_NOFILE, &(struct rlimit){FILES, FILES}); /* (each look gives its file back) */
+    bench.session = &session;
+    session.workers[RUNNER] = worker;
+    CHECK(worker && pthread_create(&worker->thread, NULL, run, &bench.steps.tid[RUNNER]) == 0);
+    for (; (!bench.steps.tid[RUNNER] || !is_asleep(bench.steps.tid[RUNNER])) && waits < 10000; waits++)
+        nap(1000);
+    CHECK(waits < 10000 && !is_asleep((int)syscall(SYS_gettid)) && !is_asleep(0));
+    check_legs();
+    check_locks();
+    CHECK(__wrap_syscall(NO_CALL, 1, 2, 3, 4, 5, 6) == RETURNED);
+    check_sleep();
+    check_changes();
+    spins = true;
+    pause_each = SHORT;
+    signal(SIGUSR1, end_by_signal);
+    pthread_kill(worker->thread, SIGUSR1);
+    check_use();
+    return 0;
+}
