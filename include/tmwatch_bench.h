@@ -150,12 +150,13 @@ typedef struct tmwatch_plan {
     uint64_t small;     /* 1: values are small, and addends below 2^16, for words of fewer than 64 bits; or 0 */
     uint64_t goes_on;   /* 1: in one leg, rounds go on after what is wrong, for who records the whole run; or 0 */
     uint64_t crashes;   /* 1: the memory calls tmwatch_bench_crash, so that a thread and one of eight attempts are left free; or 0 */
+    uint64_t look;      /* 1: with `round`, a look comes before that, so that a trace of it begins there; or 0 */
 } tmwatch_plan;
 
 /* clang-format off */
 #define TMWATCH_PLAN                                                                                                                     \
     {100000, 1, TMWATCH_DRAWN, TMWATCH_DRAWN, TMWATCH_DRAWN, 0, TMWATCH_DRAWN, TMWATCH_DRAWN, TMWATCH_DRAWN, TMWATCH_DRAWN, 0,             \
-     TMWATCH_ALL, {0, 0, 0, 0, 0, 0, 0, 0}, NULL, TMWATCH_DRAWN, 0, TMWATCH_DRAWN, 0, 5, NULL, TMWATCH_DRAWN, 0, NULL, NULL, 0, 0, 0, 0}
+     TMWATCH_ALL, {0, 0, 0, 0, 0, 0, 0, 0}, NULL, TMWATCH_DRAWN, 0, TMWATCH_DRAWN, 0, 5, NULL, TMWATCH_DRAWN, 0, NULL, NULL, 0, 0, 0, 0, 0}
 /* clang-format on */
 
 /* How many bytes tell what the orders of C++20 have shown, and a race or a delayed load. */
