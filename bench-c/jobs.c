@@ -85,7 +85,7 @@ static void come_to_tell(tmwatch_benched *all, bool is_wrong)
 }
 
 /* Defined by a program whose memory is made anew in each process. */
-extern void tmwatch_bench_job(unsigned job, const tmwatch_plan *plan) __attribute__((weak));
+extern bool tmwatch_bench_job(unsigned job, const tmwatch_plan *plan) __attribute__((weak));
 
 /* Whether a line of /proc/self tells of other threads, which a fork leaves behind, a debugger, or shared bytes that may be written. */
 static bool is_tie(const char *line)

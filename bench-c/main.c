@@ -163,8 +163,8 @@ static void catch_signal(int signal, struct sigaction *before)
 static int run_here(const tmwatch_memory *memory, struct given *given, const char *program)
 {
     tmwatch_benched benched;
-    if (tmwatch_bench_job)
-        tmwatch_bench_job(own_job, &given->plan);
+    if (tmwatch_bench_job && !tmwatch_bench_job(own_job, &given->plan))
+        _Exit(is_last ? LEFT : 4);
     uint32_t status = tmwatch_bench(memory, &given->plan, &benched);
     sigaction(SIGINT, &given->interrupt, NULL);
     sigaction(SIGTERM, &given->end, NULL);

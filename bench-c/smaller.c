@@ -37,9 +37,8 @@ static void start_try(const struct tries *all, struct tried *it, unsigned number
     dup2(none, STDERR_FILENO);
     jobs = &alone;
     it->plan.trace = it->plan.listing = it->plan.progress = it->plan.legs = NULL; /* FILEs */
-    if (tmwatch_bench_job)
-        tmwatch_bench_job(number, &it->plan);
-    it->is_found = tmwatch_bench(all->memory, &it->plan, &it->benched) == TMWATCH_DONE && it->benched.told.verdict == TMWATCH_VIOLATED &&
+    it->is_found = (!tmwatch_bench_job || tmwatch_bench_job(number, &it->plan)) &&
+                   tmwatch_bench(all->memory, &it->plan, &it->benched) == TMWATCH_DONE && it->benched.told.verdict == TMWATCH_VIOLATED &&
                    are_certain(&it->benched);
     _Exit(0);
 }

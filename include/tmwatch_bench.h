@@ -300,6 +300,13 @@ hold 0 at first.
 */
 int tmwatch_bench_main(const tmwatch_memory *memory, int count, char **words);
 
+/*
+By several jobs, or to make a run smaller, tmwatch_bench_main runs the memory in processes of their own, forked from this one, whose memory
+stays as it was. It doesn't if there are other threads, a debugger, or bytes, files or sockets that are shared and may be written. A program whose
+memory is made anew in each process defines this function: it is called there before the run, with the number of the job, and false ends that.
+*/
+bool tmwatch_bench_job(unsigned job, const tmwatch_plan *plan);
+
 /* A whole main for a tmwatch_memory; no semicolon follows. */
 #define TMWATCH_BENCH_MAIN(memory)                          \
     int main(int count, char **words)                       \

@@ -35,20 +35,20 @@ fresh() {
     : >"$PROCESSES"
     timeout 120 "$@"
 }
-# Whether so many have, and none of them is left.
+# Whether so many have, by a pattern, and none of them is left.
 have_run() {
     local process
-    [[ $(sort -u "$PROCESSES" | wc -l) == $1 ]]
+    # shellcheck disable=SC2053
+    [[ $(sort -u "$PROCESSES" | wc -l) == $1 ]] || return 1
     while read -r process; do
-        ! kill -0 "$process" 2>/dev/null
+        ! kill -0 "$process" 2>/dev/null || return 1
     done <"$PROCESSES"
 }
 processes() {
     local status=0
     fresh "${@:2}" >"$folder/told" 2>&1 || status=$?
     cat "$folder/told"
-    [ "$(grep -c '"verdict"' "$folder/told")" -le 1 ]
-    have_run "$1"
+    [ "$(grep -c '"verdict"' "$folder/told")" -le 1 ] && have_run "$1" || return 99
     return $status
 }
 
@@ -102,14 +102,14 @@ event() {
     sed -n 's/.*with --event \([0-9]*\) before.*/\1/p' "$1" | grep .
 }
 repeats() {
-    local words status=0
+    local words status=0 again=0
     rm -f "$folder"/{one,two}*
     fresh "$folder/$1" "${@:2}" --trace "$folder/one" >"$folder/one.told" 2>&1 || status=$?
-    [ $status -eq 1 ] && [ "$(grep -c '"verdict"' "$folder/one.told")" -eq 1 ] && [ "$(grep -c '^again: ' "$folder/one.told")" -eq 1 ]
     cat "$folder/one.told"
     read -r -a words < <(again "$folder/one.told")
-    fresh "$folder/$1" "${words[@]}" --trace "$folder/two" >"$folder/two.told" 2>&1 || status=$?
-    [ $status -eq 1 ] && cmp "$folder/one" "$folder/two" && cmp "$folder/one.steps" "$folder/two.steps" &&
+    fresh "$folder/$1" "${words[@]}" --trace "$folder/two" >"$folder/two.told" 2>&1 || again=$?
+    [ "$status $again" = '1 1' ] && [ "$(grep -c '"verdict"' "$folder/one.told")" -eq 1 ] && [ "$(grep -c '^again: ' "$folder/one.told")" -eq 1 ] &&
+        cmp "$folder/one" "$folder/two" && cmp "$folder/one.steps" "$folder/two.steps" &&
         diff <(event "$folder/one.told") <(event "$folder/two.told") && [ "$(wc -l <"$PROCESSES")" -le 1 ]
 }
 # (most are found by another job than the first)
@@ -138,7 +138,7 @@ ends 'a job that ends by itself' 7 processes '[23]' "${hooked[@]}"
 FAULT=STUCK
 ends 'a job that is stuck' 4 processes '[23]' "${hooked[@]}" --trace "$folder/one"
 has_told 'a job that is stuck: its seed' -Pz '{"fault":"stuck"}\n{"again":"--seed 2000004 --round [0-9]*","certain":true}\n'
-ends 'a job that is stuck: where' 0 grep -q '^thread [0-7]: `begin` has not returned$' "$folder/told"
+ends 'a job that is stuck: where' 0 grep -q '^thread [0-7]: .begin. has not returned$' "$folder/told"
 FAULT=WRONG
 ends 'a find of one job' 1 processes '[23]' "${hooked[@]}" --junit "$folder/junit"
 ends 'a find of one job, for CI systems' 0 grep -q 'failures="1" errors="0"' "$folder/junit"
@@ -192,13 +192,12 @@ fi
 smaller() {
     local words
     repeats "$@" --smaller || return
-    [ $(($(wc -l <"$folder/one") - 1)) -eq "$(event "$folder/one.told")" ]
-    grep -q '"again":".* --look' "$folder/one.told"
+    [ $(($(wc -l <"$folder/one") - 1)) -eq "$(event "$folder/one.told")" ] || return
+    grep -q '"again":".* --look' "$folder/one.told" || return
     read -r -a words < <(sed -n 's/^found first: //p' "$folder/one.told")
-    fresh "$folder/$1" "${words[@]}" --trace "$folder/two" >"$folder/two.told" 2>&1 || [ $? -eq 1 ]
+    fresh "$folder/$1" "${words[@]}" --trace "$folder/two" >"$folder/two.told" 2>&1 || [ $? -eq 1 ] || return
     wc -l "$folder"/{one,two}
-    [ "$(event "$folder/one.told")" -le "$(event "$folder/two.told")" ]
-    [ "$(wc -l <"$folder/one")" -lt "$(wc -l <"$folder/two")" ]
+    [ "$(event "$folder/one.told")" -le "$(event "$folder/two.told")" ] && [ "$(wc -l <"$folder/one")" -lt "$(wc -l <"$folder/two")" ]
 }
 unset JOB
 FAULT=WRONG
