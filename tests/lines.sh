@@ -276,14 +276,12 @@ runs 'the other job' 0 --rounds 20 --threads 2 --seed 1000001 "${file[@]}" right
 second=$(is_of)
 runs 'both jobs' 0 --jobs 2 --rounds 40 --threads 2 "${jobs[@]}" right
 ends 'both jobs: what they have counted' 0 test "$(is_of)" -eq "$((first + second))"
-runs 'a wrong store by two jobs' 1 --jobs 2 --seconds 60 "${jobs[@]}" commit
+runs 'a wrong store by two jobs' 1 --jobs 2 --seconds 60 "${one[@]}" commit
 prints 'a wrong store by two jobs' '"certain":true'
 ends 'a program that fails in each job' 4 bench --jobs 2 --rounds 1000 -- false
 ends 'a program that fails in each job: one fault' 0 test "$(<printed)" = '{"fault":"program"}'
-for store in 'one reads' 'lock registers commit'; do
-    read -r -a words <<<"$store"
-    of=(--setup 'rm -f registers; echo up >>each' --teardown 'echo down >>each' --trace small -- ./little "${words[@]}")
-    [ "${words[0]}" = lock ] || of=(--one "${of[@]}")
+for store in reads commit; do
+    of=(--setup 'echo up >>each' --teardown 'echo down >>each' --trace small --one -- ./little one $store)
     rm -f each
     runs "a smaller run, $store" 1 --smaller "${of[@]}"
     cp small twice && cp said small.said
