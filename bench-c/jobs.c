@@ -41,8 +41,7 @@ static void show_progress(FILE *file)
 /* Returns once this process may tell what came out, and the line of progress is cleared. If another does, this one is killed. */
 static void claim(FILE *progress)
 {
-    unsigned nobody = 0;
-    while (!atomic_compare_exchange_strong(&jobs->teller, &nobody, own_job + 1) && nobody != own_job + 1)
+    for (unsigned nobody = 0; !atomic_compare_exchange_strong(&jobs->teller, &nobody, own_job + 1) && nobody != own_job + 1; nobody = 0)
         pause();
     if (progress)
         fputs("\r\033[K", progress);
