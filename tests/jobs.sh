@@ -116,7 +116,7 @@ repeats() {
 by_another() {
     local seed
     for seed in 1 2 3 4 5 6; do
-        ODDS=70000 repeats jobs --jobs 3 --seconds 60 --seed $seed || return
+        ODDS=30000 repeats jobs --jobs 3 --seconds 100 --seed $seed || return
         ! again "$folder/one.told" | grep -q -- "--seed [12]00000$seed " || return 0
     done
     return 1
