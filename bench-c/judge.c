@@ -1,10 +1,8 @@
 /* The judge: it judges what the threads record until they end, the time is up, or nothing comes for too long. */
 
-static atomic_bool is_interrupted;
-
 void tmwatch_bench_end(void)
 {
-    is_interrupted = true;
+    jobs->is_interrupted = true;
 }
 
 /* Why the memory can't answer, or null. */
@@ -33,21 +31,22 @@ static uint64_t judge_some(struct bench *b)
 
 /* A look counts for MOST_WAITED at most, and while the runner computes for what the process was given: neither a debugger's stop nor a load
    is a wait. For MOST_STEPS or rescues without an event no time counts: each other thread tries until it is held for one that waits. */
-enum { MOST_WAITED = SECOND / 200, SHOWN_EACH = SECOND / 2, INTERRUPTED_WAIT = SECOND / 2, MOST_STEPS = MOST_THREADS * MOST_SPIN };
+enum { MOST_WAITED = SECOND / 200, INTERRUPTED_WAIT = SECOND / 2, MOST_STEPS = MOST_THREADS * MOST_SPIN };
 
-static void show_progress(struct bench *b, uint64_t now)
+static void note_progress(struct bench *b, uint64_t now)
 {
     const tmwatch_benched *all = &b->session->all;
     tmwatch_counts counts;
     tmwatch_told told;
+    jobs->job[own_job].counts[0] = all->rounds + (by_permits(b) || b->round == 0 ? 0 : b->round - 1);
     if (!b->plan.progress || now - b->session->shown < SHOWN_EACH || tmwatch_summary(&b->watch, &counts) != TMWATCH_DONE ||
         tmwatch_report(&b->watch, &told) != TMWATCH_DONE)
         return;
     b->session->shown = now;
-    uint64_t rounds = all->rounds + (by_permits(b) || b->round == 0 ? 0 : b->round - 1);
-    fprintf(b->plan.progress, "\r\033[K%" PRIu64 " rounds, %" PRIu64 " events, %" PRIu64 " unasked aborts", rounds,
-            all->told.events + told.events, all->counts.unasked + counts.unasked);
-    fflush(b->plan.progress);
+    jobs->job[own_job].counts[1] = all->told.events + told.events;
+    jobs->job[own_job].counts[2] = all->counts.unasked + counts.unasked;
+    if (jobs == &alone)
+        show_progress(b->plan.progress);
 }
 
 /* Judges until all threads have ended, or nothing has come for too long, and then what is left. Meanwhile it looks whether a time is up. */
@@ -70,10 +69,10 @@ static void judge(struct bench *b)
         steps_moved = has_moved ? steps : steps_moved;
         bool steps_on = steps != steps_before && steps - steps_moved < MOST_STEPS;
         b->idle = has_moved || steps_on ? 0 : b->idle + (passed < MOST_WAITED ? passed : MOST_WAITED);
-        b->session->is_stuck = failure || (is_interrupted && b->idle >= INTERRUPTED_WAIT) ||
+        b->session->is_stuck = failure || (jobs->is_interrupted && b->idle >= INTERRUPTED_WAIT) ||
                                (b->plan.patience > 0 && b->idle / SECOND >= b->plan.patience);
-        show_progress(b, now);
-        b->has_no_time = is_interrupted || (b->plan.seconds > 0 && (now - b->session->began) / SECOND >= b->plan.seconds);
+        note_progress(b, now);
+        b->has_no_time = jobs->is_interrupted || (b->plan.seconds > 0 && (now - b->session->began) / SECOND >= b->plan.seconds);
         bool is_timed = b->most_time > 0 && (!by_steps(b) || b->has_asked);
         b->is_late = b->has_no_time || (is_timed && now - began >= b->most_time);
     }
@@ -88,8 +87,7 @@ static void judge(struct bench *b)
 static void tell_lost(struct bench *b)
 {
     static const char *const places[] = {"none", "begin", "read", "write", "add", "commit", "abort", "run"};
-    if (b->plan.progress)
-        fputs("\r\033[K", b->plan.progress);
+    claim(b->plan.progress);
     if (failure)
         fprintf(stderr, "%s\n", failure);
     else if (!b->session->is_stuck) {

@@ -131,6 +131,7 @@ static void set_again(struct session *session, const tmwatch_plan *plan, uint64_
     if (has_steps) {
         all->again.rounds = all->again.round = rounds > 0 ? rounds : 1;
         all->again.seconds = all->again.event = 0;
+        all->again.look = session->plan->look && session->plan->round == all->again.round;
     }
     all->is_certain = has_steps && is_given && all->rescues == 0 && all->waits == 0 && !plan->goes_on;
 }
@@ -161,7 +162,7 @@ static uint32_t run_legs(struct session *session)
         b->most_time = time_of_leg(session, it.schedule);
         b->delays = leg == 0 && session->second_runs ? &session->second_runs->delays : NULL;
         print_leg(plan->legs, leg + 1, it);
-        uint64_t began = microseconds_of(CLOCK_MONOTONIC), before = all->told.events;
+        uint64_t began = microseconds_of(CLOCK_MONOTONIC);
         status = run_leg(b, session, &it, &out);
         add_leg(all, &out);
         set_again(session, &it, leg, &out);
@@ -169,8 +170,9 @@ static uint32_t run_legs(struct session *session)
         goes_on = status == TMWATCH_DONE && (plan->schedule == TMWATCH_ALL || out.crashes > 0) && !is_wrong(plan, &out) && !b->has_no_time &&
                   !session->is_stuck && out.rejected == 0 && all->rounds < plan->rounds && keep_start(b, out.told.events);
         if (!goes_on && status == TMWATCH_DONE) {
+            come_to_tell(all, is_wrong(plan, all) || session->is_stuck || out.rejected > 0);
             if (plan->trace)
-                all->from = before + write_trace(b, out.told);
+                all->from = all->told.events - out.told.events + write_trace(b, out.told);
             if (plan->listing && (out.told.at > 0 || out.rejected > 0))
                 write_steps(b, plan->listing, out.rounds);
             status = failure ? TMWATCH_FAILED : session->is_stuck ? TMWATCH_STUCK : out.rejected > 0 ? TMWATCH_NO_PROGRESS : TMWATCH_DONE;
@@ -184,7 +186,7 @@ static uint32_t run_legs(struct session *session)
 
 uint32_t tmwatch_bench(const tmwatch_memory *memory, const tmwatch_plan *plan, tmwatch_benched *benched)
 {
-    uint64_t now = microseconds_of(CLOCK_MONOTONIC);
+    uint64_t now = jobs->began > 0 ? jobs->began : microseconds_of(CLOCK_MONOTONIC);
     uint32_t status = check(memory, plan);
     if (status != TMWATCH_DONE)
         return status;
@@ -193,8 +195,7 @@ uint32_t tmwatch_bench(const tmwatch_memory *memory, const tmwatch_plan *plan, t
     start_second_runs(&session);
     status = run_legs(&session);
     end_second_runs(&session, status);
-    if (plan->progress)
-        fputs("\r\033[K", plan->progress);
+    claim(plan->progress);
     if (has_run(status))
         *benched = session.all;
     end_threads(&session, session.is_stuck);

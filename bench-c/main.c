@@ -159,35 +159,73 @@ static void catch_signal(int signal, struct sigaction *before)
         sigaction(signal, &action, NULL);
 }
 
-/* Runs the bench as the words say, and answers with the exit status. */
-static int run_given(const tmwatch_memory *memory, struct given *given, const char *program)
+/* Runs the bench in this process, tells what came out, and answers with the exit status. */
+static int run_here(const tmwatch_memory *memory, struct given *given, const char *program)
 {
-    struct sigaction interrupt, end;
     tmwatch_benched benched;
-    if (given->trace && !(given->plan.trace = fopen(given->trace, "w")))
-        return tell_unwritten(given->trace);
-    if (given->trace)
-        given->plan.listing = open_memstream(&given->steps, &given->size);
-    catch_signal(SIGINT, &interrupt);
-    catch_signal(SIGTERM, &end);
+    if (tmwatch_bench_job && !tmwatch_bench_job(own_job, &given->plan))
+        _Exit(is_last ? LEFT : 4);
     uint32_t status = tmwatch_bench(memory, &given->plan, &benched);
-    sigaction(SIGINT, &interrupt, NULL);
-    sigaction(SIGTERM, &end, NULL);
+    sigaction(SIGINT, &given->interrupt, NULL);
+    sigaction(SIGTERM, &given->end, NULL);
     bool is_written = !given->trace || write_files(given, &benched, has_run(status));
     int result = tell_result(status, &benched);
     if (!is_written)
         result = tell_unwritten(given->trace);
     if (given->junit && !write_junit(given->junit, program, status, &benched))
         result = tell_unwritten(given->junit);
-    /* What the program would give back at its end, threads that are stuck still use. */
-    if (status == TMWATCH_STUCK || status == TMWATCH_FAILED)
+    if (is_last) {
+        fputs("found first: ", stderr);
+        tmwatch_bench_words(stderr, &jobs->job[own_job].benched.again);
+        fputc('\n', stderr);
+    }
+    /* What the program would give back at its end, threads that are stuck still use, or the process that it is a job of. */
+    if (status == TMWATCH_STUCK || status == TMWATCH_FAILED || jobs != &alone)
         _Exit(result);
     return result;
 }
 
+/* Looks after the jobs until one has told what came out, or a last one a smaller run that shows it: answers with the exit status. */
+static int look_after(const tmwatch_memory *memory, struct given *given, const char *program)
+{
+    struct job *teller = await_teller(given->plan.progress), last = {.seed = teller->seed};
+    if (jobs->offers && make_smaller(memory, &teller->benched, &given->plan) && (last.process = split()) == 0) {
+        own_job = (unsigned)(teller - jobs->job);
+        is_last = true;
+        return run_here(memory, given, program);
+    }
+    int result = last.process > 0 ? end_as(&last) : LEFT;
+    jobs->goes = result == LEFT;
+    result = jobs->goes ? end_as(teller) : result;
+    kill_job(teller);
+    alone.is_interrupted = jobs->is_interrupted;
+    munmap(jobs, sizeof *jobs);
+    jobs = &alone;
+    sigaction(SIGINT, &given->interrupt, NULL);
+    sigaction(SIGTERM, &given->end, NULL);
+    return result;
+}
+
+/* Runs the bench as the words say, in this process or in jobs, and answers with the exit status. */
+static int run_given(const tmwatch_memory *memory, struct given *given, const char *program)
+{
+    unsigned count = count_jobs(&given->plan, given->jobs);
+    bool splits = (count > 1 || given->smaller) && can_split();
+    if (given->smaller && !splits)
+        fputs("--smaller: not with a debugger, other threads, or bytes or files that are shared\n", stderr);
+    if (given->trace && !(given->plan.trace = fopen(given->trace, "w")))
+        return tell_unwritten(given->trace);
+    if (given->trace)
+        given->plan.listing = open_memstream(&given->steps, &given->size);
+    catch_signal(SIGINT, &given->interrupt);
+    catch_signal(SIGTERM, &given->end);
+    bool looks_after = splits && !start_jobs(&given->plan, count, given->smaller);
+    return (looks_after ? look_after : run_here)(memory, given, program);
+}
+
 int tmwatch_bench_main(const tmwatch_memory *memory, int count, char **words)
 {
-    struct given given = {.plan = TMWATCH_PLAN};
+    struct given given = {.plan = TMWATCH_PLAN, .jobs = TMWATCH_DRAWN};
     if (count == 2 && strcmp(words[1], "--help") == 0) {
         printf("usage: %s [OPTION VALUE]..\nRuns random transactions on a memory, and judges whether it is opaque.\n", words[0]);
         tmwatch_bench_options(stdout);
@@ -201,7 +239,8 @@ int tmwatch_bench_main(const tmwatch_memory *memory, int count, char **words)
     const char *wrong = read_words(&given, count > 0 ? words + 1 : words);
     given.plan.legs = given.legs ? stderr : NULL;
     given.plan.progress = !given.quiet && isatty(fileno(stderr)) ? stderr : NULL;
-    if (wrong || check(memory, &given.plan) != TMWATCH_DONE)
+    bool is_beyond = given.jobs != TMWATCH_DRAWN && (given.jobs < 1 || given.jobs > MOST_JOBS);
+    if (wrong || is_beyond || check(memory, &given.plan) != TMWATCH_DONE)
         return tell_usage(wrong, memory, &given.plan);
     return run_given(memory, &given, count > 0 ? words[0] : "memory");
 }

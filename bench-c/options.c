@@ -12,9 +12,10 @@ static const char *const *choices_of(size_t to)
 struct given {
     tmwatch_plan plan;
     const char *trace, *junit;
-    uint64_t legs, quiet;
+    uint64_t jobs, smaller, legs, quiet; /* (jobs may be TMWATCH_DRAWN) */
     char *steps;
     size_t size;
+    struct sigaction interrupt, end; /* what was set for SIGINT and SIGTERM */
 };
 #define IN(field) offsetof(struct given, field)
 
@@ -33,6 +34,7 @@ static const struct option options[] = {
     {"--seed", "N", TO(seed), "what all is drawn from (1)"},
     {"--round", "N", TO(round), "by steps: the last one; tmwatch_break is called before it"},
     {"--event", "N", TO(event), "with --round: it is called before this event of the round"},
+    {"--look", "", TO(look), "with --round: its trace is that round, after a look"},
     {"--threads", "1-8", TO(threads), "(4; by all, drawn for each leg, as the next eight)"},
     {"--registers", "1-8", TO(registers), "(3)"},
     {"--calls", "1-16", TO(calls), "registers that a transaction uses (3)"},
@@ -52,6 +54,8 @@ static const struct option options[] = {
     {"--patience", "N", TO(patience), "seconds without an event or progress until the run is given up (5)"},
     {"--trace", "FILE", IN(trace), "the run's end; FILE.run: of which run; FILE.steps: its steps"},
     {"--junit", "FILE", IN(junit), "what came out, as CI systems read it"},
+    {"--jobs", "1-64", IN(jobs), "processes, by a seed each (1; by --seconds alone, one for each processor)"},
+    {"--smaller", "", IN(smaller), "a certain violation by fewer threads, registers, calls and events"},
     {"--legs", "", IN(legs), "the plan of each leg on standard error"},
     {"--quiet", "", IN(quiet), "no progress on a terminal"},
     {NULL, NULL, SIZE_MAX, NULL},

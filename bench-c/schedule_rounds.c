@@ -7,7 +7,7 @@ static void end_round(tmwatch_attempt *a, uint64_t round)
     b->is_over = b->stops || b->is_late || round == b->plan.rounds;
     if (!b->is_over && round + 1 == b->plan.round && b->plan.event == 0)
         tmwatch_break();
-    if (!b->stops && (b->is_over || round % LOOK == 0))
+    if (!b->stops && (b->is_over || round % LOOK == 0 || (b->plan.look && round + 1 == b->plan.round)))
         look(a);
     b->is_over = b->is_over || b->rejected.made > 0;
 }

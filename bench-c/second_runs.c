@@ -81,7 +81,7 @@ static void make_second_runs(struct session *session)
     dup2(none, STDERR_FILENO);
     await(&it->goes);
     setrlimit(RLIMIT_CPU, &(struct rlimit){MOST_SECONDS, MOST_SECONDS});
-    for (unsigned i = 0; i < it->delays.count && !it->is_violated && !is_interrupted; i++) {
+    for (unsigned i = 0; i < it->delays.count && !it->is_violated && !jobs->is_interrupted; i++) {
         it->delays.made = &it->delays.found[i];
         pid_t child = fork();
         if (child == 0) {
@@ -117,11 +117,12 @@ static void end_second_runs(struct session *session, uint32_t status)
     tmwatch_benched *all = &session->all;
     if (!it)
         return;
-    if (status != TMWATCH_DONE || is_wrong(session->plan, all) || all->unseen || all->race[0] || all->waits || session->asks || is_interrupted)
+    if (status != TMWATCH_DONE || is_wrong(session->plan, all) || all->unseen || all->race[0] || all->waits || session->asks ||
+        jobs->is_interrupted)
         it->delays.count = 0;
     post(&it->goes);
-    while (it->process > 0 && waitpid(it->process, NULL, 0) < 0 && errno == EINTR)
-        ;
+    if (it->process > 0)
+        await_process(it->process);
     if (it->is_violated)
         tmwatch_orders_tell_delay(it->delays.made, all->delayed, sizeof all->delayed);
     if (it->is_violated && session->plan->listing)

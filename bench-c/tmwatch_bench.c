@@ -2,6 +2,7 @@
 #define _GNU_SOURCE
 #include "bench.h"
 #include "time.c"
+#include "jobs.c"
 #include "plan.c"
 #include "draws.c"
 #include "attempts.c"
@@ -19,4 +20,5 @@
 #include "legs.c"
 #include "options.c"
 #include "report.c"
+#include "smaller.c"
 #include "main.c"

@@ -23,6 +23,8 @@ _Noreturn void fail(unsigned thread, const char *format, ...)
     va_end(words);
     if (is_running)
         tmwatch_bench_fail(text);
+    while (atomic_exchange(&shared->has_failed, true))
+        pause();
     fprintf(stderr, "%s\n", text);
     puts("{\"fault\":\"program\"}");
     fflush(stdout);

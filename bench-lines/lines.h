@@ -10,6 +10,7 @@
 enum {
     MOST_THREADS = 8,
     MOST_REGISTERS = 8,
+    MOST_JOBS = 64,
     MOST_LINE = 64, /* of a line, with its end */
     FAULT = 4       /* the exit status */
 };
@@ -25,6 +26,7 @@ struct options {
     const char *crash;               /* the same: kills the store and starts it again */
     uint64_t seed;
     const char *whole;           /* the file of the whole run, or null */
+    uint64_t jobs;               /* how many runs there are at once */
     uint64_t start, wait;        /* seconds until a program is ready; milliseconds until a call waits, or 0 if that is found out */
     unsigned threads, registers; /* how many at most */
     char **program;              /* its words, up to a null */
@@ -43,9 +45,18 @@ struct program {
 /* main.c */
 uint64_t now(void);
 
-/* supervisor.c: makes a run in processes that end all that they have started, and returns the exit status; notes a program to be ended. */
+/* What the processes of a run share: what a run of any job has shown; whether a job has failed before its run, or had one; the programs' leaders. */
+struct shared {
+    atomic_bool have_met /* two calls have run at once */, is_to_add, has_added, has_failed, has_run[MOST_JOBS];
+    pid_t supervisor, programs[MOST_JOBS][MOST_THREADS];
+};
+extern struct shared *shared;
+
+/* supervisor.c: makes a run in processes that end all that they have started, and returns the exit status; notes a program to be ended; begins as
+   this job, whose store is as it was set up. */
 int supervise_run(int (*run)(void));
 void note_program(unsigned number, pid_t pid);
+bool begin_job(unsigned job);
 bool run_command(const char *name, const char *command);
 
 /* programs.c */
@@ -78,7 +89,6 @@ void open_record(void);
 void record(unsigned thread, const char *event);
 
 /* waits.c */
-extern atomic_bool have_met;
 void await_answer(unsigned thread);
 
 /* memory.c */

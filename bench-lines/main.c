@@ -8,11 +8,12 @@ The bench is that of tmwatch_bench.h, and so are all options but those listed he
 #include "lines.h"
 #include <errno.h>
 #include <inttypes.h>
+#include <signal.h>
 #include <stdlib.h>
 #include <string.h>
 #include <time.h>
 
-struct options options = {.by_all = true, .seed = 1, .start = 60, .threads = MOST_THREADS, .registers = MOST_REGISTERS};
+struct options options = {.by_all = true, .seed = 1, .start = 60, .threads = MOST_THREADS, .registers = MOST_REGISTERS, .jobs = 1};
 
 /* The words of the bench: its name, what was given, and a null. */
 static char **bench_words;
@@ -38,9 +39,10 @@ static const struct option {
            {"--whole", "FILE", "the whole run as a trace; rounds go on after a violation", NULL, &options.whole, NULL},
            {"--add", "", "the program adds (N); --adds needs it", &options.has_add, NULL, NULL},
            {"--wide", "", "values have all 64 bits (they are small)", &options.has_wide, NULL, NULL},
+           {"--jobs", "1-64", "runs at once, a store each: the setup runs for each, with TMWATCH_JOB (1)", NULL, NULL, &options.jobs},
            {"--start", "SECONDS", "until each program is ready (60)", NULL, NULL, &options.start},
            {"--wait", "MS", "a call that takes longer waits for another client (is found out)", NULL, NULL, &options.wait}};
-enum { OWN = sizeof own / sizeof own[0], MOST_NUMBER = 1000000, USUAL_THREADS = 4, MORE_WORDS = 4 };
+enum { OWN = sizeof own / sizeof own[0], MOST_NUMBER = 1000000, USUAL_THREADS = 4, MORE_WORDS = 6 };
 
 /* Prints the options of the bench, but for those that say nothing of a program elsewhere. */
 static void tell_bench_options(void)
@@ -53,7 +55,7 @@ static void tell_bench_options(void)
     tmwatch_bench_options(file);
     fclose(file);
     for (char *line = strtok(text, "\n"); line; line = strtok(NULL, "\n"))
-        if (sscanf(line, "%15s", name) == 1 && !strstr("--event --orders --plain --races", name))
+        if (sscanf(line, "%15s", name) == 1 && !strstr("--event --jobs --orders --plain --races", name))
             puts(line);
     free(text);
 }
@@ -154,12 +156,27 @@ static char *name_of_run(void)
     return file && fclose(file) == 0 ? name : options.program[0];
 }
 
+/* In each process of a job, before its run. Signals end it meanwhile. */
+bool tmwatch_bench_job(unsigned job, const tmwatch_plan *plan)
+{
+    struct sigaction interrupt, end, usual = {.sa_handler = SIG_DFL};
+    options.seed = plan->seed;
+    sigaction(SIGINT, &usual, &interrupt);
+    sigaction(SIGTERM, &usual, &end);
+    bool is_begun = begin_job(job);
+    if (is_begun) {
+        begin_crashes();
+        open_record();
+        start_programs();
+    }
+    sigaction(SIGINT, &interrupt, NULL);
+    sigaction(SIGTERM, &end, NULL);
+    return is_begun;
+}
+
 static int run_bench(void)
 {
     const tmwatch_memory memory = lines_memory();
-    begin_crashes();
-    open_record();
-    start_programs();
     int status = tmwatch_bench_main(&memory, bench_count, bench_words);
     if (status == 0)
         tell_left_open();
@@ -191,6 +208,11 @@ int main(int count, char **words)
         return tell_usage("no program: it comes after --", "");
     if (options.whole && options.crash)
         return tell_usage("a run with crashes is no whole trace: --whole", "");
+    if (options.jobs > MOST_JOBS)
+        return tell_usage("more jobs than 64: --jobs", "");
+    char jobs[] = {(char)('0' + options.jobs / 10), (char)('0' + options.jobs % 10), '\0'};
+    bench_words[bench_count++] = "--jobs";
+    bench_words[bench_count++] = jobs;
     if (!options.has_wide)
         bench_words[bench_count++] = "--small";
     if (options.whole)

@@ -8,9 +8,6 @@
 /* Whether anything was written: before that, each register holds 0. */
 static atomic_bool is_written;
 
-/* Whether the program was to add, and has. */
-static atomic_bool is_to_add, has_added;
-
 /* Fails, since the answer is none to this call. */
 static _Noreturn void fail_answer(unsigned thread, const char *answer, const char *wanted)
 {
@@ -92,10 +89,10 @@ static bool add_to_register(void *memory, void *tx, unsigned reg, uint64_t adden
 {
     unsigned thread = tmwatch_thread();
     (void)memory, (void)tx;
-    is_written = is_to_add = true;
+    is_written = shared->is_to_add = true;
     bool is_done = has_value(thread, ask(thread, "N %u %" PRIu64, reg, addend), before);
     if (is_done)
-        has_added = true;
+        shared->has_added = true;
     return is_done;
 }
 
@@ -116,9 +113,9 @@ static void abort_transaction(void *memory, void *tx)
 /* Says what a run in which nothing was wrong has left out. */
 void tell_left_open(void)
 {
-    if (options.by_all && !have_met)
+    if (options.by_all && !shared->have_met)
         fputs("no two calls ran at once: run it by --schedule rounds or permits too\n", stderr);
-    if (is_to_add && !has_added)
+    if (shared->is_to_add && !shared->has_added)
         fputs("each N was answered by A: does the program add?\n", stderr);
 }
 

@@ -23,12 +23,22 @@ the second, or else to the first.
 #define TWICE (SECOND / 2)
 enum { TRIES = 100, TRIES_BY_TERM = 25, EACH_TRY = 20000 /* microseconds */ };
 
-/* The leaders of the programs' groups: the bench writes them, and another process ends them. */
-static pid_t *programs;
+/* The bench writes the leaders of the programs' groups, and another process ends them. */
+struct shared *shared;
+
+/* Which job this process is. */
+static unsigned own_job;
 
 void note_program(unsigned number, pid_t pid)
 {
-    programs[number] = pid;
+    shared->programs[own_job][number] = pid;
+}
+
+static void be_job(unsigned job)
+{
+    const char number[] = {(char)('0' + job / 10), (char)('0' + job % 10), '\0'};
+    own_job = job;
+    setenv("TMWATCH_JOB", job < 10 ? number + 1 : number, 1);
 }
 
 /* Who gets the signals that come: a process, or by a negative number a group. */
@@ -73,8 +83,9 @@ static int wait_for(pid_t pid, bool has_group)
     signalled = has_group ? -pid : pid;
     if (is_interrupted)
         kill(signalled, SIGTERM);
-    while (waitpid(pid, &status, 0) < 0 && errno == EINTR)
-        ;
+    /* (what others have left behind ends too) */
+    for (pid_t ended = 0; ended != pid && (ended >= 0 || errno == EINTR);)
+        ended = waitpid(has_group ? pid : -1, &status, 0);
     signalled = 0;
     return status;
 }
@@ -111,15 +122,41 @@ bool run_command(const char *name, const char *command)
     return status == 0;
 }
 
+/* Runs a command for the job, if there is one. */
+static bool run_for(unsigned job, const char *name, const char *command)
+{
+    be_job(job);
+    return !command || run_command(name, command);
+}
+
+bool begin_job(unsigned job)
+{
+    if (!atomic_exchange(&shared->has_run[job], true))
+        return job < options.jobs ? run_for(job, "", NULL) : run_for(job, "the setup", options.setup);
+    for (unsigned i = 0; i < MOST_THREADS; i++)
+        if (shared->programs[job][i] > 0)
+            kill(-shared->programs[job][i], SIGKILL);
+    return run_for(job, "the teardown", options.teardown) && run_for(job, "the setup", options.setup);
+}
+
+/* Signals each group of programs: whether one is left. */
+static bool signal_programs(int signal)
+{
+    bool is_left = false;
+    for (unsigned i = 0; i < MOST_JOBS * MOST_THREADS; i++) {
+        pid_t leader = shared->programs[i / MOST_THREADS][i % MOST_THREADS];
+        is_left = (leader > 0 && kill(-leader, signal) == 0) || is_left;
+    }
+    return is_left;
+}
+
 /* Whether all groups of programs are gone by then. */
 static bool are_gone(uint64_t until)
 {
     for (;; usleep(EACH_TRY / 4)) {
-        bool is_left = false;
         while (waitpid(-1, NULL, WNOHANG) > 0)
             ;
-        for (unsigned i = 0; i < MOST_THREADS; i++)
-            is_left = is_left || (programs[i] > 0 && kill(-programs[i], 0) == 0);
+        bool is_left = signal_programs(0);
         if (!is_left || now() >= until)
             return !is_left;
     }
@@ -130,9 +167,7 @@ static void end_programs(void)
 {
     static const int signals[] = {SIGTERM, SIGKILL};
     for (unsigned i = 0; !are_gone(now() + (i == 0 ? OWN_END : END)) && i < 2; i++)
-        for (unsigned j = 0; j < MOST_THREADS; j++)
-            if (programs[j] > 0)
-                kill(-programs[j], signals[i]);
+        signal_programs(signals[i]);
 }
 
 /* Signals each child: whether there was any. */
@@ -167,8 +202,8 @@ static void end_run(void)
 {
     end_programs();
     is_interrupted = 0;
-    if (options.teardown)
-        run_command("the teardown", options.teardown);
+    for (unsigned job = 0; job < options.jobs; job++)
+        run_for(job, "the teardown", options.teardown);
     end_children();
 }
 
@@ -182,8 +217,11 @@ static int run_bench(int (*run)(void))
 static int make_run(int (*run)(void))
 {
     int status = 0, result = FAULT;
+    bool is_set_up = true;
     prctl(PR_SET_CHILD_SUBREAPER, 1);
-    bool is_set_up = !options.setup || run_command("the setup", options.setup);
+    shared->supervisor = getpid();
+    for (unsigned job = 0; job < options.jobs && is_set_up; job++)
+        is_set_up = run_for(job, "the setup", options.setup);
     if (is_set_up && !is_interrupted) {
         status = wait_for(start_own(run_bench, run), false);
         result = WIFSIGNALED(status) ? 128 + WTERMSIG(status) : WEXITSTATUS(status);
@@ -198,9 +236,10 @@ static int make_run(int (*run)(void))
 
 int supervise_run(int (*run)(void))
 {
-    programs = mmap(NULL, MOST_THREADS * sizeof *programs, PROT_READ | PROT_WRITE, MAP_SHARED | MAP_ANONYMOUS, -1, 0);
-    if (programs == MAP_FAILED)
+    void *mapped = mmap(NULL, sizeof *shared, PROT_READ | PROT_WRITE, MAP_SHARED | MAP_ANONYMOUS, -1, 0);
+    if (mapped == MAP_FAILED)
         return FAULT;
+    shared = mapped;
     prctl(PR_SET_CHILD_SUBREAPER, 1);
     catch_signals(hand_on);
     int status = wait_for(start_own(make_run, run), false);

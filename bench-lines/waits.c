@@ -60,9 +60,11 @@ static bool has_computing_child(const char *task)
     return is_found;
 }
 
-/* Whether a process computes, or one that has come from it. This one and its parent don't count. */
+/* Whether a process computes, or one that has come from it. This one and its parent don't count, nor other jobs. */
 static bool computes(pid_t pid)
 {
+    if (pid == getppid() && pid != shared->supervisor)
+        return computes(getpid());
     char name[40], task[80];
     snprintf(name, sizeof name, "/proc/%d/task", (int)pid);
     DIR *folder = opendir(name);
@@ -82,13 +84,10 @@ static bool is_answered_soon(unsigned thread, uint64_t began)
 {
     bool is_there = is_answered(thread, began + longest_answer());
     for (int quiet = 0; !is_there && options.wait == 0 && quiet < QUIET_LOOKS && now() - began < LONGEST;
-         quiet = computes(getppid()) ? 0 : quiet + 1)
+         quiet = computes(shared->supervisor) ? 0 : quiet + 1)
         is_there = is_answered(thread, now() + EACH_LOOK);
     return is_there;
 }
-
-/* Whether two calls have run at once: in rounds or by permits, and not by steps. */
-atomic_bool have_met;
 
 static bool has_call_beside(unsigned thread)
 {
@@ -102,8 +101,8 @@ static bool has_call_beside(unsigned thread)
 void await_answer(unsigned thread)
 {
     bool is_beside_others = tmwatch_asks();
-    if (!is_beside_others && !have_met)
-        have_met = has_call_beside(thread);
+    if (!is_beside_others && !shared->have_met)
+        shared->have_met = has_call_beside(thread);
     uint64_t began = now();
     if (is_beside_others && !is_answered_soon(thread, began))
         tmwatch_waits();

@@ -150,12 +150,13 @@ typedef struct tmwatch_plan {
     uint64_t small;     /* 1: values are small, and addends below 2^16, for words of fewer than 64 bits; or 0 */
     uint64_t goes_on;   /* 1: in one leg, rounds go on after what is wrong, for who records the whole run; or 0 */
     uint64_t crashes;   /* 1: the memory calls tmwatch_bench_crash, so that a thread and one of eight attempts are left free; or 0 */
+    uint64_t look;      /* 1: with `round`, a look comes before that, so that a trace of it begins there; or 0 */
 } tmwatch_plan;
 
 /* clang-format off */
 #define TMWATCH_PLAN                                                                                                                     \
     {100000, 1, TMWATCH_DRAWN, TMWATCH_DRAWN, TMWATCH_DRAWN, 0, TMWATCH_DRAWN, TMWATCH_DRAWN, TMWATCH_DRAWN, TMWATCH_DRAWN, 0,             \
-     TMWATCH_ALL, {0, 0, 0, 0, 0, 0, 0, 0}, NULL, TMWATCH_DRAWN, 0, TMWATCH_DRAWN, 0, 5, NULL, TMWATCH_DRAWN, 0, NULL, NULL, 0, 0, 0, 0}
+     TMWATCH_ALL, {0, 0, 0, 0, 0, 0, 0, 0}, NULL, TMWATCH_DRAWN, 0, TMWATCH_DRAWN, 0, 5, NULL, TMWATCH_DRAWN, 0, NULL, NULL, 0, 0, 0, 0, 0}
 /* clang-format on */
 
 /* How many bytes tell what the orders of C++20 have shown, and a race or a delayed load. */
@@ -298,6 +299,13 @@ TMWATCH_STUCK and TMWATCH_FAILED the program ends at once, by _Exit, since threa
 hold 0 at first.
 */
 int tmwatch_bench_main(const tmwatch_memory *memory, int count, char **words);
+
+/*
+By several jobs, or to make a run smaller, tmwatch_bench_main runs the memory in processes of their own, forked from this one, whose memory
+stays as it was. It doesn't if there are other threads, a debugger, or bytes, files or sockets that are shared and may be written. A program whose
+memory is made anew in each process defines this function: it is called there before the run, with the number of the job, and false ends that.
+*/
+bool tmwatch_bench_job(unsigned job, const tmwatch_plan *plan);
 
 /* A whole main for a tmwatch_memory; no semicolon follows. */
 #define TMWATCH_BENCH_MAIN(memory)                          \

@@ -1,6 +1,6 @@
 #!/usr/bin/env bash
 # Compiles the programs of tests/c and examples/c over the library for C, without a warning, and runs them; then runs tests/c_steps.sh,
-# tests/c_waits.sh, tests/runs.sh, tests/orders.sh and tests/bindings.sh over the same library.
+# tests/c_waits.sh, tests/runs.sh, tests/jobs.sh, tests/orders.sh and tests/bindings.sh over the same library.
 #
 #   tests/c.sh
 #
@@ -275,6 +275,7 @@ fi
 ends 'the bench by steps' 0 "$top/tests/c_steps.sh"
 ends 'what threads wait for' 0 "$top/tests/c_waits.sh"
 ends 'what the bench writes' 0 "$top/tests/runs.sh"
+ends 'jobs and smaller runs' 0 "$top/tests/jobs.sh"
 ends 'the orders of C++20' 0 "$top/tests/orders.sh"
 ends 'the bindings' 0 "$top/tests/bindings.sh"
 end_rows

@@ -62,7 +62,7 @@ def write_programs():
         lines = line.replace("} {", "}\n{")
         for status in STATUSES:
             name = f"./{kind}-{status}"
-            write_program(name, f"#!/bin/sh\ncat <<'END'\n{lines}\nEND\necho \"$@\" >&2\necho trace $3 >\"$7\"\nexit {status}\n")
+            write_program(name, f"#!/bin/sh\ncat <<'END'\n{lines}\nEND\necho \"$@\" >&2\necho trace $3 >\"$8\"\nexit {status}\n")
             programs.append((name, why_of(status, kind), lines))
     for name, signals in ("./endless", ""), ("./deaf", "trap '' TERM; "):
         write_program(name, f"#!/bin/sh\n{signals}echo '{LINES['opaque']}'\nsleep 20 & wait; sleep 20\n")
@@ -130,11 +130,11 @@ def look_at_files(check):
     for number, (name, _, printed) in enumerate(check.programs, 1):
         check.expect(f"{number}.json", read(f"{OUT}/{number}.json").strip(), printed)
         if name not in ("./endless", "./deaf", "./none"):
-            check.expect(f"{number}.log", read(f"{OUT}/{number}.log"), f"{' '.join(WORDS)} --quiet --trace {OUT}/{number}.trace\n")
+            check.expect(f"{number}.log", read(f"{OUT}/{number}.log"), f"{' '.join(WORDS)} --smaller --quiet --trace {OUT}/{number}.trace\n")
         check.expect(f"{number}.html", os.path.exists(f"{OUT}/{number}.html"), number in wrong)
     check.expect("pages", read("pages"), "".join("show --page --why --from 7 trace --seconds\n" for _ in wrong))
     check.expect("a page", [read(f"{OUT}/{number}.html") for number in wrong], ["page\n" for _ in wrong])
-    check.expect("limits", read("limits"), "-k 10 63\n" * len(check.programs))
+    check.expect("limits", read("limits"), "-k 10 123\n" * len(check.programs))
     for number in wrong:
         os.remove(f"{OUT}/{number}.html")
 
@@ -153,8 +153,8 @@ def look_at_defaults(check, bench):
     days = {time.strftime("%Y%m%d", time.gmtime())}
     check.run(bench, ["./opaque-0"], 0, EACH="", SEED="")
     days.add(time.strftime("%Y%m%d", time.gmtime()))
-    check.expect("the limit by default", read("limits"), "-k 10 120\n")
-    words = {f"--seed {day} --seconds 60 --quiet --trace {OUT}/1.trace\n" for day in days}
+    check.expect("the limit by default", read("limits"), "-k 10 180\n")
+    words = {f"--seed {day} --seconds 60 --smaller --quiet --trace {OUT}/1.trace\n" for day in days}
     check.expect("the words by default", read(f"{OUT}/1.log") in words, True)
 
 

@@ -260,16 +260,53 @@ END
     says 'a store in Python that prints' 'the store prints'
 fi
 
+# Jobs: a store each, whose setup, programs and teardown know its number; and a smaller run that shows a violation, in a store that is set up anew.
+jobs=(--setup 'rm -f registers$TMWATCH_JOB; echo up$TMWATCH_JOB >>each' --teardown 'echo down$TMWATCH_JOB >>each' -- sh -c
+    'echo job$TMWATCH_JOB >>each; exec ./little lock registers$TMWATCH_JOB "$1"' sh)
+rm -f each
+runs 'two jobs' 0 --jobs 2 --rounds 40 --threads 2 "${jobs[@]}" right
+prints 'two jobs' '"rounds":40,'
+ends 'two jobs: what ran for each' 0 diff <(sort each | uniq -c | xargs) <(echo 1 down0 1 down1 2 job0 2 job1 1 up0 1 up1)
+is_of() {
+    sed -n 's/^{"events":\([0-9]*\),.*/\1/p' printed
+}
+runs 'one job' 0 --rounds 20 --threads 2 "${file[@]}" right
+first=$(is_of)
+runs 'the other job' 0 --rounds 20 --threads 2 --seed 1000001 "${file[@]}" right
+second=$(is_of)
+runs 'both jobs' 0 --jobs 2 --rounds 40 --threads 2 "${jobs[@]}" right
+ends 'both jobs: what they have counted' 0 test "$(is_of)" -eq "$((first + second))"
+runs 'a wrong store by two jobs' 1 --jobs 2 --seconds 60 "${one[@]}" commit
+prints 'a wrong store by two jobs' '"certain":true'
+ends 'a program that fails in each job' 4 bench --jobs 2 --rounds 1000 -- false
+ends 'a program that fails in each job: one fault' 0 test "$(<printed)" = '{"fault":"program"}'
+for store in reads commit; do
+    of=(--setup 'echo up >>each' --teardown 'echo down >>each' --trace small --one -- ./little one $store)
+    rm -f each
+    runs "a smaller run, $store" 1 --smaller "${of[@]}"
+    cp small twice && cp said small.said
+    ends "a smaller run, $store: a setup for each try" 0 test "$(grep -c up each)" -gt 2 -a "$(grep -c up each)" -eq "$(grep -c down each)"
+    ends "a smaller run, $store: its round alone" 0 test "$(wc -l <small)" -lt 40
+    prints "a smaller run, $store" '"again":".* --look .*","certain":true'
+    read -r -a again < <(sed -n 's/.*"again":"\(.*\)","certain":true}$/\1/p' printed)
+    runs "a smaller run, $store, again" 1 "${again[@]}" "${of[@]}"
+    ends "a smaller run, $store: the same trace" 0 cmp small twice
+    ends "a smaller run, $store: what was found first" 0 grep -q '^found first: --seed 1 --round [0-9]* --small$' small.said
+    ends "a smaller run, $store: nothing is left" 0 is_clean
+done
+
 # Words.
 ends 'help' 0 ./tmwatch-bench --help
 has_told 'help: options of its own' '^  --setup  *COMMAND '
 ends 'help: options of the bench' 0 grep -q '^  --schedule  *WORD ' told
-ends 'help: none of memories in C' 1 grep -qE '^  --(event|orders|plain|races) ' told
+ends 'help: none of memories in C' 1 grep -qE '^  --(event|orders|plain|races) |by --seconds alone' told
 runs 'no program' 4 --one
 says 'no program' 'no program: it comes after --'
 runs 'a word that is none' 4 --ones -- ./little one right
 says 'a word that is none' 'wrong, or without its value: --ones'
-for words in '--start' '--start 0' '--wait x' '--setup'; do
+runs 'too many jobs' 4 --jobs 65 -- ./little one right
+says 'too many jobs' 'more jobs than 64: --jobs'
+for words in '--start' '--start 0' '--wait x' '--setup' '--jobs 0'; do
     # shellcheck disable=SC2086
     runs "$words" 4 $words
     ends "$words: what is said" 0 grep -q "^wrong, or without its value: ${words%% *}" said

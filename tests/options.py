@@ -16,8 +16,8 @@ import runs
 
 # What goes with an option, so that its bounds alone decide.
 BESIDE = {"round": ["--schedule", "steps"], "event": ["--round", "1"], "pause": ["--threads", "1"]}
-FILES = ["trace", "junit", "legs", "quiet"]
-FLAGS = ["plain", "small", "go-on", "crashes", "legs", "quiet"]
+FILES = ["trace", "junit", "jobs", "smaller", "legs", "quiet"]
+FLAGS = ["look", "smaller", "plain", "small", "go-on", "crashes", "legs", "quiet"]
 TAKES = dict.fromkeys(["schedule", "orders", "races"], "WORD") | {"trace": "FILE", "junit": "FILE"} | dict.fromkeys(FLAGS)
 # Numbers beyond a range that --help doesn't give, each with its further words; and the greatest ones within.
 REFUSED = [

@@ -25,12 +25,12 @@ REGISTERS, THREADS, LOOK, ATTEMPTS, LEG, KEPT, MOST_LOOKED, FIRST_ATTEMPTS = 8, 
 LOOK_ATTEMPTS = 200  # after which, and the plan's patience, a look may be given up
 # The options in their order, each with its default, and the usual number of those that may be drawn.
 DEFAULTS = {
-    "schedule": "all", "rounds": 100000, "seconds": 0, "seed": 1, "round": 0, "event": 0, "threads": UNDRAWN, "registers": UNDRAWN,
+    "schedule": "all", "rounds": 100000, "seconds": 0, "seed": 1, "round": 0, "event": 0, "look": 0, "threads": UNDRAWN, "registers": UNDRAWN,
     "calls": UNDRAWN, "writes": UNDRAWN, "adds": UNDRAWN, "aborts": UNDRAWN, "pause": UNDRAWN, "mixes": UNDRAWN, "blinds": UNDRAWN,
     "attempts": 0, "orders": UNDRAWN, "plain": 0, "races": "tell", "small": 0, "go-on": 0,
     "crashes": 0, "patience": 5,
 }  # fmt: skip
-FLAGS = ("plain", "small", "go-on", "crashes")
+FLAGS = ("look", "plain", "small", "go-on", "crashes")
 USUAL = dict(zip(legs.NAMES, legs.USUAL)) | {"orders": "sequential"}
 LACKS = {
     "threads": "one thread ran: no two transactions can overlap",
@@ -286,7 +286,8 @@ class Leg:
     def end_round(self, thread):
         """What is between two rounds: a look after each 64th, and at the end."""
         self.is_over = self.round == self.plan["rounds"]
-        if self.is_over or self.round % LOOK == 0:
+        looks = self.round % LOOK == 0 or (self.plan["look"] and self.round + 1 == self.plan["round"])
+        if self.is_over or looks:
             self.look(thread)
         self.is_over = self.is_over or self.rejected > 0
         self.round += 1
@@ -400,7 +401,7 @@ class Session:
             plan = read_options(words.split()) | {name: it for name, it in self.plan.items() if name in USUAL and it != UNDRAWN}
             left = self.plan["round"] - rounds
             plan |= {"rounds": min(LEG, self.plan["rounds"] - rounds), "round": left if 0 < left <= LEG else 0, "orders": "sequential"}
-            plan |= {name: self.plan[name] for name in ("seconds", "attempts", "event", "patience")}
+            plan |= {name: self.plan[name] for name in ("seconds", "attempts", "event", "look", "patience")}
             number, rounds = number + 1, rounds + plan["rounds"]
             yield plan
 
@@ -484,6 +485,7 @@ class Told:
         if is_certain:
             # (the first look is of round 1)
             again |= dict.fromkeys(("rounds", "round"), max(1, self.rounds())) | {"seconds": 0, "event": 0}
+            again["look"] = int(again["look"] and again["round"] == self.plan["round"])
         return {"again": words_of(again), "certain": is_certain}
 
     def rounds(self):

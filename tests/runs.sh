@@ -57,6 +57,10 @@ made LOST '--schedule permits --threads 1'
 made LEFT '--schedule permits --threads 1'
 made READS '--round 50 --event 3'
 made NONE '--round 1'
+# (a look before that round: a violation is found in it, or in another one)
+made LOST '--seed 3 --round 410 --look'
+made LOST '--schedule steps --round 900 --look'
+made NONE '--round 1070 --look --threads 2'
 for fault in BEGIN COMMIT CANCEL RUN-RUNS CANCEL-RUNS COMMIT-RUNS; do
     made $fault '--patience 1 --schedule steps'
 done

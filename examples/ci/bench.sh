@@ -3,7 +3,7 @@
 #
 #   bench.sh OUT PROGRAM..
 #
-# A PROGRAM is a memory on the bench (examples/c/norec.c). First come the lines of AGAIN, which found a violation once: a program and the
+# A PROGRAM is a memory on the bench (examples/c/norec.c), which by a time alone runs a job on each processor. What is found is made smaller. First come the lines of AGAIN, which found a violation once: a program and the
 # words that repeat it, as `./norec --seed 1 --round 7`. Comments begin with #. A test passes if its run is opaque so far and shows enough:
 # the bench says by `lacks` if it doesn't.
 #
@@ -62,7 +62,7 @@ for words in "${tests[@]}"; do
     number=$((number + 1)) ended=0 began=$SECONDS
     read -r -a command <<<"$words"
     # (a run ends by itself, also if it is stuck: this is for one that does not)
-    timeout -k 10 $((each + 60)) "${command[@]}" --quiet --trace "$out/$number.trace" >"$out/$number.json" 2>"$out/$number.log" || ended=$?
+    timeout -k 10 $((each + 120)) "${command[@]}" --smaller --quiet --trace "$out/$number.trace" >"$out/$number.json" 2>"$out/$number.log" || ended=$?
     why=$(failure_of $ended $number)
     echo "${why:+not }ok $number - $words"
     if [ -n "$why" ]; then

@@ -119,6 +119,8 @@ pub struct Plan {
     pub event: u64,
     /// Whether a race on plain data is wrong, as a violation is.
     pub races: bool,
+    /// With `round`: whether all registers are read before it too, so that a trace of it begins there.
+    pub look: bool,
 }
 
 impl Default for Plan {
@@ -146,6 +148,7 @@ impl Default for Plan {
             blinds: DRAWN,
             event: 0,
             races: false,
+            look: false,
         }
     }
 }
@@ -428,6 +431,7 @@ impl Plan {
             small: 0,
             goes_on: 0,
             crashes: 0,
+            look: u64::from(self.look),
         }
     }
 }

@@ -79,6 +79,7 @@ pub struct Plan {
     pub small: u64,
     pub goes_on: u64,
     pub crashes: u64,
+    pub look: u64,
 }
 
 /// How many bytes tell what the orders of C++20 have shown, and a race or a delayed load.
@@ -168,7 +169,7 @@ mod tests {
         layout!(to, Memory, "tmwatch_memory", memory tx_size begin read write add commit abort run);
         layout!(
             to, Plan, "tmwatch_plan", rounds seed threads registers calls attempts writes adds aborts pause seconds schedule start trace
-            mixes round orders plain patience progress blinds event legs listing races small goes_on crashes
+            mixes round orders plain patience progress blinds event legs listing races small goes_on crashes look
         );
         layout!(
             to, Benched, "tmwatch_benched", told counts rounds from foreign stores steps switches rescues waits crashes again is_certain event
@@ -213,6 +214,7 @@ mod tests {
             ("blinds", plan.blinds),
             ("event", plan.event),
             ("races", u64::from(plan.races)),
+            ("look", u64::from(plan.look)),
         ] {
             same(&format!("plan.{name}"), number);
         }
