@@ -404,7 +404,8 @@ has_slim() {
     local packages
     has unshare 'a slim image' && has dpkg-query 'a slim image' && has python3 'a slim image' || return
     read -r -a packages < <(sed -n 's/.*--no-install-recommends \([^&]*\) &&.*/\1/p' "$top/packaging/Dockerfile")
-    if ! { "$top/tests/slim.py" "$slim" "${packages[@]}" && in_slim ldconfig; } >"$folder/told" 2>&1; then
+    # (PERFORMANCE.md takes the time of a run)
+    if ! { "$top/tests/slim.py" "$slim" "${packages[@]}" time && in_slim ldconfig; } >"$folder/told" 2>&1; then
         echo "a slim image: skipped, since it can't be made here: $(tail -n 1 "$folder/told")"
         return 1
     fi
@@ -429,16 +430,18 @@ if has_slim; then
     ends "a module on Python's path" 0 in_slim sh -c 'cd / && python3 -c "import tmwatch_store"'
     # (the README says in words how its memory is compiled)
     ends "the README's memory" 0 in_slim sh -c "cd $home && $(grep -o 'cc .*-DFAULT=READS .*' "$slim/$home/docs/C-BENCH.md")"
-    ends 'README.md, in a slim image' 0 page_holds README.md $home
-    ends 'C-BENCH.md, in a slim image' 0 page_holds docs/C-BENCH.md $home
-    ends 'C.md, in a slim image' 0 page_holds docs/C.md $home
-    # What these pages take as yours: a run, and a recorder.
-    mkdir "$slim/work"
-    cp "$pages/examples/two_writers.trace" "$slim/work/run.trace"
+    # What pages take as yours: packages and a folder, a run and its recorder, a history.
+    cp "$folder"/once/* "$slim/$home" && mkdir "$slim/$home/PREFIX"
     cp "$pages/examples/two_writers.trace" "$slim/$home/run.trace"
-    printf '%s\n' '#!/bin/sh' 'cat run.trace' >"$slim/work/record" && chmod +x "$slim/work/record"
-    ends 'LINES.md, in a slim image' 0 page_holds docs/LINES.md $home
-    ends 'CI.md, in a slim image' 0 page_holds docs/CI.md /work
+    printf '%s\n' '#!/bin/sh' 'cat run.trace' >"$slim/$home/record" && chmod +x "$slim/$home/record"
+    cp "$slim/$home/record" "$slim/usr/bin/producer"
+    for type in invoke ok; do
+        echo "{:type :$type, :process 0, :f :txn, :value [[:w 7 1] [:w 9 1]]}"
+    done >"$slim/$home/history.edn"
+    # (README.md first: there the packages are installed again)
+    while read -r page; do
+        ends "$page, in a slim image" 0 page_holds "$page" $home
+    done < <(cd "$pages" && grep -l '^    \$ ' README.md docs/*.md)
 fi
 
 # What lintian finds, and what is left when the package goes.
