@@ -67,7 +67,7 @@ elif [ -x "$folder/counted" ]; then
     for number in 0 1 2 3 4 5 6; do
         "$folder/counted" "$number" >"$folder/run" || true
         head -n -1 "$folder/run" | "$program" judge --summary >"$folder/lines" || true
-        ends "what judge counts of run $number" 0 diff <(tail -n 1 "$folder/lines") <(tail -n 1 "$folder/run")
+        ends "what judge counts of run $number" 0 diff <(grep '^{"aborted"' "$folder/lines") <(tail -n 1 "$folder/run")
     done
 fi
 program memory "$top/tests/c/memory.c" 0 '' "${static[@]}" "${wrapped[@]}"
@@ -132,7 +132,7 @@ on_bench() {
         ends "$row, by the library" 0 is_same_report "$folder/told" "$folder/replayed"
         if [ -x "$program" ]; then
             "$program" judge --summary <"$folder/trace" >"$folder/judged" || true
-            ends "$row, by the program" 0 diff <(sed '2d; 4d' "$folder/replayed") "$folder/judged"
+            ends "$row, by the program" 0 diff <(sed '2d; 4d' "$folder/replayed") <(sed '/^{"lacks"/d' "$folder/judged")
         fi
     done
 }

@@ -131,7 +131,8 @@ outcomes() {
     run "judge: $name" $little "$(opaque "$events")" judge --states 64 \
         < <(echo 'opacity-trace 1 8' && yes "$lines" | head -n "$events")
     run 'judge: the same, and one state fewer' $little \
-        "2 {\"at\":$at,\"events\":$events,\"verdict\":\"undecided\",\"why\":\"states\"}" judge --states 63 \
+        "2 {\"at\":$at,\"events\":$events,\"verdict\":\"undecided\",\"why\":\"states\"}
+undecided: let all threads wait for one another after a transaction or two, and read what they write (RECORDING)" judge --states 63 \
         < <(echo 'opacity-trace 1 8' && yes "$lines" | head -n "$events")
 }
 

@@ -77,10 +77,21 @@ def counted(report):
 
 
 def summary_of(trace, reports):
-    """The line of counts that belongs after these reports on the trace."""
+    """The line of counts that belongs after these reports on the trace; and, if nothing is wrong, one of what the run lacks, if it lacks any."""
     events = trace.splitlines()[1:]
     part = events[: max(counted(json.loads(report)) for report in reports)]
-    return json.dumps(counts_of(part), sort_keys=True, separators=(",", ":"))
+    counts = counts_of(part)
+    lacks = lacks_of(counts, {event[0] for event in events}) if all("so far" in report for report in reports) else []
+    lines = [counts] + ([{"lacks": lacks}] if lacks else [])
+    return "\n".join(json.dumps(line, sort_keys=True, separators=(",", ":")) for line in lines)
+
+
+def lacks_of(counts, threads):
+    """Why a run of these threads can't show much."""
+    lacks = ["threads"] if len(threads) < 2 else ["overlap"] if counts["overlapping"] == 0 else []
+    if counts["committed"] == 0:
+        return [*lacks, "commits"]
+    return [*lacks, "progress"] if counts["transactions"] // 20 > counts["committed"] else lacks
 
 
 def rows_of(top):
@@ -95,7 +106,8 @@ def rows_of(top):
             wanted += line[2:].split(" | ")
         elif line.startswith("= ") and len(wanted) > 1:
             place = words.partition(" < ")[2]
-            yield words, (top / place).read_text() if place else "\n".join(lines), wanted
+            at = next(number for number, it in enumerate(wanted) if it.startswith('{"aborted"'))
+            yield words, (top / place).read_text() if place else "\n".join(lines), [*wanted[:at], "\n".join(wanted[at:])]
 
 
 class Thread:
@@ -184,13 +196,16 @@ def judged(program, words, trace):
 
 
 NOTHING = "no two transactions overlapped: this run shows nothing\n"
+UNDECIDED = "undecided: let all threads wait for one another after a transaction or two, and read what they write (RECORDING)\n"
 
 
 def remark_on(trace, reports, counts):
     """What standard error is told of a run whose lines are these."""
     verdicts = [json.loads(report)["verdict"] for report in reports]
     threads = {line.split()[0] for line in trace.splitlines()[1:]}
-    shows_nothing = json.loads(counts)["overlapping"] == 0 and len(threads) > 1
+    shows_nothing = json.loads(counts.split("\n")[0])["overlapping"] == 0 and len(threads) > 1
+    if "undecided" in verdicts:
+        return UNDECIDED
     return NOTHING if shows_nothing and all(verdict.endswith("so far") for verdict in verdicts) else ""
 
 

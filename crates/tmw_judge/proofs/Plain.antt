@@ -1,5 +1,8 @@
 -- A run of `judge` that ends at no verdict and counts nothing answers by its reports alone.
 use Rattle.tmw_judge.proofs.Shared.{JudgeResult, AnswersBy, AnswersTrace, Asked, Bounds, ByCriterion, Err, Event, FromSource, HasSummary, IsPut, JudgesBytes, JudgesWith, List, Ok, Option, Report, Result, Summary, ToSink, append-nil, counted_part, false, judged_lines, judged_status, plain, refl, report_lines, report_status, subst, summary_lines, told_verdicts, ℕ, ◌++◌, ◌∙◌, ◌≡◌, arith}
+use Rattle.std.specs.Prelude.{Bool}
+use Rattle.tmw_judge.specs.Answer.{lacking_lines}
+use Rattle.tmw_judge.specs.Tally.{all_open}
 use Rattle.tmw_report.specs.declared.fault.Fault.{Fault}
 use Rattle.tmw_report.specs.CommandRun.{answer_status, answer_text, failures_after_answer}
 
@@ -7,9 +10,9 @@ abbrev reports_in : Result JudgeResult Fault → Result (ByCriterion Report) Fau
 reports_in (Ok answer) = Ok answer.reports
 reports_in (Err fault) = Err fault
 
-no_counts : (part : List Event) (summary : Option Summary) (lines : List ℕ) → HasSummary false part summary
-    → lines ++ summary_lines summary ≡ lines
-no_counts part summary lines is = grind (arith, append-nil)
+no_counts : (is_fine : Bool) (part : List Event) (summary : Option Summary) (lines : List ℕ) → HasSummary false part summary
+    → (lines ++ summary_lines summary) ++ lacking_lines is_fine summary ≡ lines
+no_counts is_fine part summary lines is = grind (arith, append-nil)
 
 same_failures : (answer : Result JudgeResult Fault) (count : ℕ) → failures_after_answer answer count ≡ failures_after_answer (reports_in answer) count
 same_failures answer count = grind arith
@@ -28,7 +31,8 @@ module _ (bounds : Bounds) (asked : Asked) (Ended : Type 0) (bytes : List ℕ) w
 
   same_text : (answer : Result JudgeResult Fault) → AnswersBy false false bounds asked Ended bytes answer
       → answer_text judged_lines answer ≡ answer_text report_lines (reports_in answer)
-  same_text (Ok answer) is = no_counts (counted_part (told_verdicts answer.reports) is.history) answer.summary (report_lines answer.reports) is.counts
+  same_text (Ok answer) is =
+      no_counts (all_open (told_verdicts answer.reports)) (counted_part (told_verdicts answer.reports) is.history) answer.summary (report_lines answer.reports) is.counts
   same_text (Err fault) is = refl
 
 pub judges_plain : {S K E : Type 0} (From : FromSource S) (To : ToSink K) (Errors : ToSink E) (bounds : Bounds) (asked : Asked)

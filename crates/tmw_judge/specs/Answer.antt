@@ -1,5 +1,5 @@
 -- What `judge` answers, by its options: from the bytes that its source tells to the lines that its sink takes and the exit status.
-use Rattle.std.specs.Prelude.{◌≡◌, ◌⊎◌, ◌++◌, ◌&&◌, ◌<◌, ◌≤◌, ℕ, Bool, true, false, List, [], length, take, Option, Some, None, Result, Ok, Err, if◌then◌else◌}
+use Rattle.std.specs.Prelude.{◌≡◌, ◌⊎◌, ◌++◌, ◌&&◌, ◌||◌, ◌<◌, ◌≤◌, ℕ, Bool, true, false, List, [], length, take, Option, Some, None, Result, Ok, Err, if◌then◌else◌}
 use Rattle.tmw_lines.specs.ReadItems.{FailsBehind}
 use Rattle.tmw_lines.specs.TextFault.{EndsSoon, HasFirstLineFault, HasTextFault}
 use Rattle.tmw_lines.specs.declared.text_fault.TextFault.{TextFault}
@@ -12,7 +12,7 @@ use Rattle.tmw_defs.specs.declared.criterion.Asked.{Asked}
 use Rattle.tmw_defs.specs.declared.criterion.Asked.TheVariants as asks
 use Rattle.tmw_defs.specs.declared.criterion.Criterion.TheVariants as by
 use Rattle.tmw_defs.specs.declared.verdict.Verdict.{Verdict}
-use Rattle.tmw_defs.specs.declared.verdict.Verdict.TheVariants.{OpaqueSoFar, StrictSoFar, Malformed}
+use Rattle.tmw_defs.specs.declared.verdict.Verdict.TheVariants.{OpaqueSoFar, StrictSoFar, Malformed, Undecided}
 use Rattle.tmw_defs.specs.Verdict.{IsVerdict}
 use Rattle.tmw_counts.specs.declared.summary.Summary.{Summary}
 use Rattle.tmw_monitor.specs.BrokenRule.{TellsBroken}
@@ -21,10 +21,11 @@ use Rattle.tmw_monitor.specs.declared.broken_rule.BrokenRule.{BrokenRule}
 use Rattle.tmw_report.specs.declared.fault.Fault.{Fault}
 use Rattle.tmw_report.specs.CommandRun.{AnswersTextFault}
 use Rattle.tmw_report.specs.Quote.{RemarksTrace}
-use Rattle.tmw_report.specs.Remark.{IsRemarkedRun, nothing_shown_if}
+use Rattle.tmw_report.specs.Remark.{IsRemarkedRun}
 use Rattle.tmw_report.specs.declared.remark.Remark.{Remark}
-use Rattle.tmw_report.specs.declared.remark.Remark.TheVariants.{Broken as IsBroken}
+use Rattle.tmw_report.specs.declared.remark.Remark.TheVariants.{Broken as IsBroken, NothingShown, Undecided as IsUndecided}
 use Rattle.tmw_report.specs.SummaryLine.{summary_text}
+use Rattle.tmw_judge.specs.Lacks.{lacks_if}
 use Rattle.tmw_judge.specs.declared.judge_result.JudgeResult.{JudgeResult}
 use Rattle.tmw_judge.specs.declared.by_criterion.ByCriterion.{ByCriterion}
 use Rattle.tmw_judge.specs.declared.by_criterion.ByCriterion.TheVariants.{Opacity, Strict, Both}
@@ -123,9 +124,15 @@ abbrev pub summary_lines : Option Summary → List ℕ
 summary_lines None = []
 summary_lines (Some summary) = summary_text summary.counts
 
--- The lines of the reports, and behind them that of the counts, if there are counts. The status is the reports'.
+-- Of counts, why the run can't show much, if it can't and nothing is wrong.
+abbrev pub lacking_lines : Bool → Option Summary → List ℕ
+lacking_lines is_fine None = []
+lacking_lines is_fine (Some summary) = lacks_if is_fine summary
+
+-- The lines of the reports, and behind them that of the counts, if there are counts, and what lacks. The status is the reports'.
 abbrev pub judged_lines : JudgeResult → List ℕ
-judged_lines answer = report_lines answer.reports ++ summary_lines answer.summary
+judged_lines answer =
+    (report_lines answer.reports ++ summary_lines answer.summary) ++ lacking_lines (all_open (told_verdicts answer.reports)) answer.summary
 
 abbrev pub judged_status : JudgeResult → ℕ
 judged_status answer = report_status answer.reports
@@ -149,11 +156,30 @@ are_malformed (Opacity verdict) = is_malformed verdict
 are_malformed (Strict verdict) = is_malformed verdict
 are_malformed (Both opacity strict) = is_malformed opacity && is_malformed strict
 
--- An event fits no run, though a verdict says something else of the history; or the run shows nothing.
+abbrev pub is_undecided : Verdict → Bool
+is_undecided (Undecided at why) = true
+is_undecided _ = false
+
+-- One of these says that the history is undecided.
+abbrev pub any_undecided : ByCriterion Verdict → Bool
+any_undecided (Opacity verdict) = is_undecided verdict
+any_undecided (Strict verdict) = is_undecided verdict
+any_undecided (Both opacity strict) = is_undecided opacity || is_undecided strict
+
+-- The remark on a run whose events all fit: it shows nothing, or it is undecided.
+abbrev pub remark_on : Bool → Bool → Option Remark
+remark_on true undecided = Some NothingShown
+remark_on false true = Some IsUndecided
+remark_on false false = None
+
+abbrev pub remark_on_fit : JudgeResult → Option Remark
+remark_on_fit answer = remark_on (shows_nothing answer) (any_undecided (told_verdicts answer.reports))
+
+-- An event fits no run, though a verdict says something else of the history; or what is remarked of one whose events fit.
 abbrev pub remark_by : Option BrokenRule → JudgeResult → Option Remark
-remark_by None answer = nothing_shown_if (shows_nothing answer)
+remark_by None answer = remark_on_fit answer
 remark_by (Some broken) answer =
-    if are_malformed (told_verdicts answer.reports) then nothing_shown_if (shows_nothing answer) else Some (IsBroken broken.at)
+    if are_malformed (told_verdicts answer.reports) then remark_on_fit answer else Some (IsBroken broken.at)
 
 abbrev pub remark_of : JudgeResult → Option Remark
 remark_of answer = remark_by answer.broken answer

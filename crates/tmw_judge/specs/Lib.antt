@@ -3,4 +3,5 @@ pub mod ByCriterion
 pub mod FeedEvents
 pub mod FeedFirst
 pub mod Judge
+pub mod Lacks
 pub mod Tally

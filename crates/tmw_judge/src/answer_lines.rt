@@ -1,17 +1,16 @@
 ghost use Rattle.std.specs.Prelude.{◌≡◌, IfOk, string_bytes};
 ghost use Rattle.tmw_judge.specs.Judge.{report_lines, report_status};
 ghost use Rattle.tmw_judge.specs.Tally.{all_open};
-ghost use Rattle.tmw_judge.specs.Answer.{are_malformed, is_malformed, judged_lines, remark_of, shows_nothing, told_verdicts};
+ghost use Rattle.tmw_judge.specs.Answer.{any_undecided, are_malformed, is_malformed, is_undecided, judged_lines, remark_of, remark_on, shows_nothing, told_verdicts};
 
 use crate::by_criterion::ByCriterion;
 use crate::judge_result::JudgeResult;
+use crate::lacks::lacks_if;
 use crate::report::Report;
 use std::alloc::{AllocError, Global};
 use tmw_counts::is_open;
 use tmw_monitor::Verdict;
-use tmw_report::{
-    Remark, both_status, nothing_shown_if, report_strict, report_text, status_of, summary_text,
-};
+use tmw_report::{Remark, both_status, report_strict, report_text, status_of, summary_text};
 
 /// Makes the lines that report what was found, a line for each report, and that by opacity first.
 pub fn report_lines(alloc: Global, reports: &ByCriterion<Report>) -> Result<String, AllocError>
@@ -29,7 +28,7 @@ pub fn report_lines(alloc: Global, reports: &ByCriterion<Report>) -> Result<Stri
     }
 }
 
-/// Makes the reports' lines, and behind them that of the counts, if there are counts.
+/// Makes the reports' lines; behind them that of the counts, if there are counts; and what lacks, if nothing is wrong.
 pub fn judged_lines(alloc: Global, answer: &JudgeResult) -> Result<String, AllocError>
     ensures { IfOk result (λ lines. string_bytes lines ≡ judged_lines answer.now) }
 {
@@ -37,6 +36,7 @@ pub fn judged_lines(alloc: Global, answer: &JudgeResult) -> Result<String, Alloc
     if let Some(summary) = &answer.summary {
         let last = summary_text(alloc, &summary.counts)?;
         lines.push_str(last.as_str())?;
+        lines.push_str(lacks_if(all_open(&answer.reports), summary))?;
     }
     Ok(lines)
 }
@@ -51,14 +51,48 @@ pub const fn status_of_reports(reports: &ByCriterion<Report>) -> u8
     }
 }
 
-/// Returns what is remarked of the run: that it shows nothing, or which event fits no run although not each line reports it.
+/// Returns what is remarked of the run: that it shows nothing, that it was undecided, or which event fits no run although not
+/// each line reports it.
 pub fn remark_of(answer: &JudgeResult) -> Option<Remark>
     ensures { result ≡ remark_of answer.now }
 {
     match answer.broken {
         Some(broken) if !are_malformed(&answer.reports) => Some(Remark::Broken(broken.at)),
-        _ => nothing_shown_if(shows_nothing(answer)),
+        _ => remark_on(shows_nothing(answer), any_undecided(&answer.reports)),
     }
+}
+
+/// Returns the remark on a run whose events all fit.
+const fn remark_on(shows_nothing: bool, is_undecided: bool) -> Option<Remark>
+    ensures { result ≡ remark_on shows_nothing is_undecided }
+{
+    if shows_nothing {
+        Some(Remark::NothingShown)
+    } else if is_undecided {
+        Some(Remark::Undecided)
+    } else {
+        None
+    }
+}
+
+/// Returns whether a report says that the run is undecided.
+const fn any_undecided(reports: &ByCriterion<Report>) -> bool
+    ensures { result ≡ any_undecided (told_verdicts reports.now) }
+{
+    match reports {
+        ByCriterion::Opacity(report) | ByCriterion::Strict(report) => {
+            is_undecided(&report.verdict)
+        }
+        ByCriterion::Both(opacity, strict) => {
+            is_undecided(&opacity.verdict) || is_undecided(&strict.verdict)
+        }
+    }
+}
+
+const fn is_undecided(verdict: &Verdict) -> bool
+    ensures { result ≡ is_undecided verdict.now }
+{
+    matches!(verdict, Verdict::Undecided(_, _))
 }
 
 /// Returns whether each report says that the run is malformed.

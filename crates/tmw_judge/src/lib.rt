@@ -10,7 +10,10 @@ mod judge;
 mod judge_command;
 mod judge_result;
 mod judges;
+mod lacks;
+mod meeting;
 mod monitors;
+mod progress;
 mod report;
 mod tally;
 

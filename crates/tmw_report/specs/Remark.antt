@@ -6,11 +6,13 @@ use Rattle.tmw_report.specs.CommandRun.{IsCommandRun}
 use Rattle.tmw_report.specs.SendText.{IsSent}
 use Rattle.tmw_report.specs.declared.fault.Fault.{Fault}
 use Rattle.tmw_report.specs.declared.remark.Remark.{Remark}
-use Rattle.tmw_report.specs.declared.remark.Remark.TheVariants.{NothingShown, Broken}
+use Rattle.tmw_report.specs.declared.remark.Remark.TheVariants.{NothingShown, Undecided, Broken}
 
--- No two transactions overlapped; or the event of this number fits no run.
+-- No two transactions overlapped; or the run is undecided, and what to do; or the event of this number fits no run.
 abbrev pub remark_text : Remark → List ℕ
 remark_text NothingShown = codes "no two transactions overlapped: this run shows nothing\n"
+remark_text Undecided =
+    codes "undecided: let all threads wait for one another after a transaction or two, and read what they write (RECORDING)\n"
 remark_text (Broken at) =
     (codes "event " ++ decimal at) ++ codes " fits no run, so the record may be wrong from the start (RECORDING)\n"
 

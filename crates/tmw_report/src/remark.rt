@@ -7,6 +7,9 @@ use tmw_streams::{IoFault, Sink, put_all};
 
 const NOTHING_SHOWN: &[u8] = b"no two transactions overlapped: this run shows nothing\n";
 
+const UNDECIDED: &[u8] =
+    b"undecided: let all threads wait for one another after a transaction or two, and read what they write (RECORDING)\n";
+
 const BROKEN: &[u8] = b" fits no run, so the record may be wrong from the start (RECORDING)\n";
 
 /// What the sink for errors is told of a run beside its report.
@@ -14,6 +17,8 @@ const BROKEN: &[u8] = b" fits no run, so the record may be wrong from the start 
 pub enum Remark {
     /// No two transactions overlapped.
     NothingShown,
+    /// A bound was passed, so the workload has to change.
+    Undecided,
     /// Behind what a verdict covers, the event of this number fits no run.
     Broken(u64),
 }
@@ -44,6 +49,7 @@ fn put_remark<K: Sink>(sink: &mut K, remark: Remark) -> Result<(), IoFault>
 {
     match remark {
         Remark::NothingShown => put_all(sink, NOTHING_SHOWN),
+        Remark::Undecided => put_all(sink, UNDECIDED),
         Remark::Broken(at) => put_numbered(sink, b"event ", at, BROKEN),
     }
 }

@@ -1,0 +1,36 @@
+-- Why a run in which nothing is wrong can't show much, by the words of the bench in C.
+use Rattle.std.specs.Prelude.{ℕ, ◌==◌, ◌/◌, Bool, true, false, List, [], codes, nat_lt, if◌then◌else◌}
+use Rattle.tmw_counts.specs.declared.summary.Summary.{Summary}
+use Rattle.tmw_defs.specs.declared.counts.Counts.{Counts}
+use Rattle.tmw_judge.specs.declared.meeting.Meeting.{Meeting}
+use Rattle.tmw_judge.specs.declared.meeting.Meeting.TheVariants.{Alone, Apart, Together}
+use Rattle.tmw_judge.specs.declared.progress.Progress.{Progress}
+use Rattle.tmw_judge.specs.declared.progress.Progress.TheVariants.{Nothing, Little, Enough}
+
+-- Some transactions have overlapped, or none has, of two threads or more or of at most one.
+abbrev pub meeting_of : Summary → Meeting
+meeting_of summary =
+    if summary.counts.overlapping == 0 then (if summary.none_overlapped then Apart else Alone) else Together
+
+-- No transaction has committed; or fewer than one in twenty, so that nearly all were refused; or more.
+abbrev pub progress_of : Counts → Progress
+progress_of counts =
+    if counts.committed == 0 then Nothing
+    else (if nat_lt counts.committed (counts.transactions / 20) then Little else Enough)
+
+-- What lacks, in a line of compact JSON, if anything does.
+abbrev pub lacks_line : Meeting → Progress → List ℕ
+lacks_line Alone Nothing = codes "{\"lacks\":[\"threads\",\"commits\"]}\n"
+lacks_line Alone Little = codes "{\"lacks\":[\"threads\",\"progress\"]}\n"
+lacks_line Alone Enough = codes "{\"lacks\":[\"threads\"]}\n"
+lacks_line Apart Nothing = codes "{\"lacks\":[\"overlap\",\"commits\"]}\n"
+lacks_line Apart Little = codes "{\"lacks\":[\"overlap\",\"progress\"]}\n"
+lacks_line Apart Enough = codes "{\"lacks\":[\"overlap\"]}\n"
+lacks_line Together Nothing = codes "{\"lacks\":[\"commits\"]}\n"
+lacks_line Together Little = codes "{\"lacks\":[\"progress\"]}\n"
+lacks_line Together Enough = []
+
+-- That line, of a run in which nothing is wrong.
+abbrev pub lacks_if : Bool → Summary → List ℕ
+lacks_if true summary = lacks_line (meeting_of summary) (progress_of summary.counts)
+lacks_if false summary = []
