@@ -4,7 +4,7 @@
 #
 #   tests/long/planted.sh [GROUP]..
 #
-# The GROUPs are bench, steps, model, rust, ci, import and recorder, or all. A row fails if more than one mistake in ten survives in a file; survivors
+# The GROUPs are bench, jobs, steps, model, rust, ci, import and recorder, or all. A row fails if more than one mistake in ten survives in a file; survivors
 # and tables stand before it. The last line is 'N passed, M failed', and the exit status is 1 if a row failed.
 # Environment: BUILT (tests/common.sh), NUMBER (20, mistakes of each file), SEED (1), JOBS (2), THEN (a command for mistakes in the bench in
 # C that are not noticed else, as tests/c_steps.sh).
@@ -40,6 +40,10 @@ plant_bench() {
     # shellcheck disable=SC2016
     planted bench --build "$compile"' -c -o "$OBJECT" bench-c/tmwatch_bench.c' --then "$then${THEN:+ && $THEN}" \
         "${files[@]/%/.c}" -- tests/runs.sh
+}
+plant_jobs() {
+    # shellcheck disable=SC2016
+    planted jobs --build "$compile"' -c -o "$OBJECT" bench-c/tmwatch_bench.c' bench-c/{jobs,smaller}.c -- tests/jobs.sh
 }
 # (one object of all, so that a mistake that changes nothing is known by it)
 plant_steps() {
@@ -87,7 +91,7 @@ plant_recorder() {
         "$OBJECT" | diff tests/c/recorded.lines - && ! "$OBJECT" more 2>said && grep -qx "recorder: no room for the event" said'
 }
 
-[ $# -gt 0 ] || set -- bench steps model rust ci import recorder
+[ $# -gt 0 ] || set -- bench jobs steps model rust ci import recorder
 for group; do
     "plant_$group"
 done
