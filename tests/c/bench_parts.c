@@ -1,6 +1,6 @@
 /* Parts of the bench by themselves. The watchdog of the steps: after how many looks it rescues the others from a runner, and what it leaves of
-   the locks. What legs come to, one after another. What a system call that isn't for a futex gets. And
-   that after a leg by steps all is unlocked. */
+   the locks. What legs come to, one after another. What a system call that isn't for a futex gets. After a leg by steps all is unlocked,
+   and each thread has known which bytes are its own. */
 #include "../../bench-c/tmwatch_bench.c"
 #include "check.h"
 #include <stdarg.h>
@@ -177,12 +177,18 @@ static bool begins(void *memory, void *tx)
     return true;
 }
 
-/* The thread pauses, or waits outside. */
+/* The thread pauses with a lock of the memory, and then waits outside now and then. */
 static bool reads(void *memory, void *tx, unsigned reg, uint64_t *value)
 {
+    static bool is_locked;
     (void)memory, (void)tx;
     *value = words[reg];
+    while (is_locked)
+        tmwatch_step_wait(&is_locked, false);
+    is_locked = true;
     tmwatch_pause();
+    is_locked = false;
+    tmwatch_step_free(&is_locked, true);
     if (++calls % 3 == 0 && tmwatch_asks())
         tmwatch_waits();
     return true;
@@ -216,6 +222,7 @@ static void check_locks(void)
     CHECK(value_of(&leg.steps.free) == 1);
     /* (by which each thread draws when its stores come out) */
     CHECK(leg.parts[0].how.draws != leg.parts[1].how.draws);
+    CHECK(leg.parts[0].how.own_end[1] == leg.parts[0].how.own[1] + memory.tx_size);
     end_threads(&of, false);
 }
 
