@@ -169,7 +169,7 @@ static void check_legs(void)
     }
 }
 
-static uint64_t words[MOST_REGISTERS], calls;
+static uint64_t words[MOST_REGISTERS], calls, freed;
 
 static bool begins(void *memory, void *tx)
 {
@@ -184,7 +184,7 @@ static bool reads(void *memory, void *tx, unsigned reg, uint64_t *value)
     (void)memory, (void)tx;
     *value = words[reg];
     while (is_locked)
-        tmwatch_step_wait(&is_locked, false);
+        freed += tmwatch_step_wait(&is_locked, false) == TMWATCH_STEP_FREED;
     is_locked = true;
     tmwatch_pause();
     is_locked = false;
@@ -218,7 +218,7 @@ static void check_locks(void)
     plan.rounds = 200;
     plan.adds = 0;
     plan.goes_on = 1;
-    CHECK(run_leg(&leg, &of, &plan, &out) == TMWATCH_DONE && calls > plan.rounds && out.waits > 0);
+    CHECK(run_leg(&leg, &of, &plan, &out) == TMWATCH_DONE && calls > plan.rounds && out.waits > 0 && freed > 0);
     CHECK(value_of(&leg.steps.free) == 1);
     /* (by which each thread draws when its stores come out) */
     CHECK(leg.parts[0].how.draws != leg.parts[1].how.draws);
