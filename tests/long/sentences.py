@@ -32,7 +32,7 @@ FORMS = {
     READ + ", not from B, which comes after it": {"read": "A R V", "not_from": "B"},
     READ + ", not from B: C left W there in between": {"read": "A R V", "left": "C R W", "not_from": "B"},
     READ + ", not from the start: C left W there in between": {"read": "A R V", "left": "C R W", "not_from": START},
-    READ + ": none of these states has it, and no other commit of this window left it": {"read": "A R V", "source": NOBODY},
+    READ + ": none of these states has it, and no other transaction that may have committed left it": {"read": "A R V", "source": NOBODY},
     READ + ", where its own earlier calls make it W": {"unlike": "A R W V"},
     "A put V into register R at event E": {"put": "A R V E", "fate": "stays"},
     "A put V into register R at event E, and aborted": {"put": "A R V E", "fate": "aborted"},

@@ -78,7 +78,7 @@ sourceless reader register value = record { reader = reader; register = register
 abbrev pub end_text : List ℕ → Contradiction → List ℕ
 end_text values (Cycle place) = name_text place ++ codes " would come before itself"
 end_text values (NoSource reader register value) =
-    read_text values (sourceless reader register value) ++ codes ": none of these states has it, and no other commit of this window left it"
+    read_text values (sourceless reader register value) ++ codes ": none of these states has it, and no other transaction that may have committed left it"
 end_text values (Unlike reader register expected read) =
     read_text values (sourceless reader register read) ++ (codes ", where its own earlier calls make it " ++ value_text values expected)
 

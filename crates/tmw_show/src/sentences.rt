@@ -305,7 +305,7 @@ fn end_text(alloc: Global, values: &[u64], end: &Contradiction) -> Result<String
             };
             let read = Read(values, source);
             format!(in alloc;
-                "{read}: none of these states has it, and no other commit of this window left it"
+                "{read}: none of these states has it, and no other transaction that may have committed left it"
             )
         }
         Contradiction::Unlike(reader, register, expected, read) => {
