@@ -201,6 +201,8 @@ static int look_after(const tmwatch_memory *memory, struct given *given, const c
     alone.is_interrupted = jobs->is_interrupted;
     munmap(jobs, sizeof *jobs);
     jobs = &alone;
+    if (given->trace)
+        write_files(given, NULL, false); /* (nothing is left to be written) */
     sigaction(SIGINT, &given->interrupt, NULL);
     sigaction(SIGTERM, &given->end, NULL);
     return result;
