@@ -131,7 +131,7 @@ ends 'what is found soon has the seed that was given' 0 grep -q '^{"again":"--se
 export JOB=2
 hooked=("$folder/hooked" --jobs 3 --seconds 50 --seed 4 --patience 1)
 FAULT=CRASH
-ends 'a job that dies' 139 processes '[23]' "${hooked[@]}"
+ends 'a job that dies' 139 processes '[23]' env ASAN_OPTIONS=handle_segv=0 "${hooked[@]}"
 has_told 'a job that dies: its seed' -x 'the job of --seed 2000004 was ended by signal 11 (Segmentation fault)'
 FAULT=LEAVES
 ends 'a job that ends by itself' 7 processes '[23]' "${hooked[@]}"
