@@ -111,7 +111,7 @@ def origin_of(end, names, states, window):
         if call[0] in reader.events:
             return ", then another value"
         if t.status == "live":
-            return ", and had asked to abort" if t.events[-1].kind[0] == "X" else ", and had not asked to commit"
+            return ", and has asked to abort" if t.events[-1].kind[0] == "X" else ", and has not yet asked to commit"
         return ", and aborted" if t.status == "aborted" else "" if last_left(t, register) == value else ", then another value"
 
     may_count = [call for call in puts if not fate(call)]

@@ -1,39 +1,28 @@
--- The whole of a window is a part of it, and no part has more transactions than the whole.
-use Rattle.tmw_part.proofs.Shared.{AreOpsLeft, AreStaying, Bool, Each, IsLeftOf, IsPart, List, Op, Txn, [], ap, arith, inl, inr, is_unread, length, operations, refl, remove, suc, ℕ, ◌∷◌, ◌≡◌, ◌≤◌}
-use Rattle.std.proofs.lemmas.List.Edits.{length-remove}
-use Rattle.std.proofs.lemmas.Option.{slice_get_within}
+-- What is kept as a part of a window has no more transactions than the window.
+use Rattle.tmw_part.proofs.Shared.{Bool, Each, Event, IsKept, IsTrue, List, Txn, [], and_parts, are_placed, arith, cases_Bool, inl, inr, is_among, length, part_of, transactions, without_number, ℕ, ◌+◌, ◌==◌, ◌∷◌, ◌≡◌, ◌≤◌}
+use Rattle.tmw_defs.specs.Part.{is_unread, may_go_whole}
+use Rattle.tmw_part.specs.KeptPart.{owners}
+use Rattle.std.proofs.lemmas.List.{length-map}
 
-each-long : {A B : Type 0} (Rel : A → B → Type 0) (xs : List A) (ys : List B) → Each Rel xs ys → length xs ≡ length ys
-each-long Rel [] [] each = refl
-each-long Rel (x ∷ xs) (y ∷ ys) each = ap (λ n. suc n) (each-long Rel xs ys each.1)
-each-long Rel xs ys each = absurd each
+length-without_number : (n : ℕ) (places : List ℕ) → IsTrue (is_among n places) → length places ≡ length (without_number n places) + 1
+length-without_number n [] among = absurd (cc)
+length-without_number n (p ∷ places) among = grind (arith, cases_Bool, (length-without_number n places))
 
-staying-fewer : (unread : ℕ → ℕ → Bool) (staying ts : List Txn) → AreStaying unread staying ts → length staying ≤ length ts
-staying-fewer unread staying [] none = rw none (omega arith)
-staying-fewer unread staying (t ∷ ts) (inl goes) = let rest = staying-fewer unread staying ts goes.1 in omega (arith, rest)
-staying-fewer unread staying (t ∷ ts) (inr stays) =
-    let (i, at, more) = stays in
-    let one_less = length-remove staying i (slice_get_within staying i t at) in
-    let rest = staying-fewer unread (remove staying i) ts more in
-    omega (arith, one_less, rest)
+placed-fewer : (unread : ℕ → ℕ → Bool) (n : ℕ) (places : List ℕ) (ts : List Txn) → IsTrue (are_placed unread n places ts)
+    → length places ≤ length ts
+placed-fewer unread n [] [] all = omega arith
+placed-fewer unread n (p ∷ places) [] all = absurd (cc)
+placed-fewer unread n places (t ∷ ts) all =
+    elim (cases_Bool (is_among n places)) [
+      | inl is ↦
+          let rest = placed-fewer unread (n + 1) (without_number n places) ts (rw is at all) in
+          omega (arith, length-without_number n places is, rest)
+      | inr none ↦
+          let (idle, more) = and_parts (may_go_whole unread t) _ (rw none at all) in
+          omega (arith, placed-fewer unread (n + 1) places ts more)
+    ]
 
-pub part-fewer : (part whole : List Txn) → IsPart part whole → length part ≤ length whole
-part-fewer part whole is =
-    let same = each-long (IsLeftOf (is_unread part)) is.staying part is.left in
-    let fewer = staying-fewer (is_unread part) is.staying whole is.stay in
-    omega (arith, same, fewer)
-
-all-left : (unread : ℕ → ℕ → Bool) (ops : List Op) → AreOpsLeft unread ops ops
-all-left unread [] = refl
-all-left unread (op ∷ ops) = inr (ops, refl, all-left unread ops)
-
-all-staying : (unread : ℕ → ℕ → Bool) (ts : List Txn) → AreStaying unread ts ts
-all-staying unread [] = refl
-all-staying unread (t ∷ ts) = inr (0, refl, all-staying unread ts)
-
-all-left_of : (unread : ℕ → ℕ → Bool) (ts : List Txn) → Each (IsLeftOf unread) ts ts
-all-left_of unread [] = tt
-all-left_of unread (t ∷ ts) = (record { status = refl; ops = all-left unread (operations t.text) }, all-left_of unread ts)
-
-pub part-whole : (ts : List Txn) → IsPart ts ts
-part-whole ts = record { staying = ts; stay = all-staying (is_unread ts) ts; left = all-left_of (is_unread ts) ts; order = refl }
+pub kept-fewer : (marks : List Bool) (window : List Event) → IsKept marks window → length (part_of marks window) ≤ length (transactions window)
+kept-fewer marks window k =
+    let fewer = placed-fewer (is_unread (part_of marks window)) 0 (owners marks window) (transactions window) k.stay in
+    omega (arith, fewer, length-map (part_of marks window) _)

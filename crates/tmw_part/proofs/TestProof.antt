@@ -1,4 +1,4 @@
--- The test of a part tells what is kept as a part, and that is one.
+-- The test of a part tells what is kept as a part.
 use Rattle.tmw_part.proofs.Shared.{Add, AreOpsLeft, AreStaying, Bool, Each, Event, IsLeftOf, IsPart, IsTrue, List, Op, Read, Some, Status, Txn, Write, [], and_from, and_parts, ap, arith, calls, cases_Bool, eq-eqb, eqb-true, inl, inr, is_unread, keeps_last, length, list_all, map, may_go, operations, owner_in, places_of, precedes, refl, remove, slice_get, status_of, suc, sym, transactions, true, ℕ, ◌+◌, ◌<◌, ◌==◌, ◌∙◌, ◌∷◌, ◌≡◌}
 use Rattle.tmw_events.proofs.Same.{same_ix}
 use Rattle.tmw_part.specs.KeptPart.{IsAlike, IsKept, agree, are_placed, is_among, is_same, is_whole, may_miss_all, owners, part_of, staying, without_number}
@@ -165,51 +165,3 @@ test-kept marks window k =
     let place = owner_in (places_of marks) (transactions window) in
     and_from _ _ k.last (and_from _ _ k.calls (and_from _ _ k.writes
     (and_from _ _ k.stay (test-stays place (transactions window) part part k.left k.order))))
-
--- where the number is among the places, the transaction of that number is among those that stay
-found : (f : ℕ → Txn) (n : ℕ) (places : List ℕ) → IsTrue (is_among n places)
-    → (i : ℕ) × (slice_get (map f places) i ≡ Some (f n)) × (remove (map f places) i ≡ map f (without_number n places))
-found f n [] among = absurd (cc)
-found f n (p ∷ places) among =
-    elim (cases_Bool (p == n)) [
-      | inl is ↦ (0, ap (λ k. Some (f k)) (eqb-true p n is), rw is refl)
-      | inr other ↦
-          let (i, at, rest) = found f n places (rw other at among) in
-          (suc i, at, rw (other, rest) refl)
-    ]
-
--- from the number on, f has these
-placed-stay : (unread : ℕ → ℕ → Bool) (f : ℕ → Txn) (n : ℕ) (places : List ℕ) (ts : List Txn)
-    → ((k : ℕ) → k < length ts → f (n + k) ≡ txn_at ts k) → IsTrue (are_placed unread n places ts) → AreStaying unread (map f places) ts
-placed-stay unread f n [] [] goes all = refl
-placed-stay unread f n (p ∷ places) [] goes all = absurd (cc)
-placed-stay unread f n places (t ∷ ts) goes all =
-    let here : f n ≡ t = (let same : n ≡ n + 0 = omega arith in ap f same ∙ goes 0 (omega arith)) in
-    let on : (k : ℕ) → k < length ts → f (n + 1 + k) ≡ txn_at ts k =
-    λ k low. let same : n + 1 + k ≡ n + suc k = omega arith in ap f same ∙ goes (suc k) (omega (arith, low)) in
-    elim (cases_Bool (is_among n places)) [
-      | inl is ↦
-          let (i, at, rest) = found f n places is in
-          let more = placed-stay unread f (n + 1) (without_number n places) ts on (rw is at all) in
-          inr (i, at ∙ ap (λ (x : Txn). Some x) here, rw rest more)
-      | inr none ↦
-          let (idle, more) = and_parts (list_all (may_go unread) (operations t.text)) _ (rw none at all) in
-          inl (idle, placed-stay unread f (n + 1) places ts on more)
-    ]
-
-each-left : (unread : ℕ → ℕ → Bool) (wholes ts : List Txn) → Each (IsAlike unread) wholes ts → Each (IsLeftOf unread) wholes ts
-each-left unread [] [] each = tt
-each-left unread (u ∷ wholes) (t ∷ ts) each = (each.0.left, each-left unread wholes ts each.1)
-each-left unread wholes ts each = absurd each
-
--- What is kept so is a part.
-pub part-kept : (marks : List Bool) (window : List Event) → IsKept marks window → IsPart (part_of marks window) (transactions window)
-part-kept marks window k =
-    let whole = transactions window in
-    record {
-      staying = staying marks window;
-      stay = placed-stay (is_unread (part_of marks window)) (txn_at whole) 0 (owners marks window) whole
-          (λ n low. let same : 0 + n ≡ n = omega arith in ap (txn_at whole) same) k.stay;
-      left = each-left (is_unread (part_of marks window)) (staying marks window) (part_of marks window) k.left;
-      order = k.order;
-    }

@@ -8,9 +8,9 @@ use Rattle.tmw_part.specs.declared.whole_window.WholeWindow.{WholeWindow}
 use Rattle.tmw_part.specs.FindPart.{AreNeededIn}
 use Rattle.tmw_part.specs.Pieces.{with_readers}
 use Rattle.tmw_part.proofs.Fewer.{kept-all, length-all}
-use Rattle.tmw_part.proofs.Parts.{part-fewer, part-whole}
+use Rattle.tmw_part.proofs.Parts.{kept-fewer}
 use Rattle.tmw_part.specs.PartTest.{keeps_part}
-use Rattle.tmw_part.proofs.TestProof.{kept-test, part-kept, test-kept}
+use Rattle.tmw_part.proofs.TestProof.{kept-test, test-kept}
 
 pub tells-searched : (criterion : Criterion) (registers : ℕ) (states : States) (events : List Event) (window : Window) (found : Bool)
     → AreTaken registers events window → TellsEnd criterion states window found
@@ -38,7 +38,6 @@ pub told-part : {E : Type 0} (criterion : Criterion) (registers : ℕ) (states :
 told-part criterion registers states window marks (Ok true) each keeps told = λ is. record {
   each = each;
   keeps = inr (kept-test marks window keeps);
-  part = part-kept marks window (kept-test marks window keeps);
   violated = told;
 }
 told-part criterion registers states window marks (Ok false) each keeps told = λ is. absurd (cc)
@@ -51,9 +50,7 @@ pub told-fails : {E : Type 0} (criterion : Criterion) (registers : ℕ) (states 
 told-fails criterion registers states window marks (Ok true) few keeps told = λ is. absurd (cc)
 told-fails criterion registers states window marks (Ok false) few keeps (inl ill_formed) = λ is. inr (inl ill_formed)
 told-fails criterion registers states window marks (Ok false) few keeps (inr (inl many)) = λ is.
-    let is_part = part-kept marks window (kept-test marks window keeps) in
-    let fewer = part-fewer (transactions (kept_of marks window)) (transactions window) is_part in
-    absurd (omega (arith, few, many, fewer))
+    absurd (omega (arith, few, many, kept-fewer marks window (kept-test marks window keeps)))
 told-fails criterion registers states window marks (Ok false) few keeps (inr (inr order)) = λ is. inr (inr order)
 told-fails criterion registers states window marks (Err error) few keeps told = tt
 
@@ -77,6 +74,5 @@ pub violated-whole : (criterion : Criterion) (registers : ℕ) (states : List St
 violated-whole criterion registers states window violated = record {
   each = length-all window;
   keeps = inl refl;
-  part = rw (kept-all window) (part-whole (transactions window));
   violated = rw (kept-all window) violated;
 }

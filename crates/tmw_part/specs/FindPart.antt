@@ -6,7 +6,7 @@ use Rattle.tmw_cuts.specs.Members.{members}
 use Rattle.tmw_defs.specs.declared.criterion.Criterion.{Criterion}
 use Rattle.tmw_defs.specs.History.{transactions, is_well_formed}
 use Rattle.tmw_defs.specs.Opaque.{State}
-use Rattle.tmw_defs.specs.Part.{HasOrderBy, IsPart}
+use Rattle.tmw_defs.specs.Part.{HasOrderBy}
 use Rattle.tmw_part.specs.declared.piece.Piece.{Piece}
 use Rattle.tmw_part.specs.declared.whole_window.WholeWindow.{WholeWindow}
 use Rattle.tmw_part.specs.Marks.{all_kept, kept_of, without}
@@ -33,7 +33,6 @@ TellsViolated criterion registers states events false =
 pub record IsViolatedPart (criterion : Criterion) (registers : ℕ) (states : List State) (window : List Event) (marks : List Bool) : Type 0 where
   pub each : length marks ≡ length window
   pub keeps : (marks ≡ all_kept window) ⊎ IsKept marks window
-  pub part : IsPart (transactions (kept_of marks window)) (transactions window)
   pub violated : IsViolated criterion registers states (kept_of marks window)
 
 -- What is kept is not kept as a part of the window, is ill-formed, or has an order.

@@ -18,9 +18,9 @@ use tmw_events::{Event, Ix, Kind};
 pub enum Fate {
     /// The transaction aborted.
     GivenUp,
-    /// It had asked to abort.
+    /// It has asked to abort.
     GivingUp,
-    /// It had not asked to commit.
+    /// It has not yet asked to commit.
     Unasked,
     /// It may commit and left another value there at last, or is the reader itself.
     Overwritten,

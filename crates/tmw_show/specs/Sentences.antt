@@ -85,8 +85,8 @@ end_text values (Unlike reader register expected read) =
 -- What became of what a transaction put there.
 abbrev pub fate_text : Fate → List ℕ
 fate_text GivenUp = codes ", and aborted"
-fate_text GivingUp = codes ", and had asked to abort"
-fate_text Unasked = codes ", and had not asked to commit"
+fate_text GivingUp = codes ", and has asked to abort"
+fate_text Unasked = codes ", and has not yet asked to commit"
 fate_text Overwritten = codes ", then another value"
 fate_text Stays = []
 

@@ -17,8 +17,8 @@ fn fate_text(fate: Fate) -> &'static str
 {
     match fate {
         Fate::GivenUp => ", and aborted",
-        Fate::GivingUp => ", and had asked to abort",
-        Fate::Unasked => ", and had not asked to commit",
+        Fate::GivingUp => ", and has asked to abort",
+        Fate::Unasked => ", and has not yet asked to commit",
         Fate::Overwritten => ", then another value",
         Fate::Stays => "",
     }
