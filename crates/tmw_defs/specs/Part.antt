@@ -1,5 +1,5 @@
 -- Parts of a history's transactions: what is left of them when some are taken out, and some operations of others.
-use Rattle.std.specs.Prelude.{◌≡◌, ◌==◌, ◌&&◌, ◌+◌, ◌%◌, ◌^◌, ◌⊎◌, ℕ, Bool, true, false, not, List, [], ◌∷◌, map, remove, slice_get, Some, IsTrue}
+use Rattle.std.specs.Prelude.{◌≡◌, ◌==◌, ◌&&◌, ◌+◌, ◌%◌, ◌^◌, ◌⊎◌, ℕ, Bool, true, false, not, List, [], ◌∷◌, map, IsTrue}
 use Rattle.std.specs.List.{list_all}
 use Rattle.tmw_defs.specs.declared.criterion.Criterion.{Criterion}
 use Rattle.tmw_defs.specs.declared.op.Op.{Op}
@@ -40,13 +40,6 @@ pub record IsLeftOf (unread : ℕ → ℕ → Bool) (whole left : Txn) : Type 0 
 abbrev pub may_go_whole : (ℕ → ℕ → Bool) → Txn → Bool
 may_go_whole unread t = list_all (may_go unread) (operations t.text)
 
--- These transactions, in some order, are those of the others that stay. The rest may go.
-abbrev pub AreStaying : (ℕ → ℕ → Bool) → List Txn → List Txn → Type 0
-AreStaying unread staying [] = staying ≡ []
-AreStaying unread staying (t ∷ ts) =
-    (IsTrue (may_go_whole unread t) × AreStaying unread staying ts)
-    ⊎ ((i : ℕ) × (slice_get staying i ≡ Some t) × AreStaying unread (remove staying i) ts)
-
 -- The members of two lists of one length are so related, one by one.
 abbrev pub Each : {A B : Type 0} → (A → B → Type 0) → List A → List B → Type 0
 Each Rel [] [] = Unit {0}
@@ -57,14 +50,6 @@ Each Rel (a ∷ as') (b ∷ bs) = Rel a b × Each Rel as' bs
 -- For each of these transactions, which of them precede it in real time.
 abbrev pub precedence : List Txn → List (List Bool)
 precedence ts = map (λ b. map (λ a. precedes a b) ts) ts
-
--- The one transactions are a part of the others: what is left of those that stay. Unread is what none of the part was answered. Among
--- those that stay, real time orders the same.
-pub record IsPart (part whole : List Txn) : Type 0 where
-  pub staying : List Txn
-  pub stay : AreStaying (is_unread part) staying whole
-  pub left : Each (IsLeftOf (is_unread part)) staying part
-  pub order : precedence part ≡ precedence staying
 
 -- Some serial order explains the transactions from the state, by this criterion.
 abbrev pub HasOrderBy : Criterion → State → List Txn → Type 0

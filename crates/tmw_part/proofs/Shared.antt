@@ -12,7 +12,7 @@ pub use Rattle.tmw_defs.specs.Criteria.{ExplainsBy}
 pub use Rattle.tmw_defs.specs.History.{Txn, add_event, answers, ends, is_call, is_text, is_well_formed, operations, status_of, transactions, transactions_from}
 pub use Rattle.tmw_defs.specs.Opaque.{Placed, PlacesEach, State, after, after_writes, is_legal, keeps_order, may_be, may_hold, precedes, reads_hold}
 pub use Rattle.tmw_defs.specs.Outcomes.{end_state}
-pub use Rattle.tmw_defs.specs.Part.{AreOpsLeft, AreStaying, Each, IsLeftOf, IsPart, is_answered, is_unread, may_go}
+pub use Rattle.tmw_defs.specs.Part.{AreOpsLeft, Each, IsLeftOf, is_answered, is_unread, may_go}
 pub use Rattle.tmw_defs.specs.declared.criterion.Criterion.{Criterion}
 pub use Rattle.tmw_defs.specs.declared.criterion.Criterion.TheVariants.{Opacity, Strict}
 pub use Rattle.tmw_defs.specs.declared.op.Op.{Op}

@@ -1,5 +1,5 @@
 -- The test of a part tells what is kept as a part.
-use Rattle.tmw_part.proofs.Shared.{Add, AreOpsLeft, AreStaying, Bool, Each, Event, IsLeftOf, IsPart, IsTrue, List, Op, Read, Some, Status, Txn, Write, [], and_from, and_parts, ap, arith, calls, cases_Bool, eq-eqb, eqb-true, inl, inr, is_unread, keeps_last, length, list_all, map, may_go, operations, owner_in, places_of, precedes, refl, remove, slice_get, status_of, suc, sym, transactions, true, ℕ, ◌+◌, ◌<◌, ◌==◌, ◌∙◌, ◌∷◌, ◌≡◌}
+use Rattle.tmw_part.proofs.Shared.{Add, AreOpsLeft, Bool, Each, Event, IsTrue, List, Op, Read, Status, Txn, Write, [], and_from, and_parts, ap, arith, calls, cases_Bool, eq-eqb, eqb-true, inl, inr, is_unread, keeps_last, list_all, map, may_go, operations, owner_in, places_of, precedes, refl, status_of, sym, transactions, true, ℕ, ◌==◌, ◌∷◌, ◌≡◌}
 use Rattle.tmw_events.proofs.Same.{same_ix}
 use Rattle.tmw_part.specs.KeptPart.{IsAlike, IsKept, agree, are_placed, is_among, is_same, is_whole, may_miss_all, owners, part_of, staying, without_number}
 use Rattle.tmw_part.specs.NameInWindow.{txn_at}
