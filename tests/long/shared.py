@@ -1,12 +1,14 @@
 #!/usr/bin/env python3
-"""Writes the imports of a crate's proofs anew: what two files or more take from a module comes by one line through proofs/Shared.antt.
+"""Writes the imports of a crate anew: what two files or more take from a module comes by one line through a file Shared.antt. There is
+one of proofs, and one of definitions and contracts, which has nothing of the crate's own.
 
     tests/long/shared.py CRATE..
 
 Run it at the top of the repository, then `rt fmt` and `rt check` in the crate's folder. It drops what a file names nowhere else, and
 takes a name from the same module in all files. A file keeps lines of its own for the crate's own lemmas and goals, for whole modules,
-for what it renames, and for modules that no other file cites. Of two things of one name the one that more files cite is shared. A
-second run changes nothing, and Proof.antt stays as it is. Output: for each crate how many files it wrote. Exit status: 0.
+for what it renames, and for modules that no other file cites. Of two things of one name the one that more files cite is shared. Where
+no lines are saved, nothing is written. A second run changes nothing, and Proof.antt stays as it is. Output: for each crate how many
+lines it saved. Exit status: 0.
 """
 import functools
 import re
@@ -15,8 +17,11 @@ import sys
 from collections import Counter, defaultdict
 from pathlib import Path
 
-HEAD = "-- What the proofs of this crate take from the libraries, from the crates below and from its specs."
-USE = re.compile(r"(?:unfoldable )?(?:pub )?use (\S+)\.\{(.*)\}")
+HEADS = {
+    "proofs": "-- What the proofs of this crate take from the libraries, from the crates below and from its specs.",
+    "specs": "-- What the definitions and contracts of this crate take from the libraries and from the crates below.",
+}
+USE = re.compile(r"(?:unfoldable )?(?:pub |ghost )?use (\S+)\.\{(.*)\};?")
 WORD = re.compile(r"\[\]|[^\s(){}\[\],;:.]+")
 LIBRARIES = Path(subprocess.check_output(["rt", "doc"], text=True).strip()).parent / "rlibs"
 
@@ -46,15 +51,16 @@ def home_of(module, name):
 
 
 class File:
-    """A file of proofs: by name the module that it takes it from, its other imports, the names that it unfolds, and the rest."""
+    """A file: by name the module that it takes it from, its other imports, the names that it unfolds, and the rest."""
 
     def __init__(self, path, shared):
         lines = path.read_text().split("\n")
-        uses = [line for line in lines if line.startswith("use ")]
-        self.path, self.names, self.kept = path, {}, []
-        self.rest = [line for line in lines if not line.startswith("use ")]
+        self.how, self.end = ("ghost use", ";") if path.suffix == ".rt" else ("use", "")
+        uses = [line for line in lines if line.startswith(f"{self.how} Rattle.")]
+        self.path, self.names, self.kept, self.long = path, {}, [], len(lines)
+        self.rest = [line for line in lines if line not in uses]
         self.at = lines.index(uses[-1]) + 1 - len(uses) if uses else 0
-        body = "\n".join(line for line in self.rest if not line.lstrip().startswith("--"))
+        body = "\n".join(line for line in self.rest if not line.lstrip().startswith(("--", "//")))
         self.unfolded = set(" ".join(re.findall(r"\bunfold(?:ing)? (.*)", body)).split())
         words = set(WORD.findall(body))
         for use in uses:
@@ -65,19 +71,22 @@ class File:
             used = [name for name in it[2].split(", ") if name in words or words.issuperset(filter(None, name.split("◌")))]
             self.names.update({name: passed_on(shared)[name] if it[1] == shared else it[1] for name in used})
 
-    def write(self, shared, through):
+    def written(self, shared, through):
         by = defaultdict(list, {shared: sorted(name for name, module in self.names.items() if through.get(name) == module)})
         for name, module in self.names.items():
             if name not in by[shared]:
                 by[module].append(name)
-        uses = [f"use {module}.{{{', '.join(names)}}}" for module, names in by.items() if names]
-        self.path.write_text("\n".join(self.rest[: self.at] + uses + self.kept + self.rest[self.at :]))
+        uses = [f"{self.how} {module}.{{{', '.join(names)}}}{self.end}" for module, names in by.items() if names]
+        return self.rest[: self.at] + uses + self.kept + self.rest[self.at :]
 
 
-def write_crate(crate):
-    top, own = Path("crates", crate, "proofs"), f"Rattle.{crate}.proofs."
-    paths = sorted(path for path in top.rglob("*.antt") if path.name not in ("Lib.antt", "Shared.antt", "Proof.antt"))
-    files = [File(path, own + "Shared") for path in paths]
+def write_side(crate, side):
+    """Writes the imports of proofs, or those of specs and contracts. Returns how many lines it saved."""
+    top, shared = Path("crates", crate, side), f"Rattle.{crate}.{side}.Shared"
+    own = f"Rattle.{crate}.proofs." if side == "proofs" else f"Rattle.{crate}."
+    code = Path("crates", crate, "src").rglob("*.rt") if side == "specs" else []
+    paths = sorted(path for path in [*top.rglob("*.antt"), *code] if path.name not in ("Lib.antt", "Shared.antt", "Proof.antt"))
+    files = [File(path, shared) for path in paths]
     cited = defaultdict(Counter)
     for file in files:
         for name, module in file.names.items():
@@ -87,20 +96,29 @@ def write_crate(crate):
     users = Counter(module for file in files for module in set(file.names.values()) if not module.startswith(own))
     counts = Counter((name, module) for file in files for name, module in file.names.items() if users[module] > 1)
     through = {name: module for (name, module), _ in sorted(counts.items(), key=lambda it: (it[1], it[0]))}
-    for file in files:
-        file.write(own + "Shared", through)
     unfolded = {name for file in files for name in file.unfolded & set(file.names) if file.names[name] == through.get(name)}
-    write_shared(top, crate, through, unfolded)
-    print(f"{crate}: {len(files) + 1}")
+    lines = shared_lines(top, crate, through, unfolded)
+    texts = [file.written(shared, through) for file in files]
+    before = sum(file.long for file in files) + (len((top / "Shared.antt").read_text().split("\n")) if (top / "Shared.antt").exists() else 0)
+    saved = before - len(lines) - sum(map(len, texts))
+    if saved > 0:
+        top.mkdir(exist_ok=True)
+        for file, text in zip(files, texts):
+            file.path.write_text("\n".join(text))
+        write_shared(top, lines)
+    return saved
 
 
-def write_shared(top, crate, through, unfolded):
+def shared_lines(top, crate, through, unfolded):
     by = defaultdict(list)
     for name, module in sorted(through.items()):
         rank = not module.startswith("Rattle.std."), module.startswith(f"Rattle.{crate}.")
         by[rank, module, "unfoldable pub" if name in unfolded else "pub"].append(name)
-    lines = [f"{how} use {module}.{{{', '.join(names)}}}" for (_, module, how), names in sorted(by.items())]
-    (top / "Shared.antt").write_text("\n".join([HEAD, *lines, ""]))
+    return [HEADS[top.name], *(f"{how} use {module}.{{{', '.join(names)}}}" for (_, module, how), names in sorted(by.items())), ""]
+
+
+def write_shared(top, lines):
+    (top / "Shared.antt").write_text("\n".join(lines))
     lib = top / "Lib.antt"
     mods = lib.read_text().split("\n") if lib.is_file() else [""]
     if "mod Shared" not in mods:
@@ -109,4 +127,4 @@ def write_shared(top, crate, through, unfolded):
 
 
 for one in sys.argv[1:]:
-    write_crate(one)
+    print(f"{one}: {sum(max(write_side(one, side), 0) for side in HEADS)}")

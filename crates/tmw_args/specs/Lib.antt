@@ -3,3 +3,4 @@ pub mod CriteriaAndMemories
 pub mod Grammar
 pub mod OptionNumbers
 pub mod ReadWords
+mod Shared

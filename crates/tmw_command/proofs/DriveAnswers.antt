@@ -1,12 +1,9 @@
 -- What a workload that was read says of its text.
-use Rattle.std.proofs.Common.{◌≡◌, ◌<◌, ℕ, List, refl}
+use Rattle.tmw_command.proofs.Shared.{IsWorkloadText, List, Workload, refl, scripts_of, ℕ, ◌<◌, ◌≡◌}
 use Rattle.tmw_command.specs.ReadSource.{IsTextOver}
 use Rattle.tmw_command.specs.RunDrive.{IsRightFault, fault_of}
 use Rattle.tmw_drive.specs.declared.fault.DriveFault.{DriveFault}
 use Rattle.tmw_drive.specs.declared.fault.DriveFault.TheVariants.{Memory as LacksMemory, Registers as LacksRegisters}
-use Rattle.tmw_runs.specs.Scripts.{scripts_of}
-use Rattle.tmw_workloads.specs.Json.{IsWorkloadText}
-use Rattle.tmw_workloads.specs.declared.workload.Workload.{Workload}
 
 -- the text of a workload that was read
 abbrev pub text_over : (workload : Workload) (bytes : List ℕ)

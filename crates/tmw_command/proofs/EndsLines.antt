@@ -1,14 +1,12 @@
 -- The compact text of the object of the ends, and a line feed after it, are the line of the ends.
-use Rattle.std.proofs.Common.{◌≡◌, ◌++◌, ℕ, List, [], ◌∷◌, append_assoc, codes, refl, false, true, ap, ap₂, map, ◌∙◌}
+use Rattle.tmw_command.proofs.Shared.{List, [], ap, append_assoc, ap₂, codes, end_data, ends_object, false, items_of, map, refl, true, ℕ, ◌++◌, ◌∙◌, ◌∷◌, ◌≡◌}
 use Rattle.serde_json.specs.Data.{Data}
-use Rattle.serde_json.specs.View.{items_of}
 use Rattle.serde_json.specs.Written.{compact_text, has_float, items_have_float, items_text}
 use Rattle.serde_json.proofs.OnLiterals.{serde_json_on_literals}
 use Rattle.tmw_drive.specs.declared.ending.Ending.{Ending}
 use Rattle.tmw_drive.specs.declared.ending.Ending.TheVariants.{Done, Left, Stopped}
 use Rattle.tmw_ring.specs.declared.refused.Refused.TheVariants.{Full, Spent}
 use Rattle.tmw_command.specs.Ends.{end_text, ends_line, more_ends}
-use Rattle.tmw_command.specs.EndsObject.{end_data, ends_object}
 
 items_have_float-end_data : (ends : List Ending) → items_have_float (items_of (map end_data ends)) ≡ false
 items_have_float-end_data [] = refl

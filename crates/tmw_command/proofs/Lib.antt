@@ -2,4 +2,5 @@ mod BenchAnswers
 mod DriveAnswers
 mod EndsLines
 mod Remarks
+mod Shared
 mod Zeros

@@ -1,7 +1,6 @@
 -- A run in which all registers begin at 0 may have a header of either version.
-use Rattle.std.proofs.Common.{◌≡◌, ℕ, true, List, [], ◌∷◌, drop, zero, suc, refl}
+use Rattle.tmw_command.proofs.Shared.{List, [], drop, refl, suc, true, zero, zeros, ℕ, ◌∷◌, ◌≡◌}
 use Rattle.std.proofs.lemmas.Bool.{and_parts}
-use Rattle.tmw_defs.specs.Opaque.{zeros}
 use Rattle.tmw_trace.specs.Version.{are_zeros, is_start}
 use Rattle.tmw_trace.specs.declared.version.Version.{Version}
 use Rattle.tmw_trace.specs.declared.version.Version.TheVariants.{One, Two}

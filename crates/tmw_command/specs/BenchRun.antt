@@ -1,20 +1,13 @@
 -- The text of what threads have made of a memory.
-use Rattle.std.specs.Prelude.{ℕ, Bool, true, ◌&&◌, ◌||◌, not, List, [], ◌++◌, cond}
+use Rattle.tmw_command.specs.Shared.{BenchOptions, Bool, Ending, List, Opacity, Summary, [], cond, is_open, not, report_text, shown_status, shown_text, true, ℕ, ◌&&◌, ◌++◌, ◌||◌}
 use Rattle.tmw_bench.specs.declared.bench_result.BenchResult.{BenchResult}
 use Rattle.tmw_bench.specs.declared.hunt_result.HuntResult.{HuntResult}
-use Rattle.tmw_defs.specs.declared.criterion.Criterion.TheVariants.{Opacity}
-use Rattle.tmw_report.specs.Lines.{report_text}
 use Rattle.tmw_options.specs.declared.form.Form.{Form}
 use Rattle.tmw_options.specs.declared.form.Form.TheVariants.{Drawing, Traces}
 use Rattle.tmw_command.specs.Ends.{ends_line}
 use Rattle.tmw_command.specs.declared.bench.bench_run.BenchRun.{BenchRun}
-use Rattle.tmw_args.specs.declared.bench_options.BenchOptions.{BenchOptions}
 use Rattle.tmw_command.specs.declared.bench.hunt_run.HuntRun.{HuntRun}
-use Rattle.tmw_counts.specs.CountedPart.{is_open}
-use Rattle.tmw_counts.specs.declared.summary.Summary.{Summary}
 use Rattle.tmw_command.specs.DriveRun.{asked_line, driven_line, driven_status, log_text}
-use Rattle.tmw_drive.specs.declared.ending.Ending.{Ending}
-use Rattle.tmw_show.specs.RunShow.{shown_status, shown_text}
 
 -- The log's trace is asked for.
 abbrev pub asks_for_log : BenchOptions → Bool

@@ -1,13 +1,8 @@
 -- The text of what a memory made of a workload.
-use Rattle.std.specs.Prelude.{◌≡◌, ◌||◌, ℕ, Bool, List, [], ◌++◌, length, cond}
-use Rattle.tmw_defs.specs.Opaque.{zeros}
+use Rattle.tmw_command.specs.Shared.{Bool, List, Registers, RunOptions, Summary, [], cond, length, report_text, verdict_status, zeros, ℕ, ◌++◌, ◌||◌, ◌≡◌}
 use Rattle.tmw_events.specs.declared.event.Event.{Event}
-use Rattle.tmw_events.specs.declared.registers.Registers.{Registers}
-use Rattle.tmw_counts.specs.declared.summary.Summary.{Summary}
-use Rattle.tmw_report.specs.Lines.{report_text, verdict_status}
 use Rattle.tmw_report.specs.SummaryLine.{summary_text}
 use Rattle.tmw_command.specs.declared.drive.drive_run.DriveRun.{DriveRun}
-use Rattle.tmw_args.specs.declared.run_options.RunOptions.{RunOptions}
 use Rattle.tmw_trace.specs.Version.{version_of}
 use Rattle.tmw_trace.specs.Text.{trace_text}
 use Rattle.tmw_trace.specs.declared.header.Header.{Header}

@@ -1,6 +1,5 @@
 -- The line that tells how each thread has ended: compact JSON, with its line feed.
-use Rattle.std.specs.Prelude.{ℕ, List, [], ◌∷◌, ◌++◌, codes}
-use Rattle.tmw_drive.specs.declared.ending.Ending.{Ending}
+use Rattle.tmw_command.specs.Shared.{Ending, List, [], codes, ℕ, ◌++◌, ◌∷◌}
 use Rattle.tmw_drive.specs.declared.ending.Ending.TheVariants.{Done, Left, Stopped}
 use Rattle.tmw_ring.specs.declared.refused.Refused.TheVariants.{Full, Spent}
 

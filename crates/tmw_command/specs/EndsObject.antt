@@ -1,8 +1,6 @@
 -- The JSON object that tells how each thread has ended, of which the line is the compact text.
-use Rattle.std.specs.Prelude.{List, codes, map}
+use Rattle.tmw_command.specs.Shared.{Ending, List, codes, items_of, map}
 use Rattle.serde_json.specs.Data.{Data, array, member, no_members, object, string}
-use Rattle.serde_json.specs.View.{items_of}
-use Rattle.tmw_drive.specs.declared.ending.Ending.{Ending}
 use Rattle.tmw_command.specs.Ends.{end_word}
 
 -- the string for an end

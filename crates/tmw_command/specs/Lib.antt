@@ -7,4 +7,5 @@ pub mod ReadSource
 pub mod RunBench
 pub mod RunCommand
 pub mod RunDrive
+mod Shared
 pub mod Version

@@ -1,6 +1,6 @@
 -- The program's memories.
+use Rattle.tmw_command.specs.Shared.{Which}
 use Rattle.tmw_command.specs.declared.memories.Memories.{Memories}
-use Rattle.tmw_args.specs.declared.which_memory.Which.{Which}
 use Rattle.tmw_args.specs.declared.which_memory.Which.TheVariants.{NoRec, Lock, Torn}
 
 -- the memory that `which` picks

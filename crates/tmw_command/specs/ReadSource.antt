@@ -1,8 +1,6 @@
 -- What is read of a workload: from the bytes that a source tells to the workload or a fault.
-use Rattle.std.specs.Prelude.{ℕ, IsTrue, List, Result, Ok, Err}
+use Rattle.tmw_command.specs.Shared.{Err, Fault, Io, IsTrue, Json, List, Memory, Ok, Result, Shape, ℕ}
 use Rattle.tmw_events.specs.declared.event.Kind.{Kind}
-use Rattle.tmw_report.specs.declared.fault.Fault.{Fault}
-use Rattle.tmw_report.specs.declared.fault.Fault.TheVariants.{Io, Json, Memory, Shape}
 use Rattle.tmw_runs.specs.Scripts.{scripts_of}
 use Rattle.tmw_workloads.specs.Json.{IsNoText, IsOtherText, IsWorkloadText}
 use Rattle.tmw_workloads.specs.Workload.{is_workload}

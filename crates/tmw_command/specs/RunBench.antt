@@ -1,25 +1,16 @@
 -- What `bench` promises: from the bytes that its source tells to what its sink takes and the exit status.
-use Rattle.std.specs.Prelude.{◌≤◌, ℕ, List, Result, Ok, Err, length}
-use Rattle.std.specs.Bool.{MatchBool}
+use Rattle.tmw_command.specs.Shared.{BenchOptions, Err, Fault, FromSource, IsNeededOf, IsRemarkedRun, List, MatchBool, MemoryIs, Ok, Opacity, Registers, RemarksRun, Result, ToSink, length, ℕ, ◌≤◌}
 use Rattle.tmw_bench.specs.BenchHeadline.{IsBenched, IsHunted, IsNoBench}
 use Rattle.tmw_bench.specs.declared.fault.BenchFault.{BenchFault}
-use Rattle.tmw_bench.specs.declared.fault.BenchFault.TheVariants.{Memory as LacksMemory, Registers as LacksRegisters, Ring as HasNoRing, Spawn as LacksThreads}
 use Rattle.tmw_options.specs.declared.bench_settings.Settings.{Settings}
-use Rattle.tmw_events.specs.declared.registers.Registers.{Registers}
-use Rattle.tmw_defs.specs.declared.criterion.Criterion.TheVariants.{Opacity}
-use Rattle.tmw_report.specs.Remark.{IsRemarkedRun, RemarksRun}
-use Rattle.tmw_show.specs.NeededEvents.{IsNeededOf}
-use Rattle.tmw_streams.specs.Streams.{FromSource, ToSink}
-use Rattle.tmw_report.specs.declared.fault.Fault.{Fault}
-use Rattle.tmw_report.specs.declared.fault.Fault.TheVariants.{Memory, Registers as TooManyRegisters, Ring, Spawn}
 use Rattle.tmw_ring_defs.specs.declared.ring_fault.RingFault.{RingFault}
 use Rattle.tmw_command.specs.BenchRun.{asks_for_log, bench_shows_nothing, bench_status, bench_text, benched_of, hunt_shows_nothing, hunt_status, hunt_text, hunted_of}
 use Rattle.tmw_command.specs.declared.bench.bench_run.BenchRun.{BenchRun}
-use Rattle.tmw_args.specs.declared.bench_options.BenchOptions.{BenchOptions}
 use Rattle.tmw_command.specs.declared.bench.hunt_run.HuntRun.{HuntRun}
 use Rattle.tmw_command.specs.DriveRun.{IsHeaderOf}
 use Rattle.tmw_command.specs.ReadSource.{IsTextFault, IsTextOver}
-use Rattle.tmw_tm.specs.Memory.{MemoryIs}
+use Rattle.tmw_bench.specs.declared.fault.BenchFault.TheVariants.{Memory as LacksMemory, Registers as LacksRegisters, Ring as HasNoRing, Spawn as LacksThreads}
+use Rattle.tmw_report.specs.declared.fault.Fault.TheVariants.{Memory, Registers as TooManyRegisters, Ring, Spawn}
 
 -- The bytes are the text of a workload over no more registers than the memory has, and this is what threads have made of it on the
 -- memory: its scripts, round after round, the verdict on the record, from registers that all hold 0, and how each thread has ended.

@@ -1,27 +1,20 @@
 -- What a run of the command line does: from its words and the bytes that its source tells to what its two sinks take and the
 -- exit status. The second sink is for errors.
-use Rattle.std.specs.Prelude.{◌≡◌, ℕ, List, Result, Ok, Err, string_bytes}
+use Rattle.tmw_command.specs.Shared.{Err, Fault, FromSource, IsPut, IsSent, List, MemoryIs, Ok, Result, ShowsBytes, ToSink, Which, fault_line, string_bytes, ℕ, ◌≡◌}
 use Rattle.clap.specs.Words.{Text}
-use Rattle.tmw_report.specs.Lines.{fault_line}
-use Rattle.tmw_report.specs.SendText.{IsPut, IsSent}
-use Rattle.tmw_streams.specs.Streams.{FromSource, ToSink}
-use Rattle.tmw_report.specs.declared.fault.Fault.{Fault}
-use Rattle.tmw_report.specs.declared.fault.Fault.TheVariants.{Memory as WantsMemory, Usage as IsUsage}
 use Rattle.tmw_judge.specs.Answer.{JudgesWith}
 use Rattle.tmw_command.specs.RunBench.{BenchesBytes}
 use Rattle.tmw_command.specs.RunDrive.{DrivesBytes}
-use Rattle.tmw_show.specs.RunShow.{ShowsBytes}
 use Rattle.tmw_steps.specs.RunSteps.{RunsSteps}
-use Rattle.tmw_tm.specs.Memory.{MemoryIs}
 use Rattle.tmw_args.specs.ReadWords.{IsReading}
 use Rattle.tmw_command.specs.Version.{version_line}
 use Rattle.tmw_args.specs.declared.command_order.Order.{Order}
 use Rattle.tmw_args.specs.declared.command_order.Order.TheVariants.{Judge, Show, Drive, Bench, Steps}
 use Rattle.tmw_args.specs.declared.refusal.Refusal.{Refusal}
 use Rattle.tmw_args.specs.declared.refusal.Refusal.TheVariants.{Help, Version, Usage, Memory}
-use Rattle.tmw_args.specs.declared.which_memory.Which.{Which}
 use Rattle.tmw_command.specs.Memories.{memory_picked}
 use Rattle.tmw_command.specs.declared.memories.Memories.{Memories}
+use Rattle.tmw_report.specs.declared.fault.Fault.TheVariants.{Memory as WantsMemory, Usage as IsUsage}
 
 -- How many registers each memory has, and what it may answer to a call.
 abbrev pub MemoriesAre : Type 1

@@ -1,25 +1,17 @@
 -- What `drive` promises: from the bytes that its source tells to what its sink takes and the exit status.
-use Rattle.std.specs.Prelude.{◌≡◌, ◌<◌, ◌≤◌, ℕ, List, Result, Ok, Err}
-use Rattle.tmw_defs.specs.Opaque.{zeros}
+use Rattle.tmw_command.specs.Shared.{Err, Fault, FromSource, IsCommandRun, List, MemoryIs, Ok, Registers, Result, RunOptions, ToSink, part_by, zeros, ℕ, ◌<◌, ◌≡◌, ◌≤◌}
 use Rattle.tmw_defs.specs.Verdict.{IsVerdict}
 use Rattle.tmw_defs.specs.declared.verdict.Verdict.TheVariants.{Malformed}
-use Rattle.tmw_counts.specs.CountedPart.{part_by}
 use Rattle.tmw_counts.specs.Summary.{IsSummary}
 use Rattle.tmw_drive.specs.Drive.{IsDriven}
-use Rattle.tmw_events.specs.declared.registers.Registers.{Registers}
 use Rattle.tmw_monitor.specs.Fits.{rules_of}
 use Rattle.tmw_monitor.specs.declared.bounds.Bounds.{Bounds}
-use Rattle.tmw_report.specs.CommandRun.{IsCommandRun}
-use Rattle.tmw_streams.specs.Streams.{FromSource, ToSink}
-use Rattle.tmw_report.specs.declared.fault.Fault.{Fault}
-use Rattle.tmw_report.specs.declared.fault.Fault.TheVariants.{Memory, Registers as TooManyRegisters}
 use Rattle.tmw_command.specs.DriveRun.{IsHeaderOf, driven_text, driven_status}
 use Rattle.tmw_command.specs.ReadSource.{IsTextFault, IsTextOver}
 use Rattle.tmw_command.specs.declared.drive.drive_run.DriveRun.{DriveRun}
-use Rattle.tmw_args.specs.declared.run_options.RunOptions.{RunOptions}
 use Rattle.tmw_drive.specs.declared.fault.DriveFault.{DriveFault}
+use Rattle.tmw_report.specs.declared.fault.Fault.TheVariants.{Memory, Registers as TooManyRegisters}
 use Rattle.tmw_drive.specs.declared.fault.DriveFault.TheVariants.{Memory as LacksMemory, Registers as LacksRegisters}
-use Rattle.tmw_tm.specs.Memory.{MemoryIs}
 
 -- The bytes are the text of a workload over no more registers than the memory has, and this is what the memory made of it: its
 -- scripts were driven in its order, and the verdict is the one on the log, from registers that all hold 0. The summary is that of the part

@@ -1,8 +1,6 @@
-ghost use Rattle.std.specs.Prelude.{map, string_bytes};
+ghost use Rattle.tmw_command.specs.Shared.{IsPut, IsSent, map, memory_is, string_bytes};
 ghost use Rattle.std.specs.Result.{result_map_both};
-ghost use Rattle.tmw_report.specs.SendText.{IsPut, IsSent};
 ghost use Rattle.tmw_command.specs.RunCommand.{AnswersRefusal, RunsCommand, RunsOrder, by_which, streams};
-ghost use Rattle.tmw_tm.specs.Memory.{memory_is};
 
 use crate::bench::run_bench_cmd;
 use crate::drive::run_drive;

@@ -1,8 +1,6 @@
 //! A workload, read from its text.
-ghost use Rattle.std.specs.Prelude.{◌≡◌, ℕ, List};
-ghost use Rattle.tmw_report.specs.CommandRun.{failures_after_answer};
+ghost use Rattle.tmw_command.specs.Shared.{List, Tells, failures_after_answer, ℕ, ◌≡◌};
 ghost use Rattle.tmw_command.specs.ReadSource.{AnswersText};
-ghost use Rattle.tmw_streams.specs.Transfers.{Tells};
 
 use std::alloc::Global;
 use tmw_report::Fault;

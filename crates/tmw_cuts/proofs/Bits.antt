@@ -1,7 +1,6 @@
 -- The bits of a mask of transactions, one by one, and a mask with one more.
-use Rattle.tmw_cuts.proofs.Shared.{Bool, List, Some, Txn, [], arith, before_of, bit, bit_at, bit_at-suc, bit_at_above, bit_at_lowest, bit_or, mod-eq_of_lt, pow-suc, pow_mono, precedes, refl, slice_get, suc, sym, zero, ℕ, ◌%◌, ◌*◌, ◌+◌, ◌-◌, ◌/◌, ◌<◌, ◌^◌, ◌∙◌, ◌∷◌, ◌≡◌, ◌≤◌}
+use Rattle.tmw_cuts.proofs.Shared.{Bool, List, Some, Txn, [], and_pow, arith, before_of, bit, bit_at, bit_at-pow_other, bit_at-pow_same, bit_at-suc, bit_at_above, bit_at_lowest, bit_at_or, bit_or, mod-eq_of_lt, pow-suc, pow_mono, precedes, refl, slice_get, suc, sym, zero, ℕ, ◌%◌, ◌*◌, ◌+◌, ◌-◌, ◌/◌, ◌<◌, ◌^◌, ◌∙◌, ◌∷◌, ◌≡◌, ◌≤◌}
 use Rattle.std.proofs.lemmas.Nat.{or_disjoint}
-use Rattle.std.proofs.lemmas.Nat.Bits.{and_pow, bit_at_or, bit_at-pow_other, bit_at-pow_same}
 
 low_bit : (b : Bool) (n : ℕ) → (bit b + 2 * n) % 2 ≡ bit b
 low_bit b n = grind arith

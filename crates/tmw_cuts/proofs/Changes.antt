@@ -1,8 +1,7 @@
 -- A list of transactions with one changed.
-use Rattle.tmw_cuts.proofs.Shared.{List, Some, View, [], ap, arith, cases_lt, change, get_or, inl, inr, length, length-map, length-take-le, map, refl, slice_get, slice_set, suc, sym, take, view, zero, ℕ, ◌<◌, ◌∙◌, ◌∷◌, ◌≡◌, ◌≤◌}
+use Rattle.tmw_cuts.proofs.Shared.{List, Some, View, [], ap, arith, cases_lt, change, get_or, get_or-take, inl, inr, length, length-map, length-take-le, map, refl, slice_get, slice_set, suc, sym, take, take-set-le, view, zero, ℕ, ◌<◌, ◌∙◌, ◌∷◌, ◌≡◌, ◌≤◌}
 use Rattle.tmw_cuts.specs.declared.txn.Txn.{Txn}
 use Rattle.std.proofs.Math.Seq.{take-set-lt}
-use Rattle.std.proofs.lemmas.List.{get_or-take, take-set-le}
 
 change-at : (f : View → View) (txns : List Txn) (i : ℕ) (d new : Txn) → i < length txns
     → view new ≡ f (view (get_or txns i d)) → map view (slice_set txns i new) ≡ change i f (map view txns)

@@ -1,5 +1,5 @@
 -- What an effect has to tell with an operation more, and what is left of an add where it is an answer and then a write.
-use Rattle.tmw_cuts.proofs.Shared.{Add, Effect, IsEffectOf, IsMaskOf, Ix, List, Op, Read, SumsUp, Write, [], and-true, bit_at, cases_Bool, eq-eqb, false, if◌then◌else◌, inl, inr, length, refl, slice_index, set-get_or, slice_set, sym, true, writes, ℕ, ◌%◌, ◌&&◌, ◌++◌, ◌+◌, ◌==◌, ◌^◌, ◌∙◌, ◌∷◌, ◌≡◌}
+use Rattle.tmw_cuts.proofs.Shared.{Add, Effect, IsEffectOf, IsMaskOf, Ix, List, Op, Read, SumsUp, Write, [], and-true, bit_at, cases_Bool, eq-eqb, false, if◌then◌else◌, inl, inr, length, refl, set-get_or, slice_index, slice_set, sym, true, writes, ℕ, ◌%◌, ◌&&◌, ◌++◌, ◌+◌, ◌==◌, ◌^◌, ◌∙◌, ◌∷◌, ◌≡◌}
 use Rattle.tmw_cuts.proofs.Chosen.{with_bit, with_new, with_bit-has}
 use Rattle.tmw_cuts.proofs.Effects.{add-split, read-left, read-needed, read-first}
 use Rattle.tmw_cuts.proofs.RegisterUse.{with-write, needs-write, writes-read, with-read, writes-add, needs-add}

@@ -1,8 +1,5 @@
 -- Which events a thread's pending call lets go on, and what the others are refused for.
-use Rattle.tmw_cuts.proofs.Shared.{arith, Answer, Ask, Begin, Bool, End, Err, Idle, Ix, Kind, Malformed, Move, None, Ok, Option, Rejects, Some, [], after_call, answers, answers_asked, asks, call_in, false, goes_on, is_call_answer, is_call_asked, is_over, lacks_register, move_of, numbered, operation, option_map, refl, status_after, true, ℕ, ◌∷◌, ◌≡◌}
-use Rattle.tmw_defs.specs.declared.op.Op.{Op}
-use Rattle.tmw_defs.specs.declared.status.Status.TheVariants.{Live}
-use Rattle.tmw_events.specs.declared.event.Kind.TheVariants.{R, V, W, K, T, C, X, A, N}
+use Rattle.tmw_cuts.proofs.Shared.{A, Answer, Ask, Begin, Bool, C, End, Err, Idle, Ix, K, Kind, Live, Malformed, Move, N, None, Ok, Op, Option, R, Rejects, Some, T, V, W, X, [], after_call, answers, answers_asked, arith, asks, call_in, false, goes_on, is_call_answer, is_call_asked, is_over, lacks_register, move_of, numbered, operation, option_map, refl, status_after, true, ℕ, ◌∷◌, ◌≡◌}
 
 abbrev pub ends_at : Kind → Bool
 ends_at k = is_over (status_after (Some k))

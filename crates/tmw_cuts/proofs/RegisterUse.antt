@@ -1,5 +1,5 @@
 -- What operations write, need and leave where others follow them.
-use Rattle.tmw_cuts.proofs.Shared.{Add, ap, arith, IsMaskOf, Ix, List, Op, Read, Write, [], cases_Bool, eqb-true, inl, inr, needs, not, refl, sym, writes, ℕ, ◌&&◌, ◌++◌, ◌==◌, ◌||◌, ◌∙◌, ◌∷◌, ◌≡◌}
+use Rattle.tmw_cuts.proofs.Shared.{Add, IsMaskOf, Ix, List, Op, Read, Write, [], ap, arith, cases_Bool, eqb-true, inl, inr, needs, not, refl, sym, writes, ℕ, ◌&&◌, ◌++◌, ◌==◌, ◌||◌, ◌∙◌, ◌∷◌, ◌≡◌}
 use Rattle.tmw_cuts.proofs.Chosen.{with_bit, with_new, has_bit-with_bit}
 
 -- a write more

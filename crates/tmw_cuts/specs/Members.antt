@@ -1,7 +1,5 @@
 -- The states of a set, in rising order: register 0 is compared first.
-use Rattle.std.specs.Prelude.{◌≡◌, ◌↔◌, ◌⊎◌, ◌≤◌, ℕ, List, vec_capacity}
-use Rattle.std.specs.List.{Contains}
-use Rattle.tmw_defs.specs.Opaque.{State}
+use Rattle.tmw_cuts.specs.Shared.{Contains, List, State, vec_capacity, ℕ, ◌↔◌, ◌≡◌, ◌≤◌, ◌⊎◌}
 use Rattle.tmw_cuts.specs.declared.states.States.{States}
 
 abbrev pub members : States → List State

@@ -1,8 +1,5 @@
 -- Some of the registers: as a mask, or as two lists, of which the first says which they are, and the second has their values.
-use Rattle.std.specs.Prelude.{◌≡◌, ◌==◌, ◌&&◌, ◌||◌, ℕ, Bool, true, not, List, [], ◌∷◌, map, if◌then◌else◌}
-use Rattle.std.specs.Int.{bit_at}
-use Rattle.std.specs.List.{range_with_len}
-use Rattle.tmw_defs.specs.Opaque.{State}
+use Rattle.tmw_cuts.specs.Shared.{Bool, List, State, [], bit_at, if◌then◌else◌, map, not, range_with_len, true, ℕ, ◌&&◌, ◌==◌, ◌||◌, ◌∷◌, ◌≡◌}
 
 -- Bit r of the mask is 1 exactly where the test holds of r: the mask is of these registers, and has no other bit.
 abbrev pub IsMaskOf : (ℕ → Bool) → ℕ → Type 0

@@ -1,7 +1,5 @@
 -- What operations do to a register.
-use Rattle.std.specs.Prelude.{◌==◌, ◌&&◌, ◌||◌, ◌+◌, ◌%◌, ◌^◌, ℕ, Bool, false, not, List, [], ◌∷◌, Option, Some, if◌then◌else◌}
-use Rattle.tmw_defs.specs.declared.op.Op.{Op}
-use Rattle.tmw_defs.specs.declared.op.Op.TheVariants.{Read, Write, Add}
+use Rattle.tmw_cuts.specs.Shared.{Add, Bool, List, Op, Option, Read, Some, Write, [], false, if◌then◌else◌, not, ℕ, ◌%◌, ◌&&◌, ◌+◌, ◌==◌, ◌^◌, ◌||◌, ◌∷◌}
 
 -- One of the operations writes or adds to the register.
 abbrev pub writes : ℕ → List Op → Bool

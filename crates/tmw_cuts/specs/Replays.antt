@@ -1,7 +1,5 @@
 -- What operations make of a state.
-use Rattle.std.specs.Prelude.{◌≡◌, List, Option, Some, None, IsTrue, IsFalse}
-use Rattle.tmw_defs.specs.declared.op.Op.{Op}
-use Rattle.tmw_defs.specs.Opaque.{State, reads_hold, after_writes}
+use Rattle.tmw_cuts.specs.Shared.{IsFalse, IsTrue, List, None, Op, Option, Some, State, after_writes, reads_hold, ◌≡◌}
 
 -- The result is the state after these operations, where each was answered what its register held then, and else None.
 abbrev pub Replays : State → List Op → Option State → Type 0

@@ -1,17 +1,13 @@
 -- Which events a window stands for: it shows their transactions, in the order of their first events.
-use Rattle.std.specs.Prelude.{◌≡◌, ◌+◌, ◌*◌, ◌<◌, ℕ, List, [], ◌∷◌, length, map, take, slice_index_or, Ok, false, true, IsTrue, Bool, Option, option_map}
+use Rattle.tmw_cuts.specs.Shared.{Bool, IsTrue, Kind, List, Ok, Option, Txn, [], false, is_well_formed, lacks_register, length, map, operations, option_map, precedes, slice_index_or, status_of, take, transactions, true, ℕ, ◌*◌, ◌+◌, ◌<◌, ◌∷◌, ◌≡◌}
 use Rattle.tmw_events.specs.declared.event.Event.{Event}
-use Rattle.tmw_events.specs.declared.event.Kind.{Kind}
-use Rattle.tmw_defs.specs.History.{Txn, operations, status_of, transactions, is_well_formed}
-use Rattle.tmw_defs.specs.Opaque.{precedes}
-use Rattle.tmw_wellformed.specs.Faults.{lacks_register}
 use Rattle.tmw_cuts.specs.declared.turn.Move.{Move}
 use Rattle.tmw_cuts.specs.declared.turn.Move.TheVariants.{Begin, End}
 use Rattle.tmw_cuts.specs.declared.turn.Turn.{Turn}
-use Rattle.tmw_cuts.specs.declared.txn.Txn as cuts
 use Rattle.tmw_cuts.specs.declared.window.Window.{Window}
 use Rattle.tmw_cuts.specs.Turns.{between, Found, after_call, find_open, found_in, kept_in}
 use Rattle.tmw_cuts.specs.Views.{View, view, bit, completed_mask}
+use Rattle.tmw_cuts.specs.declared.txn.Txn as cuts
 
 -- The number whose bit j says that transaction j of these precedes this one in real time.
 abbrev pub before_of : List Txn → Txn → ℕ

@@ -1,14 +1,9 @@
 -- What a turn tells of a thread: the place of its open transaction and its pending call.
-use Rattle.std.specs.Prelude.{◌≡◌, slice_index_or, slice_set, ◌==◌, ◌&&◌, ℕ, Bool, not, zero, suc, List, [], ◌∷◌, ◌++◌, Option, Some, None, option_map, Result, Ok, Err, if◌then◌else◌}
-use Rattle.tmw_events.specs.declared.event.Kind.{Kind}
+use Rattle.tmw_cuts.specs.Shared.{Bool, Err, Ix, Kind, List, None, Ok, Op, Option, Result, Some, Txn, [], answers, asks, if◌then◌else◌, is_ended, is_over, not, operation, option_map, slice_index_or, slice_set, status_after, suc, zero, ℕ, ◌&&◌, ◌++◌, ◌==◌, ◌∷◌, ◌≡◌}
 use Rattle.tmw_events.specs.declared.event.Kind.TheVariants.{A, R, W, T, X, N}
-use Rattle.tmw_events.specs.declared.ix.Ix.{Ix}
 use Rattle.tmw_events.specs.EventOfWords.{ix_of}
-use Rattle.tmw_defs.specs.declared.op.Op.{Op}
-use Rattle.tmw_defs.specs.History.{Txn, answers, is_ended, is_over, status_after, operation}
 use Rattle.tmw_wellformed.specs.declared.malformed.Malformed.{Malformed}
 use Rattle.tmw_wellformed.specs.declared.malformed.Malformed.TheVariants.{Busy, Idle, Mismatch}
-use Rattle.tmw_wellformed.specs.Faults.{asks}
 use Rattle.tmw_wellformed.specs.PendingCalls.{call_of, next_call}
 use Rattle.tmw_cuts.specs.Views.{View, new_view, next_view}
 use Rattle.tmw_cuts.specs.declared.turn.Turn.{Turn}

@@ -1,9 +1,6 @@
 -- What a window shows of a transaction.
-use Rattle.std.specs.Prelude.{◌+◌, ◌*◌, ℕ, Bool, true, false, List, [], ◌∷◌, ◌++◌, Some}
-use Rattle.tmw_events.specs.declared.event.Kind.{Kind}
-use Rattle.tmw_defs.specs.declared.op.Op.{Op}
+use Rattle.tmw_cuts.specs.Shared.{Bool, Kind, List, Op, Some, [], false, is_over, status_after, true, ℕ, ◌*◌, ◌++◌, ◌+◌, ◌∷◌}
 use Rattle.tmw_defs.specs.declared.status.Status.{Status}
-use Rattle.tmw_defs.specs.History.{is_over, status_after}
 use Rattle.tmw_cuts.specs.declared.effect.Effect.{Effect}
 use Rattle.tmw_cuts.specs.declared.txn.Txn.{Txn}
 

@@ -1,8 +1,4 @@
-ghost use Rattle.std.specs.Prelude.{◌≡◌, ◌==◌, ◌<◌, ◌++◌, [], ◌∷◌, List, None, IsFalse, length, slice_index};
-ghost use Rattle.std.specs.Int.{bit_at};
-ghost use Rattle.tmw_defs.specs.declared.op.Op.{Op};
-ghost use Rattle.tmw_defs.specs.declared.op.Op.TheVariants.{Read, Write, Add};
-ghost use Rattle.tmw_defs.specs.Opaque.{State, reads_hold, after_writes};
+ghost use Rattle.tmw_cuts.specs.Shared.{Add, List, None, Op, Read, State, Write, [], after_writes, bit_at, reads_hold, slice_index, ◌++◌, ◌<◌, ◌==◌, ◌∷◌, ◌≡◌};
 ghost use Rattle.tmw_cuts.specs.RegisterMask.{IsMaskOf, chosen, have};
 ghost use Rattle.tmw_cuts.specs.Replays.{Replays};
 ghost use Rattle.tmw_cuts.specs.RegisterUse.{writes, needs};

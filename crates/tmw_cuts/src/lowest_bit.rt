@@ -1,5 +1,4 @@
-ghost use Rattle.std.specs.Int.{bit_at};
-ghost use Rattle.std.specs.Prelude.{◌≡◌, ◌<◌, ℕ};
+ghost use Rattle.tmw_cuts.specs.Shared.{bit_at, ℕ, ◌<◌, ◌≡◌};
 
 /// Returns the lowest place of the mask.
 #[inline(always)]

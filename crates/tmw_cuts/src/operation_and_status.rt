@@ -1,5 +1,4 @@
-ghost use Rattle.std.specs.Prelude.{◌≡◌, [], ◌∷◌, MatchOption, Some};
-ghost use Rattle.tmw_defs.specs.History.{operation, status_after};
+ghost use Rattle.tmw_cuts.specs.Shared.{MatchOption, Some, [], operation, status_after, ◌∷◌, ◌≡◌};
 
 use tmw_defs::{Op, Status};
 use tmw_events::Kind;

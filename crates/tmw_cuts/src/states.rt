@@ -1,10 +1,9 @@
-ghost use Rattle.std.specs.Prelude.{◌≡◌, ◌↔◌, ◌+◌, ◌<◌, ◌≤◌, ℕ, [], ◌∷◌, get_or, IfOk, OnOk, OnErr, IsTrue, Contains, length, slice_get};
+ghost use Rattle.tmw_cuts.specs.Shared.{Contains, IfOk, IsTrue, OnErr, OnOk, [], get_or, length, slice_get, zeros, ℕ, ◌+◌, ◌<◌, ◌↔◌, ◌∷◌, ◌≡◌, ◌≤◌};
 ghost use Rattle.std.specs.List.Sorted.{IsStrictlySortedBy};
 ghost use Rattle.std.specs.Cmp.Lexicographic.{slice_cmp};
 ghost use Rattle.std.specs.Ordering.{nat_cmp};
 ghost use Rattle.std.specs.declared.cmp.Ordering.TheVariants.{Less};
 ghost use Rattle.std.proofs.lemmas.Map.Keys.{IsStrictlySortedBy-prop};
-ghost use Rattle.tmw_defs.specs.Opaque.{zeros};
 
 use std::alloc::{AllocError, Global};
 use std::cmp::Ordering;

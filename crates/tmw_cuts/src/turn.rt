@@ -1,11 +1,8 @@
 //! Where a thread is between its events, and what its next event is.
-ghost use Rattle.std.specs.Prelude.{◌≡◌, Option, Some, None, IsTrue, IsFalse};
-ghost use Rattle.tmw_wellformed.specs.Faults.{asks};
+ghost use Rattle.tmw_cuts.specs.Shared.{IsFalse, IsTrue, Ix, Kind, None, Option, Some, asks, ◌≡◌};
 ghost use Rattle.tmw_cuts.specs.declared.turn.Move.TheVariants.{Begin};
 ghost use Rattle.tmw_cuts.specs.StandsFor.{begun_by};
 ghost use Rattle.tmw_cuts.specs.Turns.{Turns, after_call, end_at, kept_in, kept_of};
-ghost use Rattle.tmw_events.specs.declared.event.Kind.{Kind};
-ghost use Rattle.tmw_events.specs.declared.ix.Ix.{Ix};
 
 use tmw_defs::Op;
 use tmw_events::{Ix, Kind, MOST_THREADS};

@@ -1,5 +1,4 @@
-ghost use Rattle.std.specs.Prelude.{◌≡◌, ◌<◌, [], ◌∷◌, ◌++◌, IsTrue, length};
-ghost use Rattle.tmw_defs.specs.Opaque.{State, reads_hold, after_writes};
+ghost use Rattle.tmw_cuts.specs.Shared.{IsTrue, State, [], after_writes, length, reads_hold, ◌++◌, ◌∷◌, ◌≡◌};
 ghost use Rattle.tmw_cuts.specs.Effects.{IsEffectOf, IsEffectOf-prop, leaves_none};
 ghost use Rattle.tmw_cuts.specs.RegisterMask.{IsMaskOf};
 ghost use Rattle.tmw_cuts.specs.Replays.{Replays};

@@ -1,5 +1,4 @@
-ghost use Rattle.std.specs.Prelude.{Some, slice_get, ◌≡◌, ◌*◌, ◌%◌, ◌^◌, ◌+◌, ◌<◌, ◌≤◌, [], ◌∷◌, ◌++◌, ℕ, List, IfOk, IfErr, OnOk, OnErr, IsTrue, take, length, map};
-ghost use Rattle.tmw_wellformed.specs.Faults.{lacks_register};
+ghost use Rattle.tmw_cuts.specs.Shared.{IfErr, IfOk, IsTrue, List, OnErr, OnOk, Some, [], lacks_register, length, map, slice_get, take, ℕ, ◌%◌, ◌*◌, ◌++◌, ◌+◌, ◌<◌, ◌^◌, ◌∷◌, ◌≡◌, ◌≤◌};
 ghost use Rattle.tmw_cuts.specs.Turns.{change};
 ghost use Rattle.tmw_cuts.specs.Views.{view, with_op, with_status};
 

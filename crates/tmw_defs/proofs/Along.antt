@@ -1,6 +1,6 @@
 -- An order of transactions is one of others that are pairwise like them: where each reads, may be held and leaves the same,
 -- and none precedes another that the ones like them allow.
-use Rattle.tmw_defs.proofs.Shared.{Bool, Explains, IsTrue, Leads, List, Placed, PlacesEach, Some, State, Txn, [], after, and_from, and_parts, ap, end_state, is_legal, keeps_order, list_all, may_be, may_hold, not, operations, precedes, reads_hold, refl, remove, slice_get, status_of, suc, sym, zero, ℕ, ◌∙◌, ◌∷◌, ◌≡◌, arith}
+use Rattle.tmw_defs.proofs.Shared.{Bool, Explains, IsTrue, Leads, List, Placed, PlacesEach, Some, State, Txn, [], after, and_from, and_parts, ap, arith, end_state, is_legal, keeps_order, list_all, may_be, may_hold, not, operations, precedes, reads_hold, refl, remove, slice_get, status_of, suc, sym, zero, ℕ, ◌∙◌, ◌∷◌, ◌≡◌}
 
 -- the members of two lists are related one by one
 abbrev pub Pairs : {A B : Type 0} → (A → B → Type 0) → List A → List B → Type 0

@@ -1,6 +1,6 @@
 -- Serial orders of transactions of which some have completed before the others began: an order of all of them is one of
 -- the first followed by one of the others.
-use Rattle.tmw_defs.proofs.Shared.{Bool, Explains, IsTrue, Leads, List, Placed, PlacesEach, Some, State, Txn, [], after, and_from, and_parts, ap, end_state, is_legal, keeps_order, length, list_all, list_all-append, not, precedes, refl, remove, remove-append_left, slice_get, slice_get_within, suc, zero, ℕ, ◌&&◌, ◌++◌, ◌<◌, ◌∙◌, ◌∷◌, ◌≡◌, arith}
+use Rattle.tmw_defs.proofs.Shared.{Bool, Explains, IsTrue, Leads, List, Placed, PlacesEach, Some, State, Txn, [], after, and_from, and_parts, ap, arith, end_state, is_legal, keeps_order, length, list_all, list_all-append, not, precedes, refl, remove, remove-append_left, slice_get, slice_get_within, suc, zero, ℕ, ◌&&◌, ◌++◌, ◌<◌, ◌∙◌, ◌∷◌, ◌≡◌}
 use Rattle.tmw_defs.proofs.Removals.{list_all-places}
 
 -- the one has completed before the other began, and not the other way round

@@ -1,5 +1,5 @@
 -- What a completion holds of two lists together, of a part that began later, and of transactions that are pairwise like others.
-use Rattle.tmw_defs.proofs.Shared.{AreHeld, Bool, IsTrue, List, Placed, Txn, [], and_parts, ap, inl, inr, list_all, refl, true, ◌++◌, ◌∙◌, ◌∷◌, ◌≡◌, arith}
+use Rattle.tmw_defs.proofs.Shared.{AreHeld, Bool, IsTrue, List, Placed, Txn, [], and_parts, ap, arith, inl, inr, list_all, refl, true, ◌++◌, ◌∙◌, ◌∷◌, ◌≡◌}
 use Rattle.tmw_defs.proofs.Along.{Pairs, Keeps, Alike}
 use Rattle.tmw_defs.proofs.Before.{is_before, list_all-mono}
 

@@ -1,5 +1,5 @@
 -- What is said of a history by either criterion.
-use Rattle.tmw_defs.proofs.Shared.{Criterion, Event, IsFinalBy, IsTrue, List, Opacity, State, Strict, end_state, is_well_formed, outcomes_by, refl, ℕ, arith}
+use Rattle.tmw_defs.proofs.Shared.{Criterion, Event, IsFinalBy, IsTrue, List, Opacity, State, Strict, arith, end_state, is_well_formed, outcomes_by, refl, ℕ}
 
 pub formed-final : (c : Criterion) (registers : ℕ) (start : State) (h : List Event) → IsFinalBy c registers start h
     → IsTrue (is_well_formed registers h)

@@ -1,8 +1,7 @@
 -- The law of the two criteria.
-use Rattle.tmw_defs.proofs.Shared.{Criterion, Event, IsFinalBy, IsStrict, IsVerdict, List, Rules, Strict, StrictSoFar, subst, sym, take, ◌↔◌, ◌≡◌}
+use Rattle.tmw_defs.proofs.Shared.{Criterion, Event, IsFinalBy, IsStrict, IsVerdict, List, Rules, Strict, StrictSoFar, rules, subst, sym, take, ◌↔◌, ◌≡◌}
 use Rattle.tmw_defs.specs.CriteriaLaw.{CriteriaLaw, PassesNoBound}
 use Rattle.tmw_defs.proofs.Weaker.{strict-opaque}
-use Rattle.std.proofs.Common.{rules}
 
 so_far : (rules : Rules) (h : List Event) → rules.criterion ≡ Strict
     → IsVerdict rules h StrictSoFar ↔ (IsStrict rules.registers rules.start h × PassesNoBound rules h)

@@ -1,7 +1,6 @@
 -- What a quiet event does to the text of the transaction that it joins.
-use Rattle.tmw_defs.proofs.Shared.{A, Bool, C, IsTrue, Ix, K, Kind, List, N, Op, Pending, R, Some, T, V, W, Write, X, [], and_parts, answers, ap, append_assoc, arith, ends, false, inl, inr, is_call, is_text, not, operation, operations, refl, status_after, status_of, sym, true, ℕ, ◌&&◌, ◌++◌, ◌∙◌, ◌∷◌, ◌≡◌, ◌⊎◌}
+use Rattle.tmw_defs.proofs.Shared.{A, Bool, C, IsTrue, Ix, K, Kind, List, N, Op, Pending, R, Some, T, V, W, Write, X, [], and_parts, answers, ap, append_assoc, arith, ends, false, inl, inr, is_call, is_text, not, operation, operations, refl, rules, status_after, status_of, sym, true, ℕ, ◌&&◌, ◌++◌, ◌∙◌, ◌∷◌, ◌≡◌, ◌⊎◌}
 use Rattle.tmw_defs.proofs.TextsProof.{slice_get_last}
-use Rattle.std.proofs.Common.{rules}
 
 -- the event answers no read and no add
 abbrev pub tells_no_value : Kind → Bool

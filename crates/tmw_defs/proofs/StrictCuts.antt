@@ -1,5 +1,5 @@
 -- Over a cut, serial orders of what a completion of a history holds are those of what went before followed by those of what follows.
-use Rattle.tmw_defs.proofs.Shared.{Event, Explains, IsTrue, LeadsBy, List, State, Strict, Txn, and_from, ap, end_state, is_cut, length, list_all-append, transactions, ◌++◌, ◌∙◌, arith}
+use Rattle.tmw_defs.proofs.Shared.{Event, Explains, IsTrue, LeadsBy, List, State, Strict, Txn, and_from, ap, arith, end_state, is_cut, length, list_all-append, transactions, ◌++◌, ◌∙◌}
 use Rattle.tmw_defs.proofs.Along.{Pairs, Keeps, explains-along}
 use Rattle.tmw_defs.proofs.Apart.{explains_split}
 use Rattle.tmw_defs.proofs.Before.{is_before, explains-append, end_state-append}

@@ -1,5 +1,5 @@
 -- Quiet events and strict serializability: a completion may hold the same transactions after a quiet event, in the same order.
-use Rattle.tmw_defs.proofs.Shared.{A, AreHeld, C, Event, IsFinalStrict, IsTrue, List, State, Txn, [], add_event, and_parts, awaits_commit, cases_Bool, false, inl, inr, is_pending, is_quiet_strictly, is_text, is_well_formed, list_all, status_of, transactions, ℕ, ◌&&◌, ◌++◌, ◌==◌, ◌∷◌, ◌≡◌, arith}
+use Rattle.tmw_defs.proofs.Shared.{A, AreHeld, C, Event, IsFinalStrict, IsTrue, List, State, Txn, [], add_event, and_parts, arith, awaits_commit, cases_Bool, false, inl, inr, is_pending, is_quiet_strictly, is_text, is_well_formed, list_all, status_of, transactions, ℕ, ◌&&◌, ◌++◌, ◌==◌, ◌∷◌, ◌≡◌}
 use Rattle.tmw_defs.proofs.OneMore.{joins, add_event_past, transactions-push}
 use Rattle.tmw_defs.proofs.QuietProof.{left_out, or_none, joined_live}
 use Rattle.tmw_defs.proofs.QuietTexts.{status_of-push}

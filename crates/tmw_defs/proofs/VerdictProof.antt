@@ -1,12 +1,11 @@
 -- What the verdict is after one event more, by the outcomes at the last cut of a history in which nothing is wrong.
-use Rattle.tmw_defs.proofs.Shared.{AreFine, Criterion, EndsBy, Event, HasWide, IsCutLaw, IsFalse, IsFinalBy, IsFine, IsFirst, IsLastCut, IsMalformed, IsTooMany, IsTooWide, IsTrue, IsVerdict, IsViolated, LeadsBy, List, Malformed, MoreThan, Only, Opacity, OpaqueSoFar, Rules, State, Strict, StrictSoFar, SumsUp, Txn, Undecided, Violated, [], ap, arith, between, both_ways, cases_lt, drop, drop_all, inl, inr, is_cut, is_quiet_by, is_well_formed, length, outcomes_by, refl, so_far, sym, take, take-append-drop, take-length, take_all, transactions, ℕ, ◌++◌, ◌+◌, ◌<◌, ◌↔◌, ◌∙◌, ◌∷◌, ◌≡◌, ◌≤◌}
+use Rattle.tmw_defs.proofs.Shared.{AreFine, Criterion, EndsBy, Event, HasWide, IsCutLaw, IsFalse, IsFinalBy, IsFine, IsFirst, IsLastCut, IsMalformed, IsTooMany, IsTooWide, IsTrue, IsVerdict, IsViolated, LeadsBy, List, Malformed, MoreThan, Only, Opacity, OpaqueSoFar, Rules, State, Strict, StrictSoFar, SumsUp, Txn, Undecided, Violated, [], ap, arith, between, both_ways, cases_lt, drop, drop_all, inl, inr, is_cut, is_quiet_by, is_well_formed, length, outcomes_by, refl, rules, so_far, sym, take, take-append-drop, take-length, take_all, transactions, ℕ, ◌++◌, ◌+◌, ◌<◌, ◌↔◌, ◌∙◌, ◌∷◌, ◌≡◌, ◌≤◌}
 use Rattle.tmw_defs.specs.declared.verdict.Verdict.{Verdict}
 use Rattle.tmw_defs.specs.declared.verdict.Why.TheVariants.{Transactions, States}
 use Rattle.tmw_defs.proofs.Criteria.{formed-final, outcome-final}
 use Rattle.tmw_defs.proofs.CutLaws.{cut_law}
 use Rattle.tmw_defs.proofs.QuietLaws.{quiet_law}
 use Rattle.tmw_defs.proofs.WindowsProof.{length-push, take-push, take_all-push, take-append-drop-push, is_quiet_by-append, IsCutAt-push, IsCutAt_push, is_cut-push, HasWide-open, HasWide_push}
-use Rattle.std.proofs.Common.{rules}
 
 -- a larger set has more than so many states where the smaller one has
 MoreThan-within : (most : ℕ) (S N : State → Type 0) → ((s : State) → S s → N s) → MoreThan most S → MoreThan most N

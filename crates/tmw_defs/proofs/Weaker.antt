@@ -1,6 +1,6 @@
 -- Strict serializability asks less than opacity: of a serial order of all transactions, those that its completion holds are a serial
 -- order of them alone.
-use Rattle.tmw_defs.proofs.Shared.{AreHeld, Bool, Criterion, Ends, EndsBy, Event, HasOrder, HasStrictOrder, IsFinalOpaque, IsFinalStrict, IsOpaque, IsStrict, IsTrue, LeadsBy, List, Opacity, Placed, PlacesEach, Some, State, Strict, Txn, [], after, and_from, and_parts, ap, cases_Bool, end_state, false, inl, inr, is_legal, keeps_order, list_all, may_be, may_hold, not, operations, precedes, reads_hold, refl, remove, slice_get, status_of, suc, sym, take, transactions, true, zero, ℕ, ◌∙◌, ◌∷◌, ◌≡◌, arith}
+use Rattle.tmw_defs.proofs.Shared.{AreHeld, Bool, Criterion, Ends, EndsBy, Event, HasOrder, HasStrictOrder, IsFinalOpaque, IsFinalStrict, IsOpaque, IsStrict, IsTrue, LeadsBy, List, Opacity, Placed, PlacesEach, Some, State, Strict, Txn, [], after, and_from, and_parts, ap, arith, cases_Bool, end_state, false, inl, inr, is_legal, keeps_order, list_all, may_be, may_hold, not, operations, precedes, reads_hold, refl, remove, slice_get, status_of, suc, sym, take, transactions, true, zero, ℕ, ◌∙◌, ◌∷◌, ◌≡◌}
 
 -- A completion that leaves out the transaction with this index holds what one of the others holds.
 left_out : (ts members : List Txn) (i : ℕ) (t : Txn) → slice_get ts i ≡ Some t → IsTrue (may_hold (status_of t.text) false)

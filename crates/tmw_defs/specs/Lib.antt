@@ -10,6 +10,7 @@ pub mod Outcomes
 pub mod Part
 pub mod QuietEvents
 pub mod QuietLaw
+mod Shared
 pub mod Strict
 pub mod ThreadTransactions
 pub mod Verdict

@@ -1,4 +1,4 @@
-ghost use Rattle.std.specs.Prelude.{◌≡◌};
+ghost use Rattle.tmw_defs.specs.Shared.{◌≡◌};
 
 use crate::verdict::Verdict;
 

@@ -1,5 +1,5 @@
 -- What the players have recorded when the order is done.
-use Rattle.tmw_drive.proofs.Shared.{All, All-nil, AllEnd, AllPlay, AllStand, Answer, Call, Drives, Ending, EndsAs, Event, IsBeginning, IsDriven, IsTrue, IsVerdict, Kind, List, Player, Rules, [], append-nil, arith, cases_lt, get_or, get_or_past, inl, inr, is_workload, kinds_of, length, no_kinds, script_at, so_far_all, subst, sym, true, ℕ, ◌<◌, ◌^◌, ◌∙◌, ◌≡◌, ◌≤◌}
+use Rattle.tmw_drive.proofs.Shared.{All, All-nil, AllEnd, AllPlay, AllStand, Answer, Call, Drives, Ending, EndsAs, Event, IsBeginning, IsDriven, IsTrue, IsVerdict, Kind, List, Player, Rules, [], append-nil, arith, cases_lt, get_or, get_or_past, inl, inr, is_workload, kinds_of, length, no_kinds, rules, script_at, so_far_all, subst, sym, true, ℕ, ◌<◌, ◌^◌, ◌∙◌, ◌≡◌, ◌≤◌}
 use Rattle.tmw_defs.specs.declared.verdict.Verdict.{Verdict}
 use Rattle.tmw_defs.specs.declared.verdict.Verdict.TheVariants.{Malformed}
 use Rattle.tmw_drive.proofs.Entries.{length-drives, own-drives}
@@ -7,7 +7,6 @@ use Rattle.tmw_drive.proofs.Players.{ends_as-plays}
 use Rattle.tmw_drive.proofs.Workloads.{are_transactions-workload, length-order, within-order}
 use Rattle.tmw_drive.specs.declared.ending.Ending.TheVariants.{Done}
 use Rattle.tmw_runs.proofs.NeverMalformed.{formed_law, never_malformed}
-use Rattle.std.proofs.Common.{rules}
 
 some_player : (players : List Player) (place : ℕ) → place < length players → Player
 some_player players place low = grind arith

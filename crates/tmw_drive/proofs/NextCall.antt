@@ -1,6 +1,5 @@
 -- What is left of a script after its next call and the answer to it.
-use Rattle.std.proofs.Common.{rules}
-use Rattle.tmw_drive.proofs.Shared.{A, BeginsNext, C, GoesOn, IsTrue, K, Kind, Leaves, List, MakesNext, N, None, Player, R, Some, T, V, W, X, [], and_from, and_parts, answers, ap, are_transactions, arith, cases_Bool, drop, drop-drop, ends, from_call, if◌then◌else◌, is_operation, is_request, leaves_aborted, leaves_answered, leaves_next, left_of, ne_eqb, next_of, refl, sym, ℕ, ◌++◌, ◌+◌, ◌==◌, ◌∙◌, ◌∷◌, ◌≡◌}
+use Rattle.tmw_drive.proofs.Shared.{A, BeginsNext, C, GoesOn, IsTrue, K, Kind, Leaves, List, MakesNext, N, None, Player, R, Some, T, V, W, X, [], and_from, and_parts, answers, ap, are_transactions, arith, cases_Bool, drop, drop-drop, ends, from_call, if◌then◌else◌, is_operation, is_request, leaves_aborted, leaves_answered, leaves_next, left_of, ne_eqb, next_of, refl, rules, sym, ℕ, ◌++◌, ◌+◌, ◌==◌, ◌∙◌, ◌∷◌, ◌≡◌}
 
 -- what is left after this answer to the next call
 abbrev pub next_left : Kind → List (List Kind) → List (List Kind)

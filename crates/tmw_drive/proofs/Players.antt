@@ -1,6 +1,5 @@
 -- A player that makes its next call, or has none left.
-use Rattle.std.proofs.Common.{rules}
-use Rattle.tmw_drive.proofs.Shared.{A, Answer, BeginsNext, Call, Ending, EndsAs, GoesOn, IsBeginning, IsEnding, IsNew, IsTrue, IsWholeRun, Kind, Leaves, List, MatchBool-at_true, None, Option, Player, Plays, Some, Stands, StandsSoFar, [], answers, ap, are_transactions, beginning, cases_Bool, drop, ends, from_call, leaves_all, left_of, next_of, not_whole, refl, so_far_answered, so_far_none, subst, sym, true, whole_run, ℕ, ◌++◌, ◌==◌, ◌∙◌, ◌∷◌, ◌≡◌, arith}
+use Rattle.tmw_drive.proofs.Shared.{A, Answer, BeginsNext, Call, Ending, EndsAs, GoesOn, IsBeginning, IsEnding, IsNew, IsTrue, IsWholeRun, Kind, Leaves, List, MatchBool-at_true, None, Option, Player, Plays, Some, Stands, StandsSoFar, [], answers, ap, are_transactions, arith, beginning, cases_Bool, drop, ends, from_call, leaves_all, left_of, next_of, not_whole, refl, rules, so_far_answered, so_far_none, subst, sym, true, whole_run, ℕ, ◌++◌, ◌==◌, ◌∙◌, ◌∷◌, ◌≡◌}
 use Rattle.tmw_drive.proofs.NextCall.{next_left, next_of-some, next_of-none, left_of-goes_on, first-goes_on, leaves-next_left, are_transactions-next_left}
 use Rattle.tmw_drive.specs.FreshTx.{IsFresh}
 use Rattle.tmw_runs.proofs.Calls.{are_calls-transactions}

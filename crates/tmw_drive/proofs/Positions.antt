@@ -1,5 +1,5 @@
 -- The script and the call that are read at a player's position.
-use Rattle.tmw_drive.proofs.Shared.{Kind, List, Some, [], calls_of, drop, from_call, get_or, get_or-map, length, next_of, refl, script_at, scripts_of, slice_get, suc, zero, ℕ, ◌<◌, ◌∷◌, ◌≡◌, arith}
+use Rattle.tmw_drive.proofs.Shared.{Kind, List, Some, [], arith, calls_of, drop, from_call, get_or, get_or-map, length, next_of, refl, script_at, scripts_of, slice_get, suc, zero, ℕ, ◌<◌, ◌∷◌, ◌≡◌}
 use Rattle.std.specs.Global.{Vec}
 
 next_of-drop : (calls : List Kind) (call : ℕ) (later : List (List Kind)) → next_of (drop call calls ∷ later) ≡ slice_get calls call

@@ -1,5 +1,5 @@
 -- What a workload tells of its scripts and its order.
-use Rattle.tmw_drive.proofs.Shared.{All, All-cons, All-nil, IsTrue, Kind, List, [], and_from, and_parts, are_transactions, is_short_script, is_short_transaction, is_workload, length, ltb-true, nat_le, nat_lt, refl, script_at, suc, zero, ℕ, ◌<◌, ◌∷◌, ◌≤◌, arith}
+use Rattle.tmw_drive.proofs.Shared.{All, All-cons, All-nil, IsTrue, Kind, List, [], and_from, and_parts, are_transactions, arith, is_short_script, is_short_transaction, is_workload, length, ltb-true, nat_le, nat_lt, refl, script_at, suc, zero, ℕ, ◌<◌, ◌∷◌, ◌≤◌}
 use Rattle.std.specs.List.{list_all}
 
 pub length-order : (registers : ℕ) (scripts : List (List (List Kind))) (order : List ℕ) → IsTrue (is_workload registers scripts order)

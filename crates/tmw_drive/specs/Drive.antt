@@ -1,13 +1,8 @@
 -- One thread makes the calls of all scripts: what it records, and how far each script has come.
-use Rattle.std.specs.Prelude.{◌≡◌, ◌<◌, ◌++◌, ◌⊎◌, ℕ, true, List, [], ◌∷◌, length, get_or, All}
-use Rattle.tmw_defs.specs.ThreadTransactions.{kinds_of}
+use Rattle.tmw_drive.specs.Shared.{All, AllStand, Answer, Call, Event, Kind, List, [], get_or, kinds_of, length, true, ℕ, ◌++◌, ◌<◌, ◌∷◌, ◌≡◌, ◌⊎◌}
 use Rattle.tmw_drive.specs.declared.ending.Ending.{Ending}
 use Rattle.tmw_drive.specs.declared.ending.Ending.TheVariants.{Done, Left, Stopped}
-use Rattle.tmw_events.specs.declared.event.Event.{Event}
-use Rattle.tmw_events.specs.declared.event.Kind.{Kind}
 use Rattle.tmw_runs.specs.Runs.{IsWholeRun, IsBeginning}
-use Rattle.tmw_runs.specs.AnswersStand.{AllStand}
-use Rattle.tmw_tm.specs.Answers.{Call, Answer}
 
 -- The script of this thread. A thread without a script has nothing to do.
 abbrev pub script_at : List (List (List Kind)) → ℕ → List (List Kind)

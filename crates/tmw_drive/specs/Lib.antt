@@ -1,3 +1,4 @@
 pub mod Drive
 pub mod FreshTx
 pub mod Player
+mod Shared

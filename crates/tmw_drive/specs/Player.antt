@@ -1,19 +1,12 @@
 -- How a thread stands to its script, of which it makes one call after another.
+use Rattle.tmw_drive.specs.Shared.{Answer, Call, Event, IsTrue, Kind, List, MatchBool, None, Option, Some, StandsSoFar, [], are_transactions, drop, ends, get_or, kinds_of, length, map, ℕ, ◌+◌, ◌<◌, ◌==◌, ◌∷◌, ◌≡◌}
 use Rattle.std.specs.Global.{Vec}
-use Rattle.std.specs.Prelude.{◌≡◌, ◌==◌, ◌<◌, ◌+◌, ℕ, IsTrue, MatchBool, List, [], ◌∷◌, Option, Some, None, length, get_or, drop, map}
-use Rattle.tmw_defs.specs.History.{ends}
-use Rattle.tmw_defs.specs.ThreadTransactions.{kinds_of}
 use Rattle.tmw_drive.specs.Drive.{script_at}
 use Rattle.tmw_drive.specs.FreshTx.{IsFresh}
 use Rattle.tmw_drive.specs.declared.ending.Ending.{Ending}
 use Rattle.tmw_drive.specs.declared.ending.Ending.TheVariants.{Done, Left}
 use Rattle.tmw_drive.specs.declared.player.Player.{Player}
-use Rattle.tmw_events.specs.declared.event.Event.{Event}
-use Rattle.tmw_events.specs.declared.event.Kind.{Kind}
 use Rattle.tmw_runs.specs.ScriptRest.{Leaves}
-use Rattle.tmw_runs.specs.Scripts.{are_transactions}
-use Rattle.tmw_runs.specs.AnswersStand.{StandsSoFar}
-use Rattle.tmw_tm.specs.Answers.{Call, Answer}
 
 -- The script that these vectors of calls are.
 abbrev pub calls_of : List (Vec Kind) → List (List Kind)

@@ -1,10 +1,6 @@
 //! A call is made of the memory, and what is recorded of its answer.
-ghost use Rattle.std.specs.Prelude.{◌≡◌, IsTrue};
-ghost use Rattle.tmw_defs.specs.History.{answers, ends};
+ghost use Rattle.tmw_drive.specs.Shared.{A, Gives, IsTrue, Stands, answers, did_answer, ends, ◌≡◌};
 ghost use Rattle.tmw_drive.specs.FreshTx.{IsFresh};
-ghost use Rattle.tmw_events.specs.declared.event.Kind.TheVariants.{A};
-ghost use Rattle.tmw_runs.specs.AnswersStand.{Gives, Stands};
-ghost use Rattle.tmw_tm.specs.Answers.{did_answer};
 ghost use Rattle.tmw_tm.specs.Answers.Call.{Begin};
 ghost use Rattle.tmw_tm.specs.declared.answer.Did.TheVariants.{Abort};
 

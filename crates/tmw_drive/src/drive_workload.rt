@@ -1,11 +1,10 @@
-ghost use Rattle.std.specs.Prelude.{◌≡◌, ◌≢◌, ◌<◌, ◌≤◌, ◌↔◌, ◌^◌, ℕ, length, IfOk, IfErr};
+ghost use Rattle.tmw_drive.specs.Shared.{IfErr, IfOk, length, scripts_of, ℕ, ◌<◌, ◌^◌, ◌↔◌, ◌≡◌, ◌≢◌, ◌≤◌};
 ghost use Rattle.tmw_defs.specs.Opaque.{zeros};
 ghost use Rattle.tmw_defs.specs.Verdict.{IsVerdict};
 ghost use Rattle.tmw_defs.specs.declared.verdict.Verdict.TheVariants.{Malformed};
 ghost use Rattle.tmw_drive.specs.Drive.{IsDriven};
-ghost use Rattle.tmw_drive.specs.declared.fault.DriveFault.TheVariants.{Registers as TooManyRegisters};
 ghost use Rattle.tmw_monitor.specs.Fits.{rules_of};
-ghost use Rattle.tmw_runs.specs.Scripts.{scripts_of};
+ghost use Rattle.tmw_drive.specs.declared.fault.DriveFault.TheVariants.{Registers as TooManyRegisters};
 
 use crate::ending::Ending;
 use crate::fault::DriveFault;

@@ -1,9 +1,7 @@
 //! The threads of a workload in turn, as its order has it.
-ghost use Rattle.std.specs.Prelude.{◌≡◌, ◌<◌, ◌≤◌, IfOk, OnOk, All, length};
-ghost use Rattle.tmw_defs.specs.ThreadTransactions.{kinds_of};
+ghost use Rattle.tmw_drive.specs.Shared.{All, IfOk, OnOk, kinds_of, length, scripts_of, ◌<◌, ◌≡◌, ◌≤◌};
 ghost use Rattle.tmw_drive.specs.Drive.{script_at, DoesEntry, Drives};
 ghost use Rattle.tmw_drive.specs.Player.{calls_of, AllEnd, AllNew, AllPlay, Plays};
-ghost use Rattle.tmw_runs.specs.Scripts.{scripts_of};
 
 use crate::ending::Ending;
 use crate::player::Player;

@@ -1,7 +1,4 @@
-ghost use Rattle.std.specs.Prelude.{◌≡◌, ◌==◌, ◌+◌, ◌<◌, ◌^◌, false, IsTrue, OnSome};
-ghost use Rattle.tmw_defs.specs.History.{answers, ends};
-ghost use Rattle.tmw_events.specs.declared.event.Kind.TheVariants.{A};
-ghost use Rattle.tmw_runs.specs.AnswersStand.{Stands};
+ghost use Rattle.tmw_drive.specs.Shared.{A, IsTrue, OnSome, Stands, answers, ends, false, ◌+◌, ◌<◌, ◌==◌, ◌^◌, ◌≡◌};
 
 use crate::ask::{ask, ends};
 use crate::ending::Ending;

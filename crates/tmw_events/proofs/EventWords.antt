@@ -1,9 +1,5 @@
 -- Two words name an event, and one word a place and a header.
-use Rattle.std.proofs.Common.{◌≡◌, ℕ, ◌<◌, ◌^◌, refl, ap, ◌∙◌, arith}
-use Rattle.tmw_events.specs.EventWords.{kind_code, kind_register, kind_value, packed_header, pack, IsHeader, stamped, stamp_of, header_of, joined}
-use Rattle.tmw_events.specs.declared.event.Event.{Event}
-use Rattle.tmw_events.specs.declared.event.Kind.{Kind}
-use Rattle.tmw_events.specs.declared.event.Kind.TheVariants.{R, V, W, K, T, C, X, A, N}
+use Rattle.tmw_events.proofs.Shared.{A, C, Event, IsHeader, K, Kind, N, R, T, V, W, X, ap, arith, header_of, joined, kind_code, kind_register, kind_value, pack, packed_header, refl, stamp_of, stamped, ℕ, ◌<◌, ◌^◌, ◌∙◌, ◌≡◌}
 use Rattle.tmw_events.proofs.Same.{same_ix}
 
 -- there are nine codes

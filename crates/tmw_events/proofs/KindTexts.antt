@@ -1,9 +1,5 @@
 -- A text whose register is no digit from 0 to 7 is the text of no kind.
-use Rattle.std.proofs.Common.{◌≡◌, ℕ, ◌≤◌, List, length, get_or, ap, arith}
-use Rattle.tmw_events.specs.Text.{digit, kind_text}
-use Rattle.tmw_events.specs.declared.event.Kind.{Kind}
-use Rattle.tmw_events.specs.declared.event.Kind.TheVariants.{R, V, W, K, T, C, X, A, N}
-use Rattle.tmw_events.specs.declared.ix.Ix.{Ix}
+use Rattle.tmw_events.proofs.Shared.{A, C, Ix, K, Kind, List, N, R, T, V, W, X, ap, arith, digit, get_or, kind_text, length, ℕ, ◌≡◌, ◌≤◌}
 
 pub no_register : (bytes : List ℕ) (kind : Kind) → 3 ≤ length bytes → (get_or bytes 0 0 ≡ 86 → ⊥)
     → ((ix : Ix) → get_or bytes 2 0 ≡ digit ix → ⊥) → bytes ≡ kind_text kind → ⊥

@@ -1,8 +1,7 @@
 -- The number that digits write, digit by digit, and the one text of a number.
-use Rattle.std.proofs.Common.{◌≡◌, ℕ, ◌+◌, ◌*◌, ◌<◌, ◌≤◌, ◌^◌, zero, suc, List, [], ◌∷◌, length, drop, get_or, Option, Some, None, IfSome, IfNone, SomeIff, sym, ap, drop-cons, arith}
+use Rattle.tmw_events.proofs.Shared.{AllDigits, IfNone, IfSome, List, None, Option, Some, SomeIff, [], ap, arith, digits_value, digits_value_after, drop, drop-cons, get_or, length, suc, sym, zero, ℕ, ◌*◌, ◌+◌, ◌<◌, ◌^◌, ◌∷◌, ◌≡◌, ◌≤◌}
 use Rattle.std.specs.Char.{digit_value}
 use Rattle.std.specs.Fmt.{decimal}
-use Rattle.std.specs.Str.Parse.{AllDigits, digits_value_after, digits_value}
 use Rattle.std.proofs.lemmas.Fmt.{decimal-digits_value, decimal_is_IsNumeral, decimal_digit, decimal_nonempty, first_decimal}
 use Rattle.std.proofs.lemmas.Str.Parse.{IsNumeralModel, numerals_by_value, tells_digits}
 

@@ -1,7 +1,6 @@
 -- A number below 8 names one thread or register.
-use Rattle.std.proofs.Common.{◌≡◌, ℕ, ◌<◌, ap, subst}
+use Rattle.tmw_events.proofs.Shared.{Ix, ap, subst, ℕ, ◌<◌, ◌≡◌}
 use Rattle.std.proofs.Math.Bridge.{le_prop}
-use Rattle.tmw_events.specs.declared.ix.Ix.{Ix}
 
 -- a number below 8 is one thread or register
 pub same_ix : (a b : Ix) → a.number ≡ b.number → a ≡ b

@@ -1,12 +1,7 @@
 -- The words of an event tell that event.
-use Rattle.std.proofs.Common.{◌≡◌, ◌+◌, ◌*◌, ◌/◌, ◌%◌, ◌<◌, ℕ, refl, sym, ap, ◌∙◌, arith, get_or}
+use Rattle.tmw_events.proofs.Shared.{A, C, Event, Ix, K, Kind, N, R, T, V, W, X, ap, arith, get_or, kind_code, kind_register, kind_value, pack, packed_header, refl, sym, ℕ, ◌%◌, ◌*◌, ◌+◌, ◌/◌, ◌<◌, ◌∙◌, ◌≡◌}
 use Rattle.tmw_events.proofs.Same.{same_ix}
-use Rattle.tmw_events.specs.EventWords.{packed_header, kind_code, kind_register, kind_value, pack}
 use Rattle.tmw_events.specs.EventOfWords.{unpacked, ix_of, kinds}
-use Rattle.tmw_events.specs.declared.event.Event.{Event}
-use Rattle.tmw_events.specs.declared.event.Kind.{Kind}
-use Rattle.tmw_events.specs.declared.event.Kind.TheVariants.{R, V, W, K, T, C, X, A, N}
-use Rattle.tmw_events.specs.declared.ix.Ix.{Ix}
 
 ix_of-number : (ix : Ix) (n : ℕ) → n % 8 ≡ ix.number → ix_of n ≡ ix
 ix_of-number ix n e = same_ix (ix_of n) ix e

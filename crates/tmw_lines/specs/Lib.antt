@@ -10,5 +10,6 @@ pub mod Lines
 pub mod LongLine
 pub mod NextLine
 pub mod ReadItems
+mod Shared
 pub mod Taker
 pub mod TextFault

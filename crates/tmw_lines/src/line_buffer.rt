@@ -1,5 +1,4 @@
-ghost use Rattle.std.specs.Prelude.{◌≡◌, ℕ, ◌+◌, ◌-◌, ◌<◌, ◌≤◌, List, [], ◌++◌, length, take, drop, IfOk, OnOk, OnErr};
-ghost use Rattle.tmw_streams.specs.Transfers.{Tells, FailsToRead};
+ghost use Rattle.tmw_lines.specs.Shared.{FailsToRead, IfOk, List, OnErr, OnOk, Tells, [], drop, length, take, ℕ, ◌++◌, ◌+◌, ◌-◌, ◌<◌, ◌≡◌, ◌≤◌};
 
 use tmw_streams::{IoFault, Source};
 

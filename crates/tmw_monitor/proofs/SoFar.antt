@@ -1,6 +1,5 @@
 -- The verdict where nothing is wrong is that of the criterion, and no verdict that something is.
-use Rattle.std.proofs.Common.{arith}
-use Rattle.tmw_monitor.proofs.Shared.{Criterion, Event, IsVerdict, List, Opacity, OpaqueSoFar, Rules, Strict, StrictSoFar, Verdict, so_far, sym, ◌≡◌, ◌⊎◌}
+use Rattle.tmw_monitor.proofs.Shared.{Criterion, Event, IsVerdict, List, Opacity, OpaqueSoFar, Rules, Strict, StrictSoFar, Verdict, arith, so_far, sym, ◌≡◌, ◌⊎◌}
 
 pub so_far-apart : (criterion : Criterion) (verdict : Verdict) → (verdict ≡ OpaqueSoFar → ⊥) → (verdict ≡ StrictSoFar → ⊥)
     → verdict ≡ so_far criterion → ⊥

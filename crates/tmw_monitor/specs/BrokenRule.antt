@@ -1,9 +1,6 @@
 -- The first event that fits no run.
-use Rattle.std.specs.Prelude.{◌≡◌, ◌+◌, ℕ, List, ◌∷◌, ◌++◌, length, Option, Some, None, IsTrue}
-use Rattle.tmw_events.specs.declared.event.Event.{Event}
-use Rattle.tmw_defs.specs.History.{is_well_formed}
+use Rattle.tmw_monitor.specs.Shared.{Event, Follows, IsTrue, List, None, Option, Some, is_well_formed, length, ℕ, ◌++◌, ◌+◌, ◌∷◌, ◌≡◌}
 use Rattle.tmw_wellformed.specs.Faults.{Refuses}
-use Rattle.tmw_cuts.specs.StandsFor.{Follows}
 use Rattle.tmw_cuts.specs.declared.window.Window.{Window}
 use Rattle.tmw_monitor.specs.declared.broken_rule.BrokenRule.{BrokenRule}
 

@@ -1,18 +1,6 @@
 -- Which history a monitor stands for: the relation by which its calls are described.
-use Rattle.std.specs.Prelude.{◌++◌, ◌∷◌, ◌≡◌, ℕ, List, [], length, drop, Option, Some, None, false}
-use Rattle.std.specs.List.{Contains}
-use Rattle.tmw_events.specs.declared.event.Event.{Event}
+use Rattle.tmw_monitor.specs.Shared.{Contains, Criterion, Event, IsVerdict, List, None, Opacity, Option, Rules, Some, StandsFor, State, SumsUp, Verdict, Witnesses, [], drop, false, length, members, so_far, views, views_of, ℕ, ◌++◌, ◌∷◌, ◌≡◌}
 use Rattle.tmw_events.specs.declared.registers.Registers.{Registers}
-use Rattle.tmw_defs.specs.declared.criterion.Criterion.{Criterion}
-use Rattle.tmw_defs.specs.declared.criterion.Criterion.TheVariants.{Opacity}
-use Rattle.tmw_defs.specs.Criteria.{so_far}
-use Rattle.tmw_defs.specs.Opaque.{State}
-use Rattle.tmw_defs.specs.LastCut.{SumsUp}
-use Rattle.tmw_defs.specs.Verdict.{Rules, IsVerdict}
-use Rattle.tmw_defs.specs.declared.verdict.Verdict.{Verdict}
-use Rattle.tmw_cuts.specs.Members.{members}
-use Rattle.tmw_cuts.specs.StandsFor.{StandsFor, views, views_of}
-use Rattle.tmw_witness.specs.Witness.{Witnesses}
 use Rattle.tmw_monitor.specs.declared.bounds.Bounds.{Bounds}
 use Rattle.tmw_monitor.specs.declared.monitor.Monitor.{Monitor}
 use Rattle.tmw_monitor.specs.declared.history_digest.HistoryDigest.{HistoryDigest}

@@ -1,22 +1,14 @@
 -- What a monitor holds of a history, which does not grow with what lies before the last cut.
-use Rattle.std.specs.Prelude.{◌<◌, ◌≡◌, ◌↔◌, ◌≤◌, ◌++◌, ◌∷◌, ℕ, List, [], length, take, drop}
+use Rattle.tmw_monitor.specs.Shared.{Contains, Event, IsLastCut, List, Rules, State, [], drop, length, members, outcomes_by, take, turn_at, views, views_of, ℕ, ◌++◌, ◌<◌, ◌↔◌, ◌∷◌, ◌≡◌, ◌≤◌}
 use Rattle.std.specs.Cmp.Lexicographic.{slice_cmp}
-use Rattle.std.specs.List.{Contains}
 use Rattle.std.specs.List.Sorted.{IsStrictlySortedBy}
 use Rattle.std.specs.Ordering.{nat_cmp}
-use Rattle.tmw_events.specs.declared.event.Event.{Event}
-use Rattle.tmw_defs.specs.Criteria.{outcomes_by}
-use Rattle.tmw_defs.specs.History as told
-use Rattle.tmw_defs.specs.Opaque.{State}
-use Rattle.tmw_defs.specs.LastCut.{IsLastCut}
-use Rattle.tmw_defs.specs.Verdict.{Rules}
-use Rattle.tmw_cuts.specs.Members.{members}
-use Rattle.tmw_cuts.specs.StandsFor.{turn_at, views, views_of}
 use Rattle.tmw_cuts.specs.Turns.{find_open, found_in}
 use Rattle.tmw_monitor.specs.declared.monitor.Monitor.{Monitor}
 use Rattle.tmw_monitor.specs.declared.history_digest.HistoryDigest.{HistoryDigest}
 use Rattle.tmw_monitor.specs.Fits.{Fits, KeepsNothing}
 use Rattle.tmw_monitor.specs.Monitor.{IsOpen, kept_of}
+use Rattle.tmw_defs.specs.History as told
 
 -- It holds the history's outcomes at its last cut, no more of them than the bound, and the transactions of the open window, which
 -- are those of the events since, with each thread's open one and its pending call. It holds none of their operations: the list that a

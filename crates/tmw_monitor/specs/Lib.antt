@@ -4,4 +4,5 @@ pub mod Fits
 pub mod HoldsOpen
 pub mod Monitor
 pub mod OutcomeCheck
+mod Shared
 pub mod TakeAtOnce

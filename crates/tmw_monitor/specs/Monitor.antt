@@ -1,8 +1,5 @@
 -- What a monitor tells, and what it keeps.
-use Rattle.std.specs.Prelude.{◌≡◌, ℕ, Option}
-use Rattle.tmw_defs.specs.Criteria.{so_far}
-use Rattle.tmw_defs.specs.declared.criterion.Criterion.{Criterion}
-use Rattle.tmw_defs.specs.declared.verdict.Verdict.{Verdict}
+use Rattle.tmw_monitor.specs.Shared.{Criterion, Option, Verdict, so_far, ℕ, ◌≡◌}
 use Rattle.tmw_monitor.specs.declared.bounds.Bounds.{Bounds}
 use Rattle.tmw_monitor.specs.declared.broken_rule.BrokenRule.{BrokenRule}
 use Rattle.tmw_monitor.specs.declared.monitor.Monitor.{Monitor}

@@ -1,22 +1,13 @@
 -- What is found of the events since a history's last cut, from the set of its outcomes there.
-use Rattle.std.specs.Prelude.{◌++◌, ◌∷◌, ◌≡◌, ◌↔◌, ◌⊎◌, ◌≤◌, ℕ, Bool, List, [], length, Option, Some, None, IsTrue, IsFalse}
-use Rattle.std.specs.List.{Contains}
-use Rattle.tmw_events.specs.declared.event.Event.{Event}
-use Rattle.tmw_defs.specs.declared.verdict.Verdict.{Verdict}
+use Rattle.tmw_monitor.specs.Shared.{Bool, Contains, Criterion, Event, IsFalse, IsNext, IsTrue, List, None, Option, Some, StandsFor, State, Verdict, Witnesses, [], is_cut, length, members, views_of, ℕ, ◌++◌, ◌↔◌, ◌∷◌, ◌≡◌, ◌≤◌, ◌⊎◌}
 use Rattle.tmw_defs.specs.declared.verdict.Verdict.TheVariants.{Violated, Undecided}
 use Rattle.tmw_defs.specs.declared.verdict.Why.TheVariants.{States}
-use Rattle.tmw_defs.specs.declared.criterion.Criterion.{Criterion}
-use Rattle.tmw_defs.specs.Cuts.{is_cut}
-use Rattle.tmw_defs.specs.Opaque.{State}
-use Rattle.tmw_cuts.specs.declared.states.States.{States as SetOfStates}
-use Rattle.tmw_cuts.specs.Members.{members}
-use Rattle.tmw_cuts.specs.StandsFor.{IsNext, StandsFor, views_of}
 use Rattle.tmw_search.specs.EndStates.{EndsOf, HasMoreThan}
-use Rattle.tmw_witness.specs.Witness.{Witnesses}
 use Rattle.tmw_cuts.specs.declared.turn.Move.{Move}
 use Rattle.tmw_monitor.specs.declared.history_digest.HistoryDigest.{HistoryDigest}
 use Rattle.tmw_monitor.specs.declared.outcome_check.OutcomeCheck.{OutcomeCheck}
 use Rattle.tmw_monitor.specs.declared.outcome_check.OutcomeCheck.TheVariants.{Outcome, NoOutcome, TooMany}
+use Rattle.tmw_cuts.specs.declared.states.States.{States as SetOfStates}
 
 -- The events are at no cut, and have an end state where that was in question. The set and the window stay, and a serial order that is
 -- known is one of theirs.

@@ -1,8 +1,5 @@
 -- What is kept of a history where its next event is taken at once.
-use Rattle.std.specs.Prelude.{◌≡◌, List, [], ◌∷◌, ◌++◌, None}
-use Rattle.tmw_events.specs.declared.event.Event.{Event}
-use Rattle.tmw_defs.specs.declared.criterion.Criterion.{Criterion}
-use Rattle.tmw_defs.specs.Verdict.{Rules}
+use Rattle.tmw_monitor.specs.Shared.{Criterion, Event, List, None, Rules, [], ◌++◌, ◌∷◌, ◌≡◌}
 use Rattle.tmw_monitor.specs.declared.bounds.Bounds.{Bounds}
 use Rattle.tmw_monitor.specs.declared.history_digest.HistoryDigest.{HistoryDigest}
 use Rattle.tmw_monitor.specs.Fits.{Keeps, TellsWrong}

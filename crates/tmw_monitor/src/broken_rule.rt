@@ -1,7 +1,5 @@
 //! The first event that fits no run.
-ghost use Rattle.std.specs.Prelude.{◌≡◌, ◌+◌, ℕ, List, [], ◌∷◌, ◌++◌, length};
-ghost use Rattle.tmw_events.specs.declared.event.Event.{Event};
-ghost use Rattle.tmw_cuts.specs.StandsFor.{views};
+ghost use Rattle.tmw_monitor.specs.Shared.{Event, List, [], length, views, ℕ, ◌++◌, ◌+◌, ◌∷◌, ◌≡◌};
 ghost use Rattle.tmw_monitor.specs.BrokenRule.{TellsFollowed};
 
 use tmw_cuts::Window;

@@ -1,5 +1,4 @@
-ghost use Rattle.std.specs.Prelude.{List, ℕ};
-ghost use Rattle.tmw_cuts.specs.Members.{HasRoom};
+ghost use Rattle.tmw_monitor.specs.Shared.{HasRoom, List, ℕ};
 
 use tmw_cuts::{States, Window};
 use tmw_search::EndSet;

@@ -1,6 +1,4 @@
-ghost use Rattle.std.specs.Prelude.{List, ℕ, IsTrue};
-ghost use Rattle.tmw_defs.specs.Criteria.{is_quiet_by};
-ghost use Rattle.tmw_defs.specs.History.{Txn};
+ghost use Rattle.tmw_monitor.specs.Shared.{IsTrue, List, Txn, is_quiet_by, ℕ};
 
 use tmw_defs::Criterion;
 use tmw_events::Kind;

@@ -1,5 +1,4 @@
-ghost use Rattle.std.specs.Prelude.{◌≡◌, ◌↔◌, IsTrue};
-ghost use Rattle.tmw_defs.specs.Criteria.{so_far};
+ghost use Rattle.tmw_monitor.specs.Shared.{IsTrue, so_far, ◌↔◌, ◌≡◌};
 
 use tmw_defs::{Criterion, Verdict};
 

@@ -1,6 +1,4 @@
-ghost use Rattle.std.specs.Prelude.{◌≤◌, ◌^◌, IfOk, length};
-ghost use Rattle.tmw_defs.specs.Opaque.{zeros};
-ghost use Rattle.tmw_defs.specs.Verdict.{IsVerdict};
+ghost use Rattle.tmw_monitor.specs.Shared.{IfOk, IsVerdict, length, zeros, ◌^◌, ◌≤◌};
 ghost use Rattle.tmw_monitor.specs.Fits.{rules_for, rules_of};
 
 use crate::bounds::Bounds;

@@ -1,10 +1,4 @@
-ghost use Rattle.std.specs.Prelude.{◌≡◌, ◌↔◌, ◌<◌, ◌^◌, List, [], ◌∷◌, ◌++◌, IfOk, Ok, IsTrue, length};
-ghost use Rattle.tmw_events.specs.declared.event.Event.{Event};
-ghost use Rattle.tmw_defs.specs.declared.criterion.Criterion.TheVariants.{Opacity};
-ghost use Rattle.tmw_cuts.specs.Members.{members};
-ghost use Rattle.tmw_defs.specs.Cuts.{is_cut};
-ghost use Rattle.tmw_defs.specs.Opaque.{zeros};
-ghost use Rattle.tmw_defs.specs.Verdict.{Rules, IsVerdict};
+ghost use Rattle.tmw_monitor.specs.Shared.{Event, IfOk, IsTrue, IsVerdict, List, Ok, Opacity, Rules, [], is_cut, length, members, zeros, ◌<◌, ◌^◌, ◌↔◌, ◌≡◌};
 
 use crate::bounds::Bounds;
 use crate::broken_rule::{BrokenRule, follow};

@@ -1,6 +1,4 @@
-ghost use Rattle.std.specs.Prelude.{◌≡◌, ◌+◌, List, [], ◌∷◌, ◌++◌, None, length};
-ghost use Rattle.tmw_events.specs.declared.event.Event.{Event};
-ghost use Rattle.tmw_defs.specs.Verdict.{Rules};
+ghost use Rattle.tmw_monitor.specs.Shared.{Event, List, None, Rules, [], length, ◌++◌, ◌+◌, ◌∷◌, ◌≡◌};
 ghost use Rattle.tmw_monitor.specs.BrokenRule.{TellsFollowed};
 ghost use Rattle.tmw_monitor.specs.Fits.{Keeps, TellsWrong};
 

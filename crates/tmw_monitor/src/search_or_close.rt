@@ -1,11 +1,4 @@
-ghost use Rattle.std.specs.Prelude.{◌≡◌, ◌≤◌, ℕ, [], Bool, List, IsTrue, IsFalse};
-ghost use Rattle.tmw_events.specs.declared.event.Event.{Event};
-ghost use Rattle.tmw_defs.specs.Cuts.{is_cut};
-ghost use Rattle.tmw_defs.specs.Opaque.{State};
-ghost use Rattle.tmw_cuts.specs.Members.{members};
-ghost use Rattle.tmw_cuts.specs.StandsFor.{StandsFor, views_of};
-ghost use Rattle.tmw_search.specs.EndStates.{EndsOf};
-ghost use Rattle.tmw_witness.specs.Witness.{Witnesses};
+ghost use Rattle.tmw_monitor.specs.Shared.{Bool, Event, IsFalse, IsTrue, List, StandsFor, Witnesses, [], is_cut, members, views_of, ℕ, ◌≡◌, ◌≤◌};
 ghost use Rattle.tmw_monitor.specs.OutcomeCheck.{Tells};
 
 use crate::history_digest::HistoryDigest;

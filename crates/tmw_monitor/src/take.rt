@@ -1,11 +1,4 @@
-ghost use Rattle.std.specs.Prelude.{◌≡◌, ◌+◌, ◌≤◌, ◌++◌, ◌∷◌, [], List, IsTrue, IsFalse, Bool, ℕ};
-ghost use Rattle.tmw_events.specs.declared.event.Event.{Event};
-ghost use Rattle.tmw_defs.specs.declared.criterion.Criterion.{Criterion};
-ghost use Rattle.tmw_defs.specs.Criteria.{is_quiet_by};
-ghost use Rattle.tmw_defs.specs.Cuts.{is_cut};
-ghost use Rattle.tmw_defs.specs.History.{transactions};
-ghost use Rattle.tmw_cuts.specs.declared.turn.Move.TheVariants.{End};
-ghost use Rattle.tmw_cuts.specs.StandsFor.{IsNext, StandsFor, begun_by, count_of};
+ghost use Rattle.tmw_monitor.specs.Shared.{Criterion, End, Event, IsFalse, IsNext, IsTrue, List, StandsFor, [], begun_by, count_of, is_cut, is_quiet_by, transactions, ℕ, ◌++◌, ◌+◌, ◌∷◌, ◌≡◌, ◌≤◌};
 ghost use Rattle.tmw_monitor.specs.OutcomeCheck.{WeighsNext};
 
 use crate::history_digest::HistoryDigest;

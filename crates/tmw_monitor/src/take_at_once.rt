@@ -1,10 +1,7 @@
 //! The way that most events take: few steps, no search and no memory.
-ghost use Rattle.std.specs.Prelude.{◌≡◌, IsTrue, IsFalse};
-ghost use Rattle.tmw_defs.specs.declared.criterion.Criterion.{Criterion};
+ghost use Rattle.tmw_monitor.specs.Shared.{Answer, Begin, Criterion, End, IsFalse, IsNext, IsTrue, ◌≡◌};
 ghost use Rattle.tmw_events.specs.declared.event.Kind.TheVariants.{V};
 ghost use Rattle.tmw_defs.specs.declared.op.Op.TheVariants.{Add};
-ghost use Rattle.tmw_cuts.specs.StandsFor.{IsNext};
-ghost use Rattle.tmw_cuts.specs.declared.turn.Move.TheVariants.{Answer, Begin, End};
 ghost use Rattle.tmw_monitor.specs.declared.bounds.Bounds.{Bounds};
 ghost use Rattle.tmw_monitor.specs.TakeAtOnce.{StaysFine, StaysKept};
 

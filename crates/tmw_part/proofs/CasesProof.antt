@@ -1,19 +1,9 @@
 -- Cases that are made of candidates for each state are a reason; candidates that end nowhere from a state come to no contradiction.
-use Rattle.tmw_part.proofs.Shared.{All, All-contains, AllByRecursion, Asked, Contains, EndsNowhere, Err, IfOk, IsFalse, IsTrue, List, None, Ok, Option, Result, Some, [], arith, cases_Bool, cases_order, ne_eqb, contradicts_in, eq-eqb, false, get_or, inl, inr, is_among, is_news, is_said_for, length, refl, states_at, suc, zero, ℕ, ◌++◌, ◌+◌, ◌<◌, ◌==◌, ◌∷◌, ◌≡◌}
-use Rattle.std.proofs.lemmas.List.Elements.{All-from_recursion, All-push, recursion_from_All}
-use Rattle.std.proofs.Common.{append-nil}
-use Rattle.tmw_part.specs.declared.candidates.Candidates.{Candidates}
+use Rattle.tmw_part.proofs.Shared.{All, All-contains, All-from_recursion, All-push, AllByRecursion, AreCandidates, AreFirst, AreOnce, AreSaid, Asked, Candidates, Contains, Drawn, EndsNowhere, Err, FindsCases, Grows, IfOk, IsCase, IsFalse, IsMadeCase, IsTrue, List, None, Ok, Option, ReasonCase, Result, Some, [], append-nil, arith, asked_at, cases_Bool, cases_order, contradicts_in, eq-eqb, false, get_or, inl, inr, is_among, is_news, is_said_for, length, ne_eqb, or_left, or_right, recursion_from_All, refl, said_places, slice_get_some, states_at, suc, zero, ℕ, ◌++◌, ◌+◌, ◌<◌, ◌==◌, ◌∷◌, ◌≡◌}
 use Rattle.tmw_part.specs.declared.reason_case.Reason.{Reason}
-use Rattle.tmw_part.specs.declared.reason_case.ReasonCase.{ReasonCase}
-use Rattle.tmw_part.specs.CaseSearch.{AreFirst, AreSaid, FindsCases, Grows, IsMadeCase, asked_at}
-use Rattle.tmw_part.specs.DerivationSearch.{AreCandidates}
-use Rattle.tmw_part.specs.DrawnSteps.{Drawn}
 use Rattle.tmw_part.specs.FindReason.{ComesToNone, FindsAmong, IsDrawnCase}
-use Rattle.tmw_part.specs.Reasons.{AreOnce, IsCase, said_places}
 use Rattle.tmw_part.proofs.PlacesProof.{once-push, once-said, said-more}
-use Rattle.tmw_search.proofs.LayerSteps.{slice_get_some}
 use Rattle.tmw_part.proofs.ListFacts.{any-last, any-more, find-none}
-use Rattle.std.proofs.lemmas.Bool.{or_left, or_right}
 use Rattle.tmw_part.proofs.StatesAt.{contains-get}
 
 among-contains : (places : List ℕ) (place : ℕ) → Contains places place → IsTrue (is_among place places)

@@ -1,11 +1,7 @@
 -- A step that follows from others can be put behind them, and is told by all.
-use Rattle.std.proofs.lemmas.List.Folds.{list_any-append}
-use Rattle.std.proofs.lemmas.Option.{slice_get_past}
-use Rattle.tmw_part.proofs.Shared.{Asked, DerivesIn, IsTrue, List, None, Option, ReasonStep, Some, [], and_from, and_parts, ap, arith, ends_before, eq-eqb, follows, has_writer, inl, inr, is_known_rival, is_same_source, is_same_writer, length, orders, refl, slice_get, suc, take-append-le, tells, zero, ℕ, ◌++◌, ◌<◌, ◌==◌, ◌∷◌, ◌≡◌, ◌⊎◌}
+use Rattle.tmw_part.proofs.Shared.{Asked, ChangedFirst, DerivesIn, IsTrue, List, None, Option, ReasonStep, Some, ValueSource, [], and_from, and_parts, ap, arith, ends_before, eq-eqb, follows, has_writer, inl, inr, is_known_rival, is_same_source, is_same_writer, length, list_any-append, orders, refl, slice_get, slice_get_past, suc, take-append-le, tells, zero, ℕ, ◌++◌, ◌<◌, ◌==◌, ◌∷◌, ◌≡◌, ◌⊎◌}
 use Rattle.std.proofs.Math.Seq.{take-append_seam}
 use Rattle.tmw_part.proofs.ListFacts.{any-last}
-use Rattle.tmw_part.specs.declared.reason_step.ReasonStep.TheVariants.{ChangedFirst}
-use Rattle.tmw_part.specs.declared.reason_step.ValueSource.{ValueSource}
 
 -- a place of a list with one more
 last_or : {A : Type 0} (xs : List A) (x y : A) (i : ℕ) → slice_get (xs ++ x ∷ []) i ≡ Some y

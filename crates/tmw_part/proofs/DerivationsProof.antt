@@ -1,9 +1,5 @@
 -- Steps to which no candidate is news, and which come to no contradiction, end nowhere.
-use Rattle.tmw_part.proofs.Shared.{All, Asked, Bool, Closes, DerivesIn, EndsNowhere, Err, IfNone, IfOk, IsFalse, IsMade, IsTrue, List, None, Ok, Option, ReasonStep, Result, Some, contradicts_in, inl, inr, list_any, sym, ℕ, ◌∙◌, ◌≡◌}
-use Rattle.std.proofs.lemmas.List.Elements.{recursion_from_All}
-use Rattle.tmw_part.specs.declared.candidates.Candidates.{Candidates}
-use Rattle.tmw_part.specs.declared.reason_case.Derivation.{Derivation}
-use Rattle.tmw_part.specs.Reasons.{IsDerivationIn}
+use Rattle.tmw_part.proofs.Shared.{All, Asked, Bool, Candidates, Closes, Derivation, DerivesIn, EndsNowhere, Err, IfNone, IfOk, IsDerivationIn, IsFalse, IsMade, IsTrue, List, None, Ok, Option, ReasonStep, Result, Some, contradicts_in, inl, inr, list_any, recursion_from_All, sym, ℕ, ◌∙◌, ◌≡◌}
 use Rattle.tmw_part.proofs.ListFacts.{find_any}
 
 none-any : {A : Type 0} (p : A → Bool) (xs : List A) → All (λ x. IsFalse (p x)) xs → IsTrue (list_any p xs) → ⊥

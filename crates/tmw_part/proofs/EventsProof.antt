@@ -1,11 +1,5 @@
 -- The transactions of a history begin apart, so that a reason tells of it.
-use Rattle.tmw_part.proofs.Shared.{All, All-from_recursion, AllByRecursion, Bool, Contains, Criterion, Event, ExplainsBy, HoldsIn, IsTrue, List, None, Option, Placed, ReasonStep, ReasonTells, Some, State, Txn, [], add_event, and_parts, arith, begin_apart, cases_Bool, eqb-true, filter, from_else, inl, inr, is_among, is_asked, length, list_all, list_any, map, may_come_from, nat_lt, ne_eqb, not, range_with_len, refl, slice_get, states_at, suc, take, transactions, transactions_from, true, zero, ℕ, ◌+◌, ◌<◌, ◌==◌, ◌∷◌, ◌≡◌}
-use Rattle.std.proofs.lemmas.List.Elements.{Contains-append_right, recursion_from_All}
-use Rattle.tmw_defs.proofs.Places.{Lies, lies-add}
-use Rattle.tmw_part.specs.declared.reason_case.Derivation.{Derivation}
-use Rattle.tmw_part.specs.declared.reason_step.ReasonStep.TheVariants.{From}
-use Rattle.tmw_part.specs.declared.reason_step.ValueSource.{ValueSource}
-use Rattle.tmw_part.specs.Reasons.{IsCase, IsDerivation, RefuteEach, assume_each, assumes, assumes_none, is_given_by, is_one, origins_of, start_of}
+use Rattle.tmw_part.proofs.Shared.{All, All-from_recursion, AllByRecursion, Bool, Contains, Contains-append_right, Criterion, Derivation, Event, ExplainsBy, From, HoldsIn, IsCase, IsDerivation, IsTrue, Lies, List, None, Option, Placed, ReasonStep, ReasonTells, RefuteEach, Some, State, Txn, ValueSource, [], add_event, and_parts, arith, assume_each, assumes, assumes_none, begin_apart, cases_Bool, eqb-true, filter, from_else, inl, inr, is_among, is_asked, is_given_by, is_one, length, lies-add, list_all, list_any, map, may_come_from, nat_lt, ne_eqb, not, origins_of, range_with_len, recursion_from_All, refl, slice_get, start_of, states_at, suc, take, transactions, transactions_from, true, zero, ℕ, ◌+◌, ◌<◌, ◌==◌, ◌∷◌, ◌≡◌}
 use Rattle.tmw_part.proofs.ListFacts.{Found, find_any, none_all}
 use Rattle.tmw_part.proofs.StatesAt.{all-at, contains-at, get-contains}
 use Rattle.tmw_part.proofs.StepsProof.{IsWithin, actual, case_at, reason_law, same_source}

@@ -1,13 +1,9 @@
 -- What is kept of a window: all of it at first, and less without a piece.
-use Rattle.tmw_part.specs.Marks.{without}
-use Rattle.tmw_part.proofs.Shared.{Bool, Event, List, Piece, [], all_kept, ap, arith, cases_Bool, false, inl, inr, is_of_any, kept_of, length, not, refl, sym, true, without_from, ◌&&◌, ℕ, ◌+◌, ◌<◌, ◌∙◌, ◌∷◌, ◌≡◌, ◌⊎◌}
+use Rattle.tmw_part.proofs.Shared.{Bool, Decides, Event, List, Piece, [], all_kept, ap, arith, cases_Bool, enumerate_from, false, inl, inr, is_of_any, kept_of, length, length-map, length-replicate, not, refl, sym, true, without, without_from, zip, ℕ, ◌&&◌, ◌+◌, ◌<◌, ◌∙◌, ◌∷◌, ◌≡◌, ◌⊎◌}
 use Rattle.std.specs.Cmp.Lexicographic.{pointwise}
 use Rattle.std.proofs.Math.Bool.{beq}
-use Rattle.std.specs.Prelude.{Decides}
-use Rattle.std.proofs.lemmas.List.{length-map, length-replicate}
 use Rattle.std.proofs.lemmas.List.FromFn.{length-enumerate_from}
 use Rattle.std.proofs.lemmas.Slice.Zip.{length-zip}
-use Rattle.std.specs.List.{enumerate_from, zip}
 use Rattle.std.proofs.lemmas.Slice.Eq.{slice_eq-Decides}
 
 pub length-without : (pieces : List Piece) (marks : List Bool) (window : List Event) → length marks ≡ length window

@@ -1,8 +1,5 @@
 -- Members and places of lists, and how many pass a test.
-use Rattle.tmw_part.proofs.Shared.{All, All-from_recursion, All-more, AllByRecursion, AreAmong, Bool, Contains, IfNone, IsTrue, List, None, Option, ReasonStep, Some, [], ap, arith, cases_Bool, false, get_or, inl, inr, length, list_all, list_any, or_cases, range_with_len, remove, slice_get, suc, sym, take, take_all, true, zero, ℕ, ◌++◌, ◌+◌, ◌<◌, ◌∙◌, ◌∷◌, ◌≡◌, ◌≤◌}
-use Rattle.std.specs.List.{filter, find}
-use Rattle.std.proofs.lemmas.List.Folds.{list_any-append}
-use Rattle.std.proofs.lemmas.List.Elements.{recursion_from_All}
+use Rattle.tmw_part.proofs.Shared.{All, All-from_recursion, All-more, AllByRecursion, AreAmong, Bool, Contains, IfNone, IsTrue, List, None, Option, ReasonStep, Some, [], ap, arith, cases_Bool, false, filter, find, get_or, inl, inr, length, list_all, list_any, list_any-append, or_cases, range_with_len, recursion_from_All, remove, slice_get, suc, sym, take, take_all, true, zero, ℕ, ◌++◌, ◌+◌, ◌<◌, ◌∙◌, ◌∷◌, ◌≡◌, ◌≤◌}
 
 -- one that passes the test, of those of which each has P
 pub record Found {A : Type 0} (P : A → Type 0) (test : A → Bool) : Type 0 where

@@ -1,5 +1,5 @@
 -- What holds of the transactions that a serial order places.
-use Rattle.tmw_part.proofs.Shared.{begin_apart, Bool, Committed, Criterion, ExplainsBy, IsTrue, List, Opacity, Placed, PlacesEach, Some, State, Strict, Txn, [], and_parts, ap, arith, eq-eqb, false, inl, inr, is_legal, keeps_order, list_all, may_be, not, precedes, refl, remove, slice_get, status_of, suc, sym, zero, ℕ, ◌<◌, ◌==◌, ◌∙◌, ◌∷◌, ◌≡◌, ◌⊎◌}
+use Rattle.tmw_part.proofs.Shared.{Bool, Committed, Criterion, ExplainsBy, IsTrue, List, Opacity, Placed, PlacesEach, Some, State, Strict, Txn, [], and_parts, ap, arith, begin_apart, eq-eqb, false, inl, inr, is_legal, keeps_order, list_all, may_be, not, precedes, refl, remove, slice_get, status_of, suc, sym, zero, ℕ, ◌<◌, ◌==◌, ◌∙◌, ◌∷◌, ◌≡◌, ◌⊎◌}
 use Rattle.tmw_defs.specs.Strict.{AreHeld}
 use Rattle.tmw_defs.proofs.Completions.{list_all-held}
 use Rattle.tmw_defs.proofs.Removals.{list_all-remove}

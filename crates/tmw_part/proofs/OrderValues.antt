@@ -1,6 +1,5 @@
 -- What the registers hold along a serial order: what the last that is held and changes them left, or what the start has.
-use Rattle.tmw_part.proofs.Shared.{Changes, IsUnchanged, first_unlike, is_some_of, needs, unlike_or, Add, IsTrue, List, None, Op, Option, Placed, Read, Some, State, Write, [], after, and_parts, ap, arith, cases_Bool, end_state, eq-eqb, eqb-true, false, if◌then◌else◌, inl, inr, is_legal, left_by, length, length-set, operations, reads_hold, refl, slice_get, slice_index, slice_set, suc, sym, take, writes, zero, ℕ, ◌%◌, ◌&&◌, ◌+◌, ◌<◌, ◌==◌, ◌^◌, ◌∙◌, ◌∷◌, ◌≡◌, ◌⊎◌}
-use Rattle.tmw_search.proofs.OneEnd.{after-final, final, final-kept, index-set, length-after}
+use Rattle.tmw_part.proofs.Shared.{Add, Changes, IsTrue, IsUnchanged, List, None, Op, Option, Placed, Read, Some, State, Write, [], after, after-final, and_parts, ap, arith, cases_Bool, end_state, eq-eqb, eqb-true, false, final, final-kept, first_unlike, if◌then◌else◌, index-set, inl, inr, is_legal, is_some_of, left_by, length, length-after, length-set, needs, operations, reads_hold, refl, slice_get, slice_index, slice_set, suc, sym, take, unlike_or, writes, zero, ℕ, ◌%◌, ◌&&◌, ◌+◌, ◌<◌, ◌==◌, ◌^◌, ◌∙◌, ◌∷◌, ◌≡◌, ◌⊎◌}
 
 -- what operations leave in a register is what it holds after them, if they write it
 left-final : (r x : ℕ) (before : Option ℕ) (ops : List Op)

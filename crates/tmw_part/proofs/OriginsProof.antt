@@ -1,10 +1,7 @@
 -- The origin of a value has a place in the window.
-use Rattle.tmw_part.proofs.Shared.{All, All-from_recursion, AllByRecursion, Call, Err, Event, IfOk, IfSome, List, None, Ok, Option, Origin, Result, Some, [], answered_at, arith, calls, calls_from, cases_Bool, filter, inl, inr, is_call, latest, length, slice_get, suc, transactions, zero, ℕ, ◌+◌, ◌-◌, ◌<◌, ◌∷◌, ◌≡◌, ◌≤◌}
-use Rattle.std.proofs.lemmas.List.Elements.{All-filter, All-map, recursion_from_All}
-use Rattle.std.specs.Option.{option_or}
-use Rattle.std.specs.Prelude.{unwrap_or}
-use Rattle.tmw_defs.specs.History.{Txn}
-use Rattle.tmw_part.specs.Origins.{last_of, origin_at, origin_of, origins, own_calls, puts_before, stays}
+use Rattle.tmw_part.proofs.Shared.{All, All-filter, All-from_recursion, All-map, AllByRecursion, Err, Event, IfOk, IfSome, List, None, Ok, Option, Result, Some, Txn, [], answered_at, arith, calls, calls_from, cases_Bool, filter, inl, inr, is_call, last_of, latest, length, option_or, origin_at, origin_of, origins, own_calls, puts_before, recursion_from_All, slice_get, stays, suc, transactions, unwrap_or, zero, ℕ, ◌+◌, ◌-◌, ◌<◌, ◌∷◌, ◌≡◌, ◌≤◌}
+use Rattle.tmw_part.specs.declared.piece.Call.{Call}
+use Rattle.tmw_part.specs.declared.origin.Origin.{Origin}
 
 calls-within : (place count : ℕ) (events : List Event) → place + length events ≤ count
     → AllByRecursion (λ (call : Call). call.piece.from < count) (calls_from place events)

@@ -1,8 +1,5 @@
 -- What is kept as a part of a window has no more transactions than the window.
-use Rattle.tmw_part.proofs.Shared.{Event, IsKept, IsTrue, List, Txn, [], and_parts, are_placed, arith, cases_Bool, inl, inr, is_among, length, part_of, transactions, without_number, Bool, ℕ, ◌+◌, ◌∷◌, ◌≡◌, ◌≤◌}
-use Rattle.tmw_defs.specs.Part.{is_unread, may_go_whole}
-use Rattle.tmw_part.specs.KeptPart.{owners}
-use Rattle.std.proofs.lemmas.List.{length-map}
+use Rattle.tmw_part.proofs.Shared.{Bool, Event, IsKept, IsTrue, List, Txn, [], and_parts, are_placed, arith, cases_Bool, inl, inr, is_among, is_unread, length, length-map, may_go_whole, owners, part_of, transactions, without_number, ℕ, ◌+◌, ◌∷◌, ◌≡◌, ◌≤◌}
 
 length-without_number : (n : ℕ) (places : List ℕ) → IsTrue (is_among n places) → length places ≡ length (without_number n places) + 1
 length-without_number n [] among = absurd (cc)

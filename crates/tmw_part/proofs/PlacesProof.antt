@@ -1,11 +1,6 @@
 -- Places for which cases are said, none of them twice.
-use Rattle.tmw_part.proofs.Shared.{IsTrue, List, [], ap, arith, eq-eqb, eqb-true, false, is_among, is_said_for, refl, sym, ℕ, ◌++◌, ◌<◌, ◌==◌, ◌||◌, ◌∙◌, ◌∷◌, ◌≡◌}
-use Rattle.std.proofs.Common.{append-nil, append_assoc}
+use Rattle.tmw_part.proofs.Shared.{All-push, AreOnce, IsTrue, List, ReasonCase, [], ap, append-nil, append_assoc, are_apart, arith, eq-eqb, eqb-true, false, is_among, is_said_for, list_any-append, refl, said_places, sym, ℕ, ◌++◌, ◌<◌, ◌==◌, ◌||◌, ◌∙◌, ◌∷◌, ◌≡◌}
 use Rattle.std.proofs.lemmas.List.Concat.{flat_map-append}
-use Rattle.std.proofs.lemmas.List.Elements.{All-push}
-use Rattle.std.proofs.lemmas.List.Folds.{list_any-append}
-use Rattle.tmw_part.specs.declared.reason_case.ReasonCase.{ReasonCase}
-use Rattle.tmw_part.specs.Reasons.{AreOnce, are_apart, said_places}
 
 apart-push : (places : List ℕ) (place : ℕ) → IsTrue (are_apart places) → is_among place places ≡ false
     → IsTrue (are_apart (places ++ place ∷ []))

@@ -1,7 +1,5 @@
 -- States at places of a list of states.
-use Rattle.tmw_part.proofs.Shared.{All, All-contains, AllByRecursion, Contains, IsTrue, List, None, Option, Some, State, [], arith, eqb-true, get_or, inl, inr, is_among, length, or_cases, refl, slice_get, states_at, suc, zero, ℕ, ◌++◌, ◌<◌, ◌==◌, ◌∷◌, ◌≡◌}
-use Rattle.std.specs.Option.{option_to_list}
-use Rattle.std.proofs.lemmas.Option.{get_or_from_slice_get, slice_get_within}
+use Rattle.tmw_part.proofs.Shared.{All, All-contains, AllByRecursion, Contains, IsTrue, List, None, Option, Some, State, [], arith, eqb-true, get_or, get_or_from_slice_get, inl, inr, is_among, length, option_to_list, or_cases, refl, slice_get, slice_get_within, states_at, suc, zero, ℕ, ◌++◌, ◌<◌, ◌==◌, ◌∷◌, ◌≡◌}
 
 pub contains-get : {A : Type 0} (xs : List A) (place : ℕ) (x : A) → slice_get xs place ≡ Some x → Contains xs x
 contains-get xs place x at = (place, slice_get_within xs place x at, get_or_from_slice_get xs place x x at)

@@ -1,16 +1,8 @@
 -- Steps that follow from those before them hold in each serial order, and contradict each other in none.
-use Rattle.tmw_part.proofs.Shared.{All, All-contains, All-from_recursion, AllByRecursion, Bool, Changes, ComesFrom, ComesNot, Committed, Contains, Criterion, Derives, ExplainsBy, HoldsIn, IsTrue, List, None, Opacity, Option, Placed, ReasonLaw, ReasonStep, Some, StandsAt, StandsBefore, StandsBeforeWriter, State, Status, Strict, Txn, [], and_from, and_parts, ap, arith, begin_apart, begins_before, cases_Bool, cases_order, comes_not_else, contradicts, ends_before, eq-eqb, excludes, eqb-true, false, follows, from_else, gives, has_place, has_writer, inl, inr, is_asked, is_before, is_committed, is_held, is_known_rival, is_pair, is_rival, is_same_source, is_same_writer, is_some_of, left_by, length, list_all, list_any, ltb-true, may_come_from, may_hold, needs, not, not-true, nothing, operations, ops_at, or_cases, orders, range_with_len, refl, slice_get, slice_index, stands_between, status_of, subst, suc, supplies, sym, take, take_all, true, txn_at, writes, zero, ℕ, ◌&&◌, ◌+◌, ◌-◌, ◌<◌, ◌==◌, ◌||◌, ◌∙◌, ◌∷◌, ◌≡◌, ◌≤◌}
-use Rattle.tmw_part.specs.declared.reason_step.ReasonStep.TheVariants.{ChangedFirst, From, Overwritten, ReadFirst, RealTime, Through, TooLate}
+use Rattle.tmw_part.proofs.Shared.{All, All-contains, All-from_recursion, AllByRecursion, Bool, ChangedFirst, Changes, ComesFrom, ComesNot, Committed, Contains, Criterion, Derives, ExplainsBy, From, HoldsIn, IsTrue, List, None, Opacity, Option, Overwritten, Placed, ReadFirst, RealTime, ReasonLaw, ReasonStep, Some, StandsAt, StandsBefore, StandsBeforeWriter, State, Status, Strict, Through, TooLate, Txn, ValueSource, [], and_from, and_parts, ap, arith, begin_apart, begins_before, cases_Bool, cases_order, comes_not_else, contradicts, ends_before, eq-eqb, eqb-true, excludes, false, follows, from_else, get_or_from_slice_get, gives, has_place, has_writer, inl, inr, is_asked, is_before, is_committed, is_held, is_known_rival, is_pair, is_rival, is_same_source, is_same_writer, is_some_of, left_by, length, length-end, list_all, list_any, list_any_at, ltb-true, may_come_from, may_hold, needs, not, not-true, nothing, operations, ops_at, or_cases, orders, range_with_len, recursion_from_All, refl, same_ix, slice_get, slice_get-get_or, slice_get_some, slice_get_within, slice_index, stands_between, status_of, subst, suc, supplies, sym, take, take_all, true, txn_at, writes, zero, ℕ, ◌&&◌, ◌+◌, ◌-◌, ◌<◌, ◌==◌, ◌||◌, ◌∙◌, ◌∷◌, ◌≡◌, ◌≤◌}
 use Rattle.tmw_part.specs.declared.reason_step.Contradiction.{Contradiction}
 use Rattle.tmw_part.specs.declared.reason_step.Contradiction.TheVariants.{Cycle, NoSource, Unlike}
-use Rattle.tmw_part.specs.declared.reason_step.ValueSource.{ValueSource}
-use Rattle.std.proofs.lemmas.List.Elements.{recursion_from_All}
-use Rattle.std.proofs.lemmas.List.Folds.{list_any_at}
-use Rattle.std.proofs.lemmas.Option.{get_or_from_slice_get, slice_get-get_or, slice_get_within}
 use Rattle.tmw_events.specs.declared.ix.Ix.{Ix}
-use Rattle.tmw_events.proofs.Same.{same_ix}
-use Rattle.tmw_search.proofs.LayerSteps.{slice_get_some}
-use Rattle.tmw_search.proofs.OneEnd.{length-end}
 use Rattle.tmw_part.proofs.ListFacts.{find_any, each_place, all-more}
 use Rattle.tmw_part.proofs.OrderFacts.{IsIn, IsSerial, apart, serial}
 use Rattle.tmw_part.proofs.OrderValues.{left-writes, state_at, reads_at, value_at, needs_holds, reads_alike}

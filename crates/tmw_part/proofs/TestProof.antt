@@ -1,9 +1,5 @@
 -- The test of a part tells what is kept as a part.
-use Rattle.tmw_part.proofs.Shared.{Add, AreOpsLeft, Bool, Each, Event, IsTrue, List, Op, Read, Status, Txn, Write, [], and_from, and_parts, ap, arith, calls, cases_Bool, eq-eqb, eqb-true, inl, inr, is_unread, keeps_last, list_all, map, may_go, operations, owner_in, places_of, precedes, refl, status_of, sym, transactions, true, ℕ, ◌==◌, ◌∷◌, ◌≡◌}
-use Rattle.tmw_events.proofs.Same.{same_ix}
-use Rattle.tmw_part.specs.KeptPart.{IsAlike, IsKept, agree, are_placed, is_among, is_same, is_whole, may_miss_all, owners, part_of, staying, without_number}
-use Rattle.tmw_part.specs.NameInWindow.{txn_at}
-use Rattle.tmw_part.specs.PartTest.{are_ops_left, is_left_of, is_same_op, is_same_status, is_stay, keeps_part}
+use Rattle.tmw_part.proofs.Shared.{Add, AreOpsLeft, Bool, Each, Event, IsAlike, IsKept, IsTrue, List, Op, Read, Status, Txn, Write, [], agree, and_from, and_parts, ap, are_ops_left, are_placed, arith, calls, cases_Bool, eq-eqb, eqb-true, inl, inr, is_left_of, is_same, is_same_op, is_same_status, is_stay, is_unread, is_whole, keeps_last, keeps_part, list_all, map, may_go, may_miss_all, operations, owner_in, owners, part_of, places_of, precedes, refl, same_ix, status_of, sym, transactions, true, txn_at, ℕ, ◌==◌, ◌∷◌, ◌≡◌}
 
 same_op : (x y : Op) → is_same_op x y ≡ true → x ≡ y
 same_op (Read q w) (Read r v) same =

@@ -1,15 +1,11 @@
 -- What a search for an end state tells of events that were taken into its window.
-use Rattle.tmw_part.proofs.Shared.{AreTaken, Bool, Criterion, Err, Event, Fails, IfNone, IfOk, IsFalse, IsNeededIn, IsTrue, IsViolated, IsViolatedPart, List, None, Ok, Option, Piece, Result, Some, State, TellsViolated, all_kept, arith, [], end_state, false, inl, inr, kept_of, length, members, not, refl, sym, transactions, true, ℕ, ◌∙◌, ◌∷◌, ◌≡◌, ◌≤◌}
+use Rattle.tmw_part.proofs.Shared.{AreNeededIn, AreTaken, Bool, Criterion, Err, Event, Fails, IfNone, IfOk, IsFalse, IsNeededIn, IsTrue, IsViolated, IsViolatedPart, List, None, Ok, Option, Piece, Result, Some, State, TellsViolated, [], all_kept, arith, end_state, false, inl, inr, is_some, keeps_part, kept_of, length, members, not, refl, sym, transactions, true, with_readers, ℕ, ◌∙◌, ◌∷◌, ◌≡◌, ◌≤◌}
 use Rattle.tmw_cuts.specs.declared.states.States.{States}
 use Rattle.tmw_cuts.specs.declared.window.Window.{Window}
 use Rattle.tmw_search.specs.EndStates.{TellsEnd}
-use Rattle.std.specs.Prelude.{is_some}
 use Rattle.tmw_part.specs.declared.whole_window.WholeWindow.{WholeWindow}
-use Rattle.tmw_part.specs.FindPart.{AreNeededIn}
-use Rattle.tmw_part.specs.Pieces.{with_readers}
 use Rattle.tmw_part.proofs.Fewer.{kept-all, length-all}
 use Rattle.tmw_part.proofs.Parts.{kept-fewer}
-use Rattle.tmw_part.specs.PartTest.{keeps_part}
 use Rattle.tmw_part.proofs.TestProof.{kept-test, test-kept}
 
 pub tells-searched : (criterion : Criterion) (registers : ℕ) (states : States) (events : List Event) (window : Window) (found : Bool)

@@ -1,6 +1,5 @@
 -- What a search for the cases of a reason finds.
-use Rattle.std.specs.Prelude.{◌≡◌, ◌<◌, ◌++◌, ℕ, List, [], ◌∷◌, length, Option, Some, None, All, IsTrue}
-use Rattle.std.specs.List.{Contains}
+use Rattle.tmw_part.specs.Shared.{All, Contains, IsTrue, List, None, Option, Some, [], length, ℕ, ◌++◌, ◌<◌, ◌∷◌, ◌≡◌}
 use Rattle.tmw_part.specs.declared.candidates.Candidates.{Candidates}
 use Rattle.tmw_part.specs.declared.reason_case.Derivation.{Derivation}
 use Rattle.tmw_part.specs.declared.reason_case.Reason.{Reason}

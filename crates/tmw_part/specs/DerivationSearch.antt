@@ -1,6 +1,5 @@
 -- What a search for derivations is given, and what its parts find.
-use Rattle.std.specs.Prelude.{◌≡◌, ◌⊎◌, ◌&&◌, ℕ, Bool, not, List, find, None, All, IsTrue, IsFalse}
-use Rattle.std.specs.List.{Contains, list_any}
+use Rattle.tmw_part.specs.Shared.{All, Bool, Contains, IsFalse, IsTrue, List, None, find, list_any, not, ℕ, ◌&&◌, ◌≡◌, ◌⊎◌}
 use Rattle.tmw_part.specs.declared.candidates.Candidates.{Candidates}
 use Rattle.tmw_part.specs.declared.reason_case.Derivation.{Derivation}
 use Rattle.tmw_part.specs.declared.reason_step.Contradiction.{Contradiction}

@@ -1,12 +1,6 @@
 -- The steps and the contradictions that speak only of what is drawn: transactions, reads and values of what is kept of a window.
-use Rattle.std.specs.Prelude.{◌==◌, ℕ, Bool, List, [], ◌∷◌, ◌++◌, map, Option, Some, None, if◌then◌else◌}
-use Rattle.std.specs.List.{flat_map, list_any}
-use Rattle.tmw_events.specs.declared.event.Event.{Event}
+use Rattle.tmw_part.specs.Shared.{Add, Bool, Event, List, None, Op, Option, Read, Some, Txn, Write, [], flat_map, if◌then◌else◌, left_by, list_any, map, operations, transactions, ℕ, ◌++◌, ◌==◌, ◌∷◌}
 use Rattle.tmw_events.specs.declared.ix.Ix.{Ix}
-use Rattle.tmw_defs.specs.declared.op.Op.{Op}
-use Rattle.tmw_defs.specs.declared.op.Op.TheVariants.{Read, Write, Add}
-use Rattle.tmw_defs.specs.History.{Txn, operations, transactions}
-use Rattle.tmw_cuts.specs.RegisterUse.{left_by}
 use Rattle.tmw_part.specs.declared.reason_step.ValueSource.{ValueSource}
 use Rattle.tmw_part.specs.declared.reason_step.ReasonStep.{ReasonStep}
 use Rattle.tmw_part.specs.declared.reason_step.ReasonStep.TheVariants.{RealTime, From, TooLate, Overwritten, ReadFirst, ChangedFirst, Through}

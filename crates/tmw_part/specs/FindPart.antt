@@ -1,12 +1,5 @@
 -- What is found in a violated window: a part that is violated by itself, of which nothing more can be taken out.
-use Rattle.std.specs.Prelude.{◌≡◌, ◌≢◌, ◌⊎◌, ◌<◌, ◌≤◌, ℕ, Bool, true, false, List, [], ◌∷◌, length, All, IsTrue, IsFalse}
-use Rattle.std.specs.List.{Contains}
-use Rattle.tmw_events.specs.declared.event.Event.{Event}
-use Rattle.tmw_cuts.specs.Members.{members}
-use Rattle.tmw_defs.specs.declared.criterion.Criterion.{Criterion}
-use Rattle.tmw_defs.specs.History.{transactions, is_well_formed}
-use Rattle.tmw_defs.specs.Opaque.{State}
-use Rattle.tmw_defs.specs.Part.{HasOrderBy}
+use Rattle.tmw_part.specs.Shared.{All, Bool, Contains, Criterion, Event, HasOrderBy, IsFalse, IsTrue, List, State, [], false, is_well_formed, length, members, transactions, true, ℕ, ◌<◌, ◌∷◌, ◌≡◌, ◌≢◌, ◌≤◌, ◌⊎◌}
 use Rattle.tmw_part.specs.declared.piece.Piece.{Piece}
 use Rattle.tmw_part.specs.declared.whole_window.WholeWindow.{WholeWindow}
 use Rattle.tmw_part.specs.Marks.{all_kept, kept_of, without}

@@ -1,10 +1,5 @@
 -- What is found of the reason why a window is violated: one that speaks of what is drawn, or that the steps come to no contradiction.
-use Rattle.std.specs.Prelude.{◌≡◌, ◌⊎◌, ◌<◌, ◌≤◌, List, [], ◌∷◌, length, Option, Some, None, All, IsTrue, IsFalse}
-use Rattle.std.specs.List.{Contains}
-use Rattle.tmw_events.specs.declared.event.Event.{Event}
-use Rattle.tmw_defs.specs.declared.criterion.Criterion.{Criterion}
-use Rattle.tmw_defs.specs.History.{Txn, transactions}
-use Rattle.tmw_defs.specs.Opaque.{State}
+use Rattle.tmw_part.specs.Shared.{All, Contains, Criterion, Event, IsFalse, IsTrue, List, None, Option, Some, State, Txn, [], length, transactions, ◌<◌, ◌∷◌, ◌≡◌, ◌≤◌, ◌⊎◌}
 use Rattle.tmw_part.specs.declared.reason_case.Reason.{Reason}
 use Rattle.tmw_part.specs.declared.reason_case.Derivation.{Derivation}
 use Rattle.tmw_part.specs.declared.reason_case.ReasonCase.{ReasonCase}

@@ -1,13 +1,5 @@
 -- What is kept of a window, a mark for each event, as a part of the window's transactions that agrees with them.
-use Rattle.std.specs.Prelude.{◌≡◌, ◌==◌, ◌&&◌, ◌||◌, ◌+◌, ℕ, Bool, true, false, not, List, [], ◌∷◌, map, slice_index_or, zip, Option, Some, None, IsTrue, if◌then◌else◌}
-use Rattle.std.specs.List.{list_all, list_any, range_with_len}
-use Rattle.tmw_events.specs.declared.event.Event.{Event}
-use Rattle.tmw_events.specs.declared.event.Kind.{Kind}
-use Rattle.tmw_events.specs.declared.event.Kind.TheVariants.{W}
-use Rattle.tmw_defs.specs.declared.op.Op.{Op}
-use Rattle.tmw_defs.specs.History.{Txn, operations, transactions}
-use Rattle.tmw_defs.specs.Part.{Each, IsLeftOf, is_unread, may_go_whole, precedence}
-use Rattle.tmw_cuts.specs.RegisterUse.{left_by}
+use Rattle.tmw_part.specs.Shared.{Bool, Each, Event, IsLeftOf, IsTrue, Kind, List, None, Op, Option, Some, Txn, W, [], false, if◌then◌else◌, is_unread, left_by, list_all, list_any, map, may_go_whole, not, operations, precedence, range_with_len, slice_index_or, transactions, true, zip, ℕ, ◌&&◌, ◌+◌, ◌==◌, ◌||◌, ◌∷◌, ◌≡◌}
 use Rattle.tmw_part.specs.declared.piece.Call.{Call}
 use Rattle.tmw_part.specs.Marks.{keeps_last, kept_of, places_of}
 use Rattle.tmw_part.specs.NameInWindow.{owner_in, txn_at}

@@ -11,5 +11,6 @@ pub mod PartTest
 pub mod Pieces
 pub mod ReasonSteps
 pub mod Reasons
+mod Shared
 pub mod TakeEvents
 pub mod UnlikeAnswers

@@ -1,7 +1,5 @@
 -- Which events of a window are kept: a mark for each, in order.
-use Rattle.std.specs.Prelude.{◌&&◌, ◌-◌, ℕ, Bool, true, not, List, filter, length, map, replicate, slice_get, unwrap_or, zip}
-use Rattle.std.specs.List.{enumerate_from, list_any}
-use Rattle.tmw_events.specs.declared.event.Event.{Event}
+use Rattle.tmw_part.specs.Shared.{Bool, Event, List, enumerate_from, filter, length, list_any, map, not, replicate, slice_get, true, unwrap_or, zip, ℕ, ◌&&◌, ◌-◌}
 use Rattle.tmw_part.specs.declared.piece.Piece.{Piece}
 use Rattle.tmw_part.specs.Pieces.{is_of}
 

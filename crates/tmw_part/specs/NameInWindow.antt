@@ -1,7 +1,5 @@
 -- Which transactions of a window are those of what is kept of it.
-use Rattle.std.specs.Prelude.{◌==◌, ◌&&◌, ℕ, Bool, nat_le, List, [], length, map, position, slice_index_or, unwrap_or}
-use Rattle.tmw_events.specs.declared.event.Event.{Event}
-use Rattle.tmw_defs.specs.History.{Txn, transactions}
+use Rattle.tmw_part.specs.Shared.{Bool, Event, List, Txn, [], length, map, nat_le, position, slice_index_or, transactions, unwrap_or, ℕ, ◌&&◌, ◌==◌}
 use Rattle.tmw_part.specs.declared.name_in_window.Name.{Name}
 use Rattle.tmw_part.specs.Marks.{kept_of, places_of}
 

@@ -1,16 +1,5 @@
 -- Who in a window wrote a value that a transaction read of a register, and what became of that write.
-use Rattle.std.specs.Prelude.{◌==◌, ◌&&◌, ◌-◌, ℕ, Bool, true, false, not, nat_lt, List, [], ◌∷◌, filter, length, map, slice_get, unwrap_or, Option, Some, None, if◌then◌else◌}
-use Rattle.std.specs.List.{list_any}
-use Rattle.std.specs.Option.{option_or}
-use Rattle.tmw_events.specs.declared.event.Event.{Event}
-use Rattle.tmw_events.specs.declared.event.Kind.{Kind}
-use Rattle.tmw_events.specs.declared.event.Kind.TheVariants.{X}
-use Rattle.tmw_defs.specs.declared.op.Op.{Op}
-use Rattle.tmw_defs.specs.declared.status.Status.{Status}
-use Rattle.tmw_defs.specs.declared.status.Status.TheVariants.{Live, Aborted}
-use Rattle.tmw_defs.specs.History.{Txn, status_of, operation, operations, transactions}
-use Rattle.tmw_defs.specs.Part.{is_answered}
-use Rattle.tmw_cuts.specs.RegisterUse.{left_by}
+use Rattle.tmw_part.specs.Shared.{Aborted, Bool, Event, Kind, List, Live, None, Op, Option, Some, Status, Txn, X, [], false, filter, if◌then◌else◌, is_answered, left_by, length, list_any, map, nat_lt, not, operation, operations, option_or, slice_get, status_of, transactions, true, unwrap_or, ℕ, ◌&&◌, ◌-◌, ◌==◌, ◌∷◌}
 use Rattle.tmw_part.specs.declared.origin.Fate.{Fate}
 use Rattle.tmw_part.specs.declared.origin.Fate.TheVariants.{GivenUp, GivingUp, Unasked, Overwritten, Stays}
 use Rattle.tmw_part.specs.declared.origin.Origin.{Origin}

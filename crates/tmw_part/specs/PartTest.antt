@@ -1,15 +1,5 @@
 -- The test of what is kept of a window, as it is computed.
-use Rattle.std.specs.Prelude.{◌==◌, ◌&&◌, ℕ, Bool, true, false, List, [], ◌∷◌, map, if◌then◌else◌}
-use Rattle.std.specs.List.{list_all}
-use Rattle.tmw_events.specs.declared.event.Event.{Event}
-use Rattle.tmw_defs.specs.declared.op.Op.{Op}
-use Rattle.tmw_defs.specs.declared.op.Op.TheVariants.{Read, Write, Add}
-use Rattle.tmw_defs.specs.declared.status.Status.{Status}
-use Rattle.tmw_defs.specs.declared.status.Status.TheVariants.{Live, Pending, Committed, Aborted}
-use Rattle.tmw_defs.specs.History.{Txn, status_of, operations, transactions}
-use Rattle.tmw_defs.specs.Opaque.{precedes}
-use Rattle.tmw_defs.specs.Part.{is_unread, may_go}
-use Rattle.tmw_events.specs.declared.event.Kind.{Kind}
+use Rattle.tmw_part.specs.Shared.{Aborted, Add, Bool, Committed, Event, Kind, List, Live, Op, Pending, Read, Status, Txn, Write, [], false, if◌then◌else◌, is_unread, list_all, map, may_go, operations, precedes, status_of, transactions, true, ℕ, ◌&&◌, ◌==◌, ◌∷◌}
 use Rattle.tmw_part.specs.KeptPart.{agree, are_placed, is_same, is_whole, may_miss_all, part_of}
 use Rattle.tmw_part.specs.Marks.{keeps_last, places_of}
 use Rattle.tmw_part.specs.NameInWindow.{owner_in, txn_at}

@@ -1,11 +1,6 @@
 -- The pieces of a window, each of which is taken out at once, alone or together with the reads of its values: its transactions, and their
 -- calls, each with its answer if it has one.
-use Rattle.std.specs.Prelude.{◌==◌, ◌&&◌, ◌+◌, ◌%◌, ◌^◌, ℕ, Bool, false, nat_le, List, [], ◌∷◌, ◌++◌, filter, find, map, option_map, position, Option, Some, None, if◌then◌else◌}
-use Rattle.std.specs.List.{list_any}
-use Rattle.tmw_events.specs.declared.event.Event.{Event}
-use Rattle.tmw_events.specs.declared.event.Kind.{Kind}
-use Rattle.tmw_events.specs.declared.event.Kind.TheVariants.{R, W, N, V}
-use Rattle.tmw_defs.specs.History.{Txn, is_call, transactions}
+use Rattle.tmw_part.specs.Shared.{Bool, Event, Kind, List, N, None, Option, R, Some, Txn, V, W, [], false, filter, find, if◌then◌else◌, is_call, list_any, map, nat_le, option_map, position, transactions, ℕ, ◌%◌, ◌&&◌, ◌++◌, ◌+◌, ◌==◌, ◌^◌, ◌∷◌}
 use Rattle.tmw_part.specs.declared.piece.Call.{Call}
 use Rattle.tmw_part.specs.declared.piece.Piece.{Piece}
 

@@ -1,13 +1,6 @@
 -- What the steps of a reason say of a serial order, what a reason is, and the law that its steps hold in each order.
-use Rattle.std.specs.Prelude.{◌≡◌, ◌⊎◌, ◌<◌, ◌≤◌, ◌==◌, ◌&&◌, ◌++◌, ℕ, suc, pred, nat_lt, Bool, true, false, not, List, [], ◌∷◌, filter, length, map, remove, slice_get, take, zip, if◌then◌else◌, Option, Some, None, All, IsTrue}
-use Rattle.std.specs.Option.{option_to_list}
-use Rattle.std.specs.List.{Contains, flat_map, list_all, list_any, range_with_len}
-use Rattle.tmw_defs.specs.declared.criterion.Criterion.{Criterion}
+use Rattle.tmw_part.specs.Shared.{All, Bool, Contains, Criterion, Event, IsTrue, List, None, Option, Placed, Some, State, Txn, [], false, filter, flat_map, if◌then◌else◌, length, list_all, list_any, map, nat_lt, not, operations, option_to_list, pred, range_with_len, remove, slice_get, suc, take, transactions, true, writes, zip, ℕ, ◌&&◌, ◌++◌, ◌<◌, ◌==◌, ◌∷◌, ◌≡◌, ◌≤◌, ◌⊎◌}
 use Rattle.tmw_defs.specs.Criteria.{ExplainsBy}
-use Rattle.tmw_defs.specs.History.{Txn, operations, transactions}
-use Rattle.tmw_defs.specs.Opaque.{State, Placed}
-use Rattle.tmw_cuts.specs.RegisterUse.{writes}
-use Rattle.tmw_events.specs.declared.event.Event.{Event}
 use Rattle.tmw_part.specs.declared.reason_case.Derivation.{Derivation}
 use Rattle.tmw_part.specs.declared.reason_case.ReasonCase.{ReasonCase}
 use Rattle.tmw_part.specs.declared.reason_step.ReasonStep.{ReasonStep}

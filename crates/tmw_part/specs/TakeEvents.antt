@@ -1,7 +1,5 @@
 -- Events that are taken one by one into a window, as long as they are well-formed and of at most eight transactions.
-use Rattle.std.specs.Prelude.{◌≡◌, ◌⊎◌, ◌<◌, ◌≤◌, ℕ, List, length, IsFalse}
-use Rattle.tmw_events.specs.declared.event.Event.{Event}
-use Rattle.tmw_defs.specs.History.{transactions, is_well_formed}
+use Rattle.tmw_part.specs.Shared.{Event, IsFalse, List, is_well_formed, length, transactions, ℕ, ◌<◌, ◌≡◌, ◌≤◌, ◌⊎◌}
 use Rattle.tmw_cuts.specs.declared.window.Window.{Window}
 use Rattle.tmw_cuts.specs.StandsFor.{StandsFor}
 

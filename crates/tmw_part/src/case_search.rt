@@ -1,5 +1,4 @@
-ghost use Rattle.std.specs.Prelude.{◌≡◌, ◌++◌, ◌+◌, ◌<◌, length, [], ◌∷◌, All, IfOk, IsTrue, IsFalse, OnOk, slice_get};
-ghost use Rattle.std.specs.Option.{option_to_list};
+ghost use Rattle.tmw_part.specs.Shared.{All, IfOk, IsFalse, IsTrue, OnOk, [], length, option_to_list, slice_get, ◌++◌, ◌+◌, ◌<◌, ◌∷◌, ◌≡◌};
 ghost use Rattle.tmw_part.specs.CaseSearch.{AreFirst, AreSaid, FindsCase, FindsCases, Grows, IsMadeCase, RefuteFrom, asked_at};
 ghost use Rattle.tmw_part.specs.DerivationSearch.{EndsNowhere};
 ghost use Rattle.tmw_part.specs.Reasons.{IsDerivationIn, is_said_for, states_at};

@@ -1,5 +1,4 @@
-ghost use Rattle.std.specs.Prelude.{◌≡◌, ◌⊎◌, All, IfNone, IfOk, IfSome, IsFalse, IsTrue, Some, length, map};
-ghost use Rattle.std.specs.List.{Contains};
+ghost use Rattle.tmw_part.specs.Shared.{All, Contains, IfNone, IfOk, IfSome, IsFalse, IsTrue, Some, length, map, ◌≡◌, ◌⊎◌};
 ghost use Rattle.tmw_part.specs.DerivationSearch.{AreMade, DerivesIn, EndsNowhere, IsMade, IsMadeFrom, contradicts_in};
 ghost use Rattle.tmw_part.specs.ReasonSteps.{from_else};
 ghost use Rattle.tmw_part.specs.Reasons.{RefuteEachIn, assume_each, assumes, is_one, is_split, start_of, writers_of};

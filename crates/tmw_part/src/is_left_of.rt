@@ -1,7 +1,4 @@
-ghost use Rattle.std.specs.Prelude.{◌≡◌, not};
-ghost use Rattle.std.specs.List.{list_all};
-ghost use Rattle.tmw_defs.specs.History.{operations};
-ghost use Rattle.tmw_defs.specs.Part.{is_answered, is_unread, may_go};
+ghost use Rattle.tmw_part.specs.Shared.{is_answered, is_unread, list_all, may_go, not, operations, ◌≡◌};
 ghost use Rattle.tmw_part.specs.KeptPart.{agree, agrees};
 ghost use Rattle.tmw_part.specs.PartTest.{are_ops_left, is_left_of, is_same_op};
 

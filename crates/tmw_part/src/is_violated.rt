@@ -1,5 +1,4 @@
-ghost use Rattle.std.specs.Prelude.{ℕ, List, [], ◌∷◌, ◌++◌, IfOk, IfSome, IfNone, IsTrue, IsFalse};
-ghost use Rattle.tmw_events.specs.declared.event.Event.{Event};
+ghost use Rattle.tmw_part.specs.Shared.{Event, IfNone, IfOk, IfSome, IsFalse, IsTrue, List, [], ℕ, ◌++◌, ◌∷◌};
 ghost use Rattle.tmw_part.specs.FindPart.{TellsIn};
 ghost use Rattle.tmw_part.specs.TakeEvents.{AreTaken, AreUnfit};
 

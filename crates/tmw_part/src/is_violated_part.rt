@@ -1,5 +1,4 @@
-ghost use Rattle.std.specs.Prelude.{◌≡◌, ◌≤◌, IfOk, IsTrue, IsFalse, length};
-ghost use Rattle.tmw_defs.specs.History.{transactions};
+ghost use Rattle.tmw_part.specs.Shared.{IfOk, IsFalse, IsTrue, length, transactions, ◌≡◌, ◌≤◌};
 ghost use Rattle.tmw_part.specs.FindPart.{FailsIn, IsPartIn};
 ghost use Rattle.tmw_part.specs.Marks.{kept_of};
 ghost use Rattle.tmw_part.specs.PartTest.{keeps_part};

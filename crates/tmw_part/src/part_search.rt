@@ -1,6 +1,4 @@
-ghost use Rattle.std.specs.Prelude.{◌≡◌, ◌≤◌, ◌<◌, All, IfOk, IfSome, IfNone, IsTrue, IsFalse, length};
-ghost use Rattle.tmw_defs.specs.History.{transactions};
-ghost use Rattle.tmw_cuts.specs.Members.{members};
+ghost use Rattle.tmw_part.specs.Shared.{All, IfNone, IfOk, IfSome, IsFalse, IsTrue, length, members, transactions, ◌<◌, ◌≡◌, ◌≤◌};
 ghost use Rattle.tmw_part.specs.FindPart.{AreNeededIn, FindsPart, IsMinimalIn, IsNeededIn, IsPartIn};
 ghost use Rattle.tmw_part.specs.Marks.{kept_of};
 ghost use Rattle.tmw_part.specs.Pieces.{pieces};

@@ -1,5 +1,4 @@
-ghost use Rattle.std.specs.Prelude.{◌≡◌, IfOk, All, find, length};
-ghost use Rattle.std.specs.List.{Contains, list_any};
+ghost use Rattle.tmw_part.specs.Shared.{All, Contains, IfOk, find, length, list_any, ◌≡◌};
 ghost use Rattle.tmw_part.specs.ReasonSteps.{contradicts};
 ghost use Rattle.tmw_part.specs.DerivationSearch.{Closes, is_news};
 

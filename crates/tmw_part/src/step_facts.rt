@@ -1,5 +1,4 @@
-ghost use Rattle.std.specs.Prelude.{◌≡◌};
-ghost use Rattle.std.specs.List.{list_any};
+ghost use Rattle.tmw_part.specs.Shared.{list_any, ◌≡◌};
 ghost use Rattle.tmw_part.specs.ReasonSteps.{begins_before, ends_before, excludes, gives, is_before, orders, supplies, tells};
 
 use crate::reason_step::{ReasonStep, ValueSource};

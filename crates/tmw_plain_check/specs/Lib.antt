@@ -1,3 +1,4 @@
 pub mod Completions
 pub mod PlainTransaction
+mod Shared
 pub mod Verdict

@@ -1,5 +1,6 @@
 -- A record that is refused after several were found to have room has found that as many places more were claimed.
-use Rattle.tmw_ring.proofs.Shared.{Answered, Bool, Front, Full, HasFoundRoom, HasRoomFor, HasStepped, IsRun, Ix, Kind, List, RingSize, RoomStaysLaw, Spent, Tail, WriterIs, [], ap, append_assoc, arith, false, leb, leb-false, leb-true, length, length_push, new_core, own, own-append, own-cut, places_claimed, places_claimed-append, places_freed, places_freed-append, refl, room_law, run-counted, runs-cut, runs-tail, subst, sym, true, writer_actor, ℕ, ◌++◌, ◌+◌, ◌<◌, ◌∙◌, ◌∷◌, ◌≡◌, ◌≢◌, ◌≤◌}
+use Rattle.tmw_ring.proofs.Shared.{Answered, Bool, Front, HasFoundRoom, HasRoomFor, HasStepped, IsRun, Ix, Kind, List, RingSize, RoomStaysLaw, Tail, WriterIs, [], ap, append_assoc, arith, false, leb, leb-false, leb-true, length, length_push, new_core, own, own-append, own-cut, places_claimed, places_claimed-append, places_freed, places_freed-append, refl, room_law, run-counted, runs-cut, runs-tail, subst, sym, true, writer_actor, ℕ, ◌++◌, ◌+◌, ◌<◌, ◌∙◌, ◌∷◌, ◌≡◌, ◌≢◌, ◌≤◌}
+use Rattle.tmw_ring.specs.declared.refused.Refused.TheVariants.{Full, Spent}
 use Rattle.tmw_ring_defs.specs.declared.ring_step.Reply.{Reply}
 use Rattle.tmw_ring_defs.specs.declared.ring_step.Reply.TheVariants.{Saw, Cleared as IsCleared, Full as IsFull, Spent as IsSpent, Place, Filled, Published, Ready, NotReady, Word, Taken, Stopped, NotNow}
 

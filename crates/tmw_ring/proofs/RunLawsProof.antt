@@ -1,9 +1,8 @@
 -- A change of a ring's table that keeps its rule is made of steps of the ring's machine.
-use Rattle.tmw_ring.proofs.Shared.{Answered, Core, Gone, Knows, Lies, List, NoneOf, Part, Parts, ReaderPhase, RingSize, Runs, Shown, Some, [], actor_of, all-own, ap, append-nil, append_assoc, append_cancel_left, cell_at, dec_le, get_elem?, inl, inr, key, last-among, last-item, last-known, lt_of_not-le, new_core, new_core-sound, none-beyond, none-left, own, own-append, own-gone, peek_step, refl, run_of, runs-cut, runs-same, set, set_else, some, some-injective, some-ne-none, subst, suc, sym, zero, ℕ, ℕ_discrete, ◌++◌, ◌+◌, ◌∙◌, ◌∷◌, ◌≡◌, ◌≢◌, ◌≤◌, arith}
+use Rattle.tmw_ring.proofs.Shared.{Answered, Core, Gone, Knows, Lies, List, NoneOf, NotReady, Part, Parts, ReaderPhase, RingSize, Runs, Shown, Some, [], actor_of, all-own, ap, append-nil, append_assoc, append_cancel_left, arith, cell_at, dec_le, get_elem?, inl, inr, key, last-among, last-item, last-known, lt_of_not-le, new_core, new_core-sound, none-beyond, none-left, own, own-append, own-gone, peek_step, refl, run_of, runs-cut, runs-same, set, set_else, some, some-injective, some-ne-none, subst, suc, sym, zero, ℕ, ℕ_discrete, ◌++◌, ◌+◌, ◌∙◌, ◌∷◌, ◌≡◌, ◌≢◌, ◌≤◌}
 use Rattle.tmw_ring_defs.proofs.RingLaw.{step_law}
 use Rattle.tmw_ring.proofs.Moves.{lies_among, set_over}
 use Rattle.tmw_ring.specs.TableChangeLaws.{TableState, Telling, RanOn, HaveGrown, SeatLaw, RunLaw, EmptySeatLaw, ClaimLaw, NotReadyLaw, FrontLaw, SilentLaw}
-use Rattle.tmw_ring_defs.specs.declared.ring_step.Reply.TheVariants.{NotReady}
 
 -- In the second state this seat has the new parts, and each other has what it had.
 record Changes (before after : TableState) (seat : ℕ) (old new : Parts) : Type 0 where

@@ -1,5 +1,6 @@
 -- A new ring keeps the rule of its table.
-use Rattle.tmw_ring.proofs.Shared.{All-replicate, FitsPhase, Idle, IsHeader, IsReal, Knows, Lies, Part, PartFits, Parts, Reads, RingCell, RingSize, Shown, Some, State, Writes, [], all_idle, ap, arith, empty_cell, get_elem?, key, new_core, new_core-sound, new_parts, new_reader, new_writer, new_writers, opening, refl, replicate, run_of, slice_get, some, some-injective, some-ne-none, subst, suc, sym, word_count, zero, ℕ, ◌+◌, ◌<◌, ◌∙◌, ◌≡◌, ◌≤◌}
+use Rattle.tmw_ring.proofs.Shared.{FitsPhase, Idle, IsHeader, IsReal, Knows, Lies, Part, PartFits, Parts, Reads, RingCell, RingSize, Shown, Some, State, Writes, [], all_idle, ap, arith, empty_cell, get_elem?, key, new_core, new_core-sound, new_parts, new_reader, new_writer, new_writers, opening, refl, replicate, run_of, slice_get, some, some-injective, some-ne-none, subst, suc, sym, word_count, zero, ℕ, ◌+◌, ◌<◌, ◌∙◌, ◌≡◌, ◌≤◌}
+use Rattle.std.proofs.lemmas.List.Elements.{All-replicate}
 use Rattle.tmw_ring.proofs.Moves.{knows_all}
 use Rattle.tmw_ring.proofs.Words.{new_words}
 

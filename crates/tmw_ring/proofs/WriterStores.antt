@@ -1,5 +1,5 @@
 -- A writer may fill and publish the place that it has claimed.
-use Rattle.tmw_ring.proofs.Shared.{Allows, Answered, Claimed, Core, Filled, FitsPhase, HasFilled, HasPublished, Idle, IsHeader, IsIn, IsReal, IsSeatOf, Kind, List, Me, Parts, Published, RingCell, RingSize, Shown, Some, Sound, WriterFits, WriterPart, WriterPhase, Writes, [], ap, arith, cell_at, done, empty_cell, event_of, false, filled, filling, has_cell, joined, keeps, kind_value, packed_header, packed_header-small, place_in, published, publishing, refl, set, stamp_word, subst, sym, true, value_filled, value_word, with_cell, with_phase, words_of, writer_actor, writer_in, ℕ, ◌%◌, ◌++◌, ◌∙◌, ◌∷◌, ◌≡◌, rules}
+use Rattle.tmw_ring.proofs.Shared.{Allows, Answered, Claimed, Core, Filled, FitsPhase, HasFilled, HasPublished, Idle, IsHeader, IsIn, IsReal, IsSeatOf, Kind, List, Me, Parts, Published, RingCell, RingSize, Shown, Some, Sound, WriterFits, WriterPart, WriterPhase, Writes, [], ap, arith, cell_at, done, empty_cell, event_of, false, filled, filling, has_cell, joined, keeps, kind_value, packed_header, packed_header-small, place_in, published, publishing, refl, rules, set, stamp_word, subst, sym, true, value_filled, value_word, with_cell, with_phase, words_of, writer_actor, writer_in, ℕ, ◌%◌, ◌++◌, ◌∙◌, ◌∷◌, ◌≡◌}
 use Rattle.tmw_ring_defs.proofs.RingFills.{fill_keeps}
 use Rattle.tmw_ring_defs.proofs.RingPublishes.{publish_keeps}
 use Rattle.tmw_ring.proofs.Words.{filled_words, published_words}

@@ -7,6 +7,7 @@ pub mod Rule
 pub mod SeatPart
 pub mod SeatParts
 pub mod Settle
+mod Shared
 pub mod TableChangeLaws
 pub mod TableWords
 pub mod Take

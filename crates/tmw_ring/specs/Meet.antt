@@ -1,12 +1,8 @@
 -- What two ends of a ring know when they meet, and what they know afterwards.
-use Rattle.std.specs.Prelude.{◌≡◌, ◌++◌, ◌≤◌, ℕ, List, [], ◌∷◌, length, map}
 use mathlib.Core.Option.{some}
 use lib.ListN.{get_elem?}
-use Rattle.atomic_table.specs.Table.{Me, Step}
-use Rattle.tmw_events.specs.declared.event.Event.{Event}
+use Rattle.tmw_ring.specs.Shared.{Answered, Event, Gone, IsRunTo, List, Me, Step, [], length, map, reader_actor, writer_actor, ℕ, ◌++◌, ◌∷◌, ◌≡◌, ◌≤◌}
 use Rattle.tmw_ring.specs.RingEnds.{WriterIs, ReaderIs}
-use Rattle.tmw_ring_defs.specs.Runs.{Gone, IsRunTo, reader_actor, writer_actor}
-use Rattle.tmw_ring_defs.specs.declared.ring_step.Answered.{Answered}
 use Rattle.tmw_ring.specs.SeatPart.{Parts, made_from, size_of}
 use Rattle.tmw_ring.specs.Rule.{Knows}
 use Rattle.tmw_ring.specs.declared.seat_part.Part.{Part}

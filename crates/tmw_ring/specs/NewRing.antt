@@ -1,6 +1,5 @@
 -- How the call for a new ring is answered.
-use Rattle.std.specs.Prelude.{◌≡◌, ◌<◌, ℕ, List, [], length, get_or, All}
-use Rattle.tmw_ring_defs.specs.RingSize.{HasNumbers}
+use Rattle.tmw_ring.specs.Shared.{All, HasNumbers, List, [], get_or, length, ℕ, ◌<◌, ◌≡◌}
 use Rattle.tmw_ring.specs.RingEnds.{RingIs, WriterIs, ReaderIs, WriterOf, ReaderOf}
 
 -- The writer of this number has claimed nothing and seen nothing, and no step was made.

@@ -1,16 +1,10 @@
 -- How the call to record an event is answered.
-use Rattle.std.specs.Prelude.{◌≡◌, ◌+◌, ◌++◌, ◌≤◌, ◌<◌, ◌^◌, ℕ, List, [], ◌∷◌, IsTrue, IsFalse}
-use Rattle.tmw_events.specs.declared.event.Kind.{Kind}
-use Rattle.tmw_events.specs.declared.ix.Ix.{Ix}
-use Rattle.tmw_ring_defs.specs.Room.{is_spent, is_full}
-use Rattle.tmw_ring_defs.specs.Runs.{HasMade, writer_actor}
-use Rattle.tmw_ring_defs.specs.declared.ring_step.Answered.{Answered}
-use Rattle.tmw_ring_defs.specs.declared.ring_step.Reply.TheVariants.{Saw, Cleared, Full as IsFull, Spent as IsSpent, Place, Filled, Published}
-use Rattle.tmw_ring_defs.specs.declared.ring_step.Step.TheVariants.{Front, Tail, Claim, Fill, Publish}
+use Rattle.tmw_ring.specs.Shared.{Answered, Claim, Fill, Front, HasMade, IsFalse, IsTrue, Ix, Kind, List, Publish, Tail, [], is_full, is_spent, writer_actor, ℕ, ◌++◌, ◌+◌, ◌<◌, ◌^◌, ◌∷◌, ◌≡◌, ◌≤◌}
 use Rattle.tmw_ring.specs.RingEnds.{WriterIs}
 use Rattle.tmw_ring.specs.declared.seat_part.Made.{Made}
 use Rattle.tmw_ring.specs.declared.refused.Refused.{Refused}
 use Rattle.tmw_ring.specs.declared.refused.Refused.TheVariants.{Full, Spent}
+use Rattle.tmw_ring_defs.specs.declared.ring_step.Reply.TheVariants.{Saw, Cleared, Full as IsFull, Spent as IsSpent, Place, Filled, Published}
 
 -- the place, for the writer's event of this kind
 abbrev pub made_at : Ix → Kind → ℕ → Made

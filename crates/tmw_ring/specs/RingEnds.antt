@@ -1,10 +1,5 @@
 -- What callers see of a ring, of its writers and of its reader.
-use Rattle.std.specs.Prelude.{◌≡◌, ℕ, List}
-use Rattle.atomic_table.specs.Seated.{TableId}
-use Rattle.tmw_events.specs.declared.event.Event.{Event}
-use Rattle.tmw_events.specs.declared.ix.Ix.{Ix}
-use Rattle.tmw_ring_defs.specs.declared.ring_size.RingSize.{RingSize}
-use Rattle.tmw_ring_defs.specs.declared.ring_step.Answered.{Answered}
+use Rattle.tmw_ring.specs.Shared.{Answered, Event, Ix, List, RingSize, TableId, ℕ, ◌≡◌}
 use Rattle.tmw_ring.specs.declared.seat_part.Made.{Made}
 
 pub record RingIs : Type 0 where

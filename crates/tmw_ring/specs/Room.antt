@@ -1,11 +1,6 @@
 -- What a writer learns that looks whether several records find room, and how long that holds good.
-use Rattle.std.specs.Prelude.{◌≡◌, ◌+◌, ◌++◌, ◌≤◌, ℕ, List, [], IsTrue, IsFalse}
-use Rattle.atomic_table.specs.Table.{Me}
-use Rattle.tmw_events.specs.declared.event.Kind.{Kind}
-use Rattle.tmw_ring_defs.specs.Room.{is_spent, is_full, last_tail, HasRoomFor}
+use Rattle.tmw_ring.specs.Shared.{Answered, HasMade, HasRoomFor, IsFalse, IsTrue, Kind, List, Me, [], is_full, is_spent, last_tail, writer_actor, ℕ, ◌++◌, ◌+◌, ◌≡◌, ◌≤◌}
 use Rattle.tmw_ring_defs.specs.RoomLaw.{places_freed}
-use Rattle.tmw_ring_defs.specs.Runs.{HasMade, writer_actor}
-use Rattle.tmw_ring_defs.specs.declared.ring_step.Answered.{Answered}
 use Rattle.tmw_ring.specs.RingEnds.{WriterIs}
 use Rattle.tmw_ring.specs.Meet.{FindsTail}
 use Rattle.tmw_ring.specs.SeatPart.{Parts}

@@ -1,18 +1,8 @@
 -- The rule of a ring's table: its words and the parts of all its seats show one sound ring, and one run that led to it.
-use Rattle.std.specs.Prelude.{◌≡◌, ◌≤◌, ◌<◌, ℕ, List, [], Some, slice_get, All}
 use mathlib.Core.Option.{some}
 use lib.ListN.{get_elem?}
-use Rattle.atomic_table.specs.Table.{State}
-use Rattle.tmw_events.specs.EventWords.{IsHeader}
-use Rattle.tmw_events.specs.Text.{FitsKind}
-use Rattle.tmw_events.specs.declared.event.Event.{Event}
-use Rattle.tmw_ring_defs.specs.RingCore.{Core, new_core}
+use Rattle.tmw_ring.specs.Shared.{All, Answered, Claimed, Cleared, Core, Event, FitsKind, Gone, Idle, IsHeader, List, Looked, RingSize, Runs, Some, State, WriterPhase, [], new_core, slice_get, ℕ, ◌<◌, ◌≡◌, ◌≤◌}
 use Rattle.tmw_ring_defs.specs.RingSound.{IsIn, Sound}
-use Rattle.tmw_ring_defs.specs.Runs.{Runs, Gone}
-use Rattle.tmw_ring_defs.specs.declared.ring_phase.WriterPhase.{WriterPhase}
-use Rattle.tmw_ring_defs.specs.declared.ring_phase.WriterPhase.TheVariants.{Idle, Looked, Cleared, Claimed}
-use Rattle.tmw_ring_defs.specs.declared.ring_size.RingSize.{RingSize}
-use Rattle.tmw_ring_defs.specs.declared.ring_step.Answered.{Answered}
 use Rattle.tmw_ring.specs.SeatPart.{Parts, key, run_of, made_from}
 use Rattle.tmw_ring.specs.TableWords.{words_of}
 use Rattle.tmw_ring.specs.declared.seat_part.Part.{Part}

@@ -1,12 +1,5 @@
 -- What the ring's actors know, in parts, and which part is whose.
-use Rattle.std.specs.Prelude.{◌==◌, ◌+◌, ℕ, zero, suc, List, [], ◌∷◌, if◌then◌else◌}
-use Rattle.tmw_events.specs.EventOfWords.{ix_of}
-use Rattle.tmw_events.specs.declared.event.Event.{Event}
-use Rattle.tmw_ring_defs.specs.declared.ring_phase.ReaderPhase.TheVariants.{Waiting}
-use Rattle.tmw_ring_defs.specs.declared.ring_phase.WriterPhase.TheVariants.{Idle}
-use Rattle.tmw_ring_defs.specs.Runs.{reader_actor, writer_actor}
-use Rattle.tmw_ring_defs.specs.declared.ring_size.RingSize.{RingSize}
-use Rattle.tmw_ring_defs.specs.declared.ring_step.Answered.{Answered}
+use Rattle.tmw_ring.specs.Shared.{Answered, Event, Idle, List, RingSize, Waiting, [], if◌then◌else◌, ix_of, reader_actor, suc, writer_actor, zero, ℕ, ◌+◌, ◌==◌, ◌∷◌}
 use Rattle.tmw_ring.specs.declared.seat_part.Made.{Made}
 use Rattle.tmw_ring.specs.declared.seat_part.Part.{Part}
 use Rattle.tmw_ring.specs.declared.seat_part.Part.TheVariants.{Writes, Reads}

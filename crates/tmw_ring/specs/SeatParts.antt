@@ -1,13 +1,7 @@
 -- What a seat of a ring's table knows, as its writer or its reader, and how what it knows is cut in two.
+use Rattle.tmw_ring.specs.Shared.{Idle, Ix, Me, RingSize, TableId, Waiting, [], length, ℕ, ◌^◌, ◌∷◌, ◌≡◌}
 use Rattle.std.proofs.Common.{refl}
 use Rattle.std.proofs.lemmas.Bool.{leb-true}
-use Rattle.std.specs.Prelude.{◌≡◌, ◌^◌, ℕ, [], ◌∷◌, length}
-use Rattle.atomic_table.specs.Seated.{TableId}
-use Rattle.atomic_table.specs.Table.{Me}
-use Rattle.tmw_events.specs.declared.ix.Ix.{Ix}
-use Rattle.tmw_ring_defs.specs.declared.ring_phase.ReaderPhase.TheVariants.{Waiting}
-use Rattle.tmw_ring_defs.specs.declared.ring_phase.WriterPhase.TheVariants.{Idle}
-use Rattle.tmw_ring_defs.specs.declared.ring_size.RingSize.{RingSize}
 use Rattle.tmw_ring.specs.RingEnds.{WriterIs, ReaderIs}
 use Rattle.tmw_ring.specs.SeatPart.{Parts, new_writer, new_reader}
 use Rattle.tmw_ring.specs.TableWords.{word_count}

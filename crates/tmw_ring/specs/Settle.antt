@@ -1,14 +1,7 @@
 -- What is left of a ring when all its ends have come back.
-use Rattle.std.specs.Prelude.{◌≡◌, ◌++◌, ◌+◌, ◌≤◌, ◌<◌, ◌^◌, ℕ, zero, suc, List, [], ◌∷◌, length, get_or, slice_index, All}
+use Rattle.tmw_ring.specs.Shared.{All, Answered, Event, FitsKind, Gone, Idle, IsRunTo, List, [], get_or, header_of, length, pack, reader_actor, slice_index, suc, unpacked, writer_actor, zero, ℕ, ◌++◌, ◌+◌, ◌<◌, ◌^◌, ◌∷◌, ◌≡◌, ◌≤◌}
 use Rattle.std.specs.Mem.Slots.{slots_items, slots_len, IsFull}
 use Rattle.atomic_table.specs.declared.owned.Closed.{Closed}
-use Rattle.tmw_events.specs.EventWords.{pack, header_of}
-use Rattle.tmw_events.specs.Text.{FitsKind}
-use Rattle.tmw_events.specs.EventOfWords.{unpacked}
-use Rattle.tmw_events.specs.declared.event.Event.{Event}
-use Rattle.tmw_ring_defs.specs.Runs.{Gone, IsRunTo, reader_actor, writer_actor}
-use Rattle.tmw_ring_defs.specs.declared.ring_phase.WriterPhase.TheVariants.{Idle}
-use Rattle.tmw_ring_defs.specs.declared.ring_step.Answered.{Answered}
 use Rattle.tmw_ring.specs.RingEnds.{WriterIs, ReaderIs}
 use Rattle.tmw_ring.specs.SeatPart.{made_from}
 use Rattle.tmw_ring.specs.TableWords.{stamp_word, value_word, word_count}

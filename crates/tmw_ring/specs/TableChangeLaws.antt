@@ -1,18 +1,9 @@
 -- What a change of a ring's table can be, whoever makes it, where its rule holds before and after: steps of the ring's machine,
 -- by the actors whose parts lie in the seat that changes.
-use Rattle.std.specs.Prelude.{◌≡◌, ◌≢◌, ◌++◌, ◌+◌, ◌<◌, ℕ, List, [], ◌∷◌, length, slice_index, slice_set}
 use mathlib.Core.Option.{some}
 use lib.ListN.{get_elem?}
-use Rattle.atomic_table.specs.Table.{State, Step, Me, Allows}
-use Rattle.tmw_events.specs.declared.event.Kind.{Kind}
-use Rattle.tmw_events.specs.declared.ix.Ix.{Ix}
-use Rattle.tmw_ring_defs.specs.RingCore.{Core}
+use Rattle.tmw_ring.specs.Shared.{Allows, Answered, Core, Front, Gone, Ix, Kind, List, Me, NoneOf, NotReady, Peek, RingSize, Runs, Saw, State, Step, [], length, own, slice_index, slice_set, ℕ, ◌++◌, ◌+◌, ◌<◌, ◌∷◌, ◌≡◌, ◌≢◌}
 use Rattle.tmw_ring_defs.specs.RingSteps.{cell_at}
-use Rattle.tmw_ring_defs.specs.Runs.{own, NoneOf, Runs, Gone}
-use Rattle.tmw_ring_defs.specs.declared.ring_size.RingSize.{RingSize}
-use Rattle.tmw_ring_defs.specs.declared.ring_step.Answered.{Answered}
-use Rattle.tmw_ring_defs.specs.declared.ring_step.Reply.TheVariants.{Saw, NotReady}
-use Rattle.tmw_ring_defs.specs.declared.ring_step.Step.TheVariants.{Front, Peek}
 use Rattle.tmw_ring.specs.SeatPart.{Parts, key, run_of}
 use Rattle.tmw_ring.specs.Rule.{Shown}
 use Rattle.tmw_ring.specs.TableWords.{words_of}

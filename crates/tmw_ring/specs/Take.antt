@@ -1,19 +1,11 @@
 -- What each step of the reader tells it, and what a caller is told of a taking.
-use Rattle.std.specs.Prelude.{◌≡◌, ◌==◌, ◌+◌, ◌^◌, ◌≤◌, ℕ, List, [], ◌∷◌, ◌++◌, length, if◌then◌else◌}
-use Rattle.atomic_table.specs.Table.{Me}
-use Rattle.tmw_events.specs.EventWords.{stamp_of, header_of}
-use Rattle.tmw_events.specs.EventOfWords.{unpacked, AreOfEvent}
-use Rattle.tmw_events.specs.declared.event.Event.{Event}
-use Rattle.tmw_ring_defs.specs.Runs.{HasMade, reader_actor}
+use Rattle.tmw_ring.specs.Shared.{Answered, AreOfEvent, Event, Free, HasMade, List, Me, Peek, Read, Ready, Told, Waiting, [], header_of, if◌then◌else◌, length, reader_actor, stamp_of, unpacked, ℕ, ◌++◌, ◌+◌, ◌==◌, ◌^◌, ◌∷◌, ◌≡◌, ◌≤◌}
 use Rattle.tmw_ring_defs.specs.declared.ring_phase.ReaderPhase.{ReaderPhase}
-use Rattle.tmw_ring_defs.specs.declared.ring_phase.ReaderPhase.TheVariants.{Waiting, Ready, Told}
-use Rattle.tmw_ring_defs.specs.declared.ring_step.Answered.{Answered}
-use Rattle.tmw_ring_defs.specs.declared.ring_step.Reply.TheVariants.{Ready as IsReady, NotReady, Word, Taken}
-use Rattle.tmw_ring_defs.specs.declared.ring_step.Step.TheVariants.{Peek, Read, Free}
 use Rattle.tmw_ring.specs.RingEnds.{ReaderIs}
 use Rattle.tmw_ring.specs.SeatPart.{Parts}
 use Rattle.tmw_ring.specs.SeatParts.{reader_in, IsReader}
 use Rattle.tmw_ring.specs.declared.seat_part.ReaderPart.{ReaderPart}
+use Rattle.tmw_ring_defs.specs.declared.ring_step.Reply.TheVariants.{Ready as IsReady, NotReady, Word, Taken}
 
 -- how far the reader is that has taken so many events and found this word first in the next place's cell
 abbrev pub phase_after : ℕ → ℕ → ReaderPhase

@@ -1,15 +1,5 @@
 -- What each step of a writer tells it: the words that it finds, and what it then knows.
-use Rattle.std.specs.Prelude.{◌≡◌, ◌+◌, ◌++◌, ◌≤◌, ◌<◌, ℕ, true, false, List, [], ◌∷◌}
-use Rattle.atomic_table.specs.Table.{Me}
-use Rattle.tmw_events.specs.declared.event.Kind.{Kind}
-use Rattle.tmw_ring_defs.specs.Room.{is_spent, is_full, room_phase, room_reply}
-use Rattle.tmw_ring_defs.specs.Runs.{HasMade, writer_actor}
-use Rattle.tmw_ring_defs.specs.declared.ring_phase.WriterPhase.{WriterPhase}
-use Rattle.tmw_ring_defs.specs.declared.ring_phase.WriterPhase.TheVariants.{Idle, Looked, Cleared, Claimed}
-use Rattle.tmw_ring_defs.specs.declared.ring_size.RingSize.{RingSize}
-use Rattle.tmw_ring_defs.specs.declared.ring_step.Answered.{Answered}
-use Rattle.tmw_ring_defs.specs.declared.ring_step.Reply.TheVariants.{Saw, Place, Filled, Published}
-use Rattle.tmw_ring_defs.specs.declared.ring_step.Step.TheVariants.{Front, Tail, Claim, Fill, Publish}
+use Rattle.tmw_ring.specs.Shared.{Answered, Claim, Claimed, Cleared, Fill, Filled, Front, HasMade, Idle, Kind, List, Looked, Me, Place, Publish, Published, RingSize, Saw, Tail, WriterPhase, [], false, is_full, is_spent, room_phase, room_reply, true, writer_actor, ℕ, ◌++◌, ◌+◌, ◌<◌, ◌∷◌, ◌≡◌, ◌≤◌}
 use Rattle.tmw_ring.specs.SeatPart.{Parts}
 use Rattle.tmw_ring.specs.Record.{made_at}
 use Rattle.tmw_ring.specs.SeatParts.{writer_in, IsWriter}

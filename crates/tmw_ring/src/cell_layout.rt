@@ -1,7 +1,7 @@
 //! Where the words of a place's cell stand in a ring's table.
-ghost use Rattle.std.specs.Prelude.{◌≡◌, ◌<◌, ◌≤◌, ◌%◌};
-ghost use Rattle.tmw_ring.specs.TableWords as words;
+ghost use Rattle.tmw_ring.specs.Shared.{◌%◌, ◌<◌, ◌≡◌, ◌≤◌};
 ghost use Rattle.tmw_ring.specs.TableWords.{stamp_word, value_word};
+ghost use Rattle.tmw_ring.specs.TableWords as words;
 
 use crate::table_words::FIRST_CELL;
 

@@ -1,9 +1,8 @@
 //! A new ring, with all its ends.
-ghost use Rattle.std.specs.Prelude.{◌≡◌, [], length, IfOk, IfErr, OnOk};
+ghost use Rattle.tmw_ring.specs.Shared.{IfErr, IfOk, IsNoRing, OnOk, [], length, ◌≡◌};
 ghost use Rattle.tmw_ring.specs.NewRing.{AreNewWriters, IsNewRing};
 ghost use Rattle.tmw_ring.specs.SeatPart.{new_parts, new_reader};
 ghost use Rattle.tmw_ring.specs.SeatParts.{IsReader};
-ghost use Rattle.tmw_ring_defs.specs.RingSize.{IsNoRing};
 
 use crate::cell_layout::whole;
 use crate::ring_ends::{Reader, Ring, Writer};

@@ -1,9 +1,6 @@
 //! A writer records an event: it looks at front and at tail, claims a place, fills in the value and publishes the
 //! place.
-ghost use Rattle.std.specs.Prelude.{◌≡◌, ◌<◌, ◌^◌, true, false, IfOk, IfErr};
-ghost use Rattle.tmw_ring_defs.specs.declared.ring_phase.WriterPhase.TheVariants.{Idle, Looked, Cleared, Claimed};
-ghost use Rattle.tmw_events.specs.EventWords.{packed_header, kind_value, IsHeader};
-ghost use Rattle.tmw_events.specs.Text.{FitsKind};
+ghost use Rattle.tmw_ring.specs.Shared.{Claimed, Cleared, FitsKind, Idle, IfErr, IfOk, IsHeader, Looked, false, kind_value, packed_header, true, ◌<◌, ◌^◌, ◌≡◌};
 ghost use Rattle.tmw_ring.specs.RingEnds.{WriterOf};
 ghost use Rattle.tmw_ring.specs.Record.{HasRecorded, IsRefusal};
 ghost use Rattle.tmw_ring.specs.SeatParts.{writer_at, writer_in};

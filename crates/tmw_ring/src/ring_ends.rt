@@ -1,5 +1,5 @@
 //! A ring, and the ends by which threads use it.
-ghost use Rattle.std.specs.Prelude.{◌≡◌};
+ghost use Rattle.tmw_ring.specs.Shared.{◌≡◌};
 
 use crate::rule::{RingSeat, RingTable};
 use std::marker::Model;

@@ -8,3 +8,4 @@ pub mod RingSteps
 pub mod Room
 pub mod RoomLaw
 pub mod Runs
+mod Shared

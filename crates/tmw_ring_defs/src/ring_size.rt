@@ -1,4 +1,4 @@
-ghost use Rattle.std.specs.Prelude.{◌≤◌, ◌^◌};
+ghost use Rattle.tmw_ring_defs.specs.Shared.{◌^◌, ◌≤◌};
 
 use crate::ring_fault::RingFault;
 

@@ -1,6 +1,5 @@
 -- A run of steps so far, one step more, and that it goes on as one log.
-use Rattle.std.proofs.Common.{rules}
-use Rattle.tmw_ring_steps.proofs.Shared.{GoesOnAsOneLog, List, Machine, RanFirst, Reply, SimulatedRing, Sound, Spares, Step, [], after, ap, arith, length, length-append, length-take-le, machine_step, new_core-sound, new_machine, refl, replies, subst, sym, take, ℕ, ◌++◌, ◌+◌, ◌∙◌, ◌∷◌, ◌≡◌, ◌≤◌}
+use Rattle.tmw_ring_steps.proofs.Shared.{GoesOnAsOneLog, List, Machine, RanFirst, Reply, SimulatedRing, Sound, Spares, Step, [], after, ap, arith, length, length-append, length-take-le, machine_step, new_core-sound, new_machine, refl, replies, rules, subst, sym, take, ℕ, ◌++◌, ◌+◌, ◌∙◌, ◌∷◌, ◌≡◌, ◌≤◌}
 use Rattle.tmw_ring_defs.proofs.MachineProof.{machine_step-sound, after-append, replies-append}
 use Rattle.tmw_ring_defs.proofs.OneLogProof.{one_log_law}
 use Rattle.tmw_ring_defs.proofs.RingLaw.{step_law}

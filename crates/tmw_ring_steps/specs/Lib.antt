@@ -1,4 +1,5 @@
 pub mod NewSim
 pub mod RingState
 pub mod Runs
+mod Shared
 pub mod SimulatedRing

@@ -1,6 +1,5 @@
 -- What is seen of a simulated ring: its machine, and how many steps were made.
-use Rattle.std.specs.Prelude.{ℕ}
-use Rattle.tmw_ring_defs.specs.RingMachine.{Machine}
+use Rattle.tmw_ring_steps.specs.Shared.{Machine, ℕ}
 
 pub record SimulatedRing : Type 0 where
   pub machine : Machine

@@ -1,10 +1,9 @@
 -- What is recorded by turns begins a run: there is a text that completes it.
-use Rattle.tmw_runs.proofs.Shared.{A, BeginsScript, Follows, FormedLaw, IsByTurns, IsTrue, IsWholeText, Kind, List, OverLaw, StepLaw, [], and_parts, answers, ap, append-nil, append_assoc, are_calls, arith, drop, drop_more, get_or, is_call, length, list_all, refl, subst, suc, sym, zero, ℕ, ◌++◌, ◌+◌, ◌<◌, ◌∙◌, ◌∷◌, ◌≡◌}
+use Rattle.tmw_runs.proofs.Shared.{A, BeginsScript, Follows, FormedLaw, IsByTurns, IsTrue, IsWholeText, Kind, List, OverLaw, StepLaw, [], and_parts, answers, ap, append-nil, append_assoc, are_calls, arith, drop, drop_more, get_or, is_call, length, list_all, refl, rules, subst, suc, sym, zero, ℕ, ◌++◌, ◌+◌, ◌<◌, ◌∙◌, ◌∷◌, ◌≡◌}
 use Rattle.std.proofs.lemmas.List.Folds.{list_all-append}
 use Rattle.tmw_runs.proofs.Calls.{answers_abort, are_calls-transactions}
 use Rattle.tmw_runs.proofs.LongerRuns.{whole_run-more}
 use Rattle.tmw_runs.proofs.NeverMalformed.{formed_law}
-use Rattle.std.proofs.Common.{rules}
 
 -- calls have a whole text: the first is answered by an abort event
 pub some_text : (registers : ℕ) (calls : List Kind) → IsTrue (list_all (is_call registers) calls) → (text : List Kind) × IsWholeText calls text

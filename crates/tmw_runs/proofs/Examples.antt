@@ -1,5 +1,7 @@
 -- Worked scripts: which events are runs of them, which begin one and which do not, and which answers stand.
-use Rattle.tmw_runs.proofs.Shared.{A, Abort, AllStand, Answer, Begin, C, Call, Commit, Done, IsBeginning, IsTrue, IsWholeRun, K, Kind, List, R, Read, T, V, Value, W, X, [], ap, are_transactions, arith, false, inl, inr, ltb-true, refl, true, ◌++◌, ◌∙◌, ◌∷◌, ◌≡◌}
+use Rattle.tmw_runs.proofs.Shared.{A, AllStand, Answer, C, Call, IsBeginning, IsTrue, IsWholeRun, K, Kind, List, R, T, V, W, X, [], ap, are_transactions, arith, false, inl, inr, ltb-true, refl, true, ◌++◌, ◌∙◌, ◌∷◌, ◌≡◌}
+use Rattle.tmw_tm.specs.Answers.Answer.{Abort, Done, Value}
+use Rattle.tmw_tm.specs.Answers.Call.{Begin, Commit, Read}
 use Rattle.tmw_events.specs.declared.ix.Ix.{Ix}
 use Rattle.tmw_runs.proofs.TurnsOfRuns.{beginning_turns}
 use Rattle.tmw_runs.proofs.WholeRuns.{whole_ends}

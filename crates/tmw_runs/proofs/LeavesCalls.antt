@@ -1,5 +1,5 @@
 -- What a transaction leaves after one more call and its answer.
-use Rattle.tmw_runs.proofs.Shared.{A, IsWholeText, Kind, LeavesCalls, List, [], answers, append-nil, append_assoc, drop, drop_more, false, get_or, is_abort, length, refl, subst, sym, true, ℕ, ◌++◌, ◌+◌, ◌<◌, ◌∷◌, ◌≡◌, arith}
+use Rattle.tmw_runs.proofs.Shared.{A, IsWholeText, Kind, LeavesCalls, List, [], answers, append-nil, append_assoc, arith, drop, drop_more, false, get_or, is_abort, length, refl, subst, sym, true, ℕ, ◌++◌, ◌+◌, ◌<◌, ◌∷◌, ◌≡◌}
 
 -- the answer is no abort event
 pub leaves-answered : (calls : List Kind) (place : ℕ) (answer : Kind) (kinds : List Kind) → place < length calls

@@ -1,5 +1,5 @@
 -- Whole runs, one after another.
-use Rattle.tmw_runs.proofs.Shared.{IsWholeRun, IsWholeText, Kind, List, [], append-nil, append_assoc, subst, sym, ◌++◌, ◌∷◌, arith}
+use Rattle.tmw_runs.proofs.Shared.{IsWholeRun, IsWholeText, Kind, List, [], append-nil, append_assoc, arith, subst, sym, ◌++◌, ◌∷◌}
 
 -- one whole run after another
 pub whole_run-append : (script more : List (List Kind)) (kinds later : List Kind) → IsWholeRun script kinds → IsWholeRun more later

@@ -1,12 +1,11 @@
 -- The history of threads that carry out scripts is never malformed.
-use Rattle.tmw_runs.proofs.Shared.{BeginsScript, Event, FormedLaw, IsTrue, List, is_well_formed, kinds_of, take, ℕ, ◌≡◌, arith}
+use Rattle.tmw_runs.proofs.Shared.{BeginsScript, Event, FormedLaw, IsTrue, List, arith, is_well_formed, kinds_of, rules, take, ℕ, ◌≡◌}
 use Rattle.tmw_defs.specs.declared.verdict.Verdict.{Verdict}
 use Rattle.tmw_defs.specs.declared.verdict.Verdict.TheVariants.{Malformed}
 use Rattle.tmw_defs.specs.Verdict.{Rules, IsVerdict}
 use Rattle.tmw_runs.proofs.Calls.{are_calls-transactions}
 use Rattle.tmw_runs.proofs.TurnsOfRuns.{beginning_turns}
 use Rattle.tmw_runs.proofs.WellFormed.{is_well_formed-turns_take}
-use Rattle.std.proofs.Common.{rules}
 
 pub formed_law : FormedLaw BeginsScript
 formed_law registers history begins =

@@ -1,5 +1,5 @@
 -- Answers that stand so far, step by step.
-use Rattle.tmw_runs.proofs.Shared.{AllStand, Answer, Bool, Call, Kind, List, Stands, StandsSoFar, [], append-nil, append_assoc, ends, subst, true, ◌++◌, ◌∷◌, arith}
+use Rattle.tmw_runs.proofs.Shared.{AllStand, Answer, Bool, Call, Kind, List, Stands, StandsSoFar, [], append-nil, append_assoc, arith, ends, subst, true, ◌++◌, ◌∷◌}
 
 -- at the start the next call is the first of its transaction
 pub so_far_none : (gives : Call → Answer → Type 0) → StandsSoFar gives [] true

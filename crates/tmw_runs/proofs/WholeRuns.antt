@@ -1,5 +1,5 @@
 -- A list of events begins with at most one whole run of a script; so no whole run is a proper beginning of another.
-use Rattle.tmw_runs.proofs.Shared.{IsBeginning, IsWholeRun, IsWholeText, Kind, List, MatchBool-at_false, RunsLaw, [], ap, append-nil, append_assoc, cases_Bool, inl, inr, is_abort, refl, sym, ◌++◌, ◌∙◌, ◌∷◌, ◌≡◌, arith}
+use Rattle.tmw_runs.proofs.Shared.{IsBeginning, IsWholeRun, IsWholeText, Kind, List, MatchBool-at_false, RunsLaw, [], ap, append-nil, append_assoc, arith, cases_Bool, inl, inr, is_abort, refl, sym, ◌++◌, ◌∙◌, ◌∷◌, ◌≡◌}
 
 -- equal lists stay equal when their fronts are called by other names
 same_fronts : (t u s r a b : List Kind) → t ≡ s → u ≡ r → t ++ a ≡ u ++ b → s ++ a ≡ r ++ b

@@ -1,8 +1,5 @@
 -- The answers that a thread records stand for those that the memory gives.
-use Rattle.std.specs.Prelude.{◌≡◌, Bool, true, IsTrue, List, [], ◌∷◌, ◌++◌, ◌⊎◌}
-use Rattle.tmw_events.specs.declared.event.Kind.{Kind}
-use Rattle.tmw_events.specs.declared.event.Kind.TheVariants.{R, V, W, K, T, C, X, A, N}
-use Rattle.tmw_defs.specs.History.{ends}
+use Rattle.tmw_runs.specs.Shared.{A, Bool, C, IsTrue, K, Kind, List, N, R, T, V, W, X, [], ends, true, ◌++◌, ◌∷◌, ◌≡◌, ◌⊎◌}
 use Rattle.tmw_tm.specs.Answers.{Call, Answer}
 use Rattle.tmw_tm.specs.Answers.Call.{Begin, Read, Write, Add, Commit}
 use Rattle.tmw_tm.specs.Answers.Answer.{Value, Done, Abort}

@@ -1,8 +1,5 @@
 -- A transaction that is carried out by turns, a call or an answer at a time, by the events that are recorded of it.
-use Rattle.std.specs.Prelude.{◌≡◌, ◌<◌, ◌+◌, ◌++◌, ◌↔◌, ℕ, zero, suc, true, IsTrue, List, [], ◌∷◌, length, drop, get_or}
-use Rattle.tmw_defs.specs.History.{answers}
-use Rattle.tmw_events.specs.declared.event.Kind.{Kind}
-use Rattle.tmw_events.specs.declared.event.Kind.TheVariants.{A}
+use Rattle.tmw_runs.specs.Shared.{A, IsTrue, Kind, List, [], answers, drop, get_or, length, suc, true, zero, ℕ, ◌++◌, ◌+◌, ◌<◌, ◌↔◌, ◌∷◌, ◌≡◌}
 use Rattle.tmw_runs.specs.Runs.{IsWholeRun, IsWholeText}
 use Rattle.tmw_runs.specs.Scripts.{are_transactions, is_request}
 

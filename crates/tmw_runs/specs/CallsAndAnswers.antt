@@ -1,7 +1,5 @@
 -- A thread's events, taken by themselves: calls and their answers in turn.
-use Rattle.std.specs.Prelude.{ℕ, Bool, true, List, [], ◌∷◌, ◌&&◌}
-use Rattle.tmw_events.specs.declared.event.Kind.{Kind}
-use Rattle.tmw_defs.specs.History.{is_call, answers}
+use Rattle.tmw_runs.specs.Shared.{Bool, Kind, List, [], answers, is_call, true, ℕ, ◌&&◌, ◌∷◌}
 
 -- Each call is followed by an answer that fits it; the last may be without one. Transactions follow one another.
 abbrev pub is_turns : ℕ → List Kind → Bool

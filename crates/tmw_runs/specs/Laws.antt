@@ -1,11 +1,8 @@
 -- Laws of scripts and of turns: a script's end is known from its run, threads that carry out transactions record well-formed histories,
 -- and turns grow into whole runs.
-use Rattle.std.specs.Prelude.{◌≡◌, ◌<◌, ◌++◌, ℕ, suc, true, IsTrue, List, [], ◌∷◌, length, get_or, take}
-use Rattle.tmw_defs.specs.History.{is_call, is_well_formed}
+use Rattle.tmw_runs.specs.Shared.{A, IsTrue, Kind, List, [], get_or, is_call, is_well_formed, length, suc, take, true, ℕ, ◌++◌, ◌<◌, ◌∷◌, ◌≡◌}
 use Rattle.tmw_defs.specs.ThreadTransactions.{kinds_of}
 use Rattle.tmw_events.specs.declared.event.Event.{Event}
-use Rattle.tmw_events.specs.declared.event.Kind.{Kind}
-use Rattle.tmw_events.specs.declared.event.Kind.TheVariants.{A}
 use Rattle.tmw_runs.specs.Runs.{IsWholeRun}
 use Rattle.tmw_runs.specs.Scripts.{is_transaction}
 use Rattle.tmw_runs.specs.ByTurns.{Follows, HasTurned, IsPlaced}

@@ -5,3 +5,4 @@ pub mod Laws
 pub mod Runs
 pub mod ScriptRest
 pub mod Scripts
+mod Shared

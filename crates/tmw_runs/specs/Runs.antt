@@ -1,8 +1,5 @@
 -- The runs of a script: what a thread records that makes its calls, one after another, and is answered.
-use Rattle.std.specs.Prelude.{◌≡◌, ℕ, Bool, true, false, IsTrue, MatchBool, List, [], ◌∷◌, ◌++◌}
-use Rattle.tmw_defs.specs.History.{answers}
-use Rattle.tmw_events.specs.declared.event.Kind.{Kind}
-use Rattle.tmw_events.specs.declared.event.Kind.TheVariants.{A}
+use Rattle.tmw_runs.specs.Shared.{A, Bool, IsTrue, Kind, List, MatchBool, [], answers, false, true, ℕ, ◌++◌, ◌∷◌, ◌≡◌}
 use Rattle.tmw_runs.specs.Scripts.{are_transactions}
 
 -- An abort event.

@@ -1,10 +1,7 @@
 -- A thread's script: for each of its transactions the calls that it makes.
-use Rattle.std.specs.Prelude.{ℕ, Bool, true, false, List, [], ◌∷◌, ◌&&◌, nat_lt, map}
+use Rattle.tmw_runs.specs.Shared.{Bool, Kind, List, N, R, T, W, X, [], false, is_call, map, nat_lt, true, ℕ, ◌&&◌, ◌∷◌}
 use Rattle.std.specs.Global.{Vec}
 use Rattle.std.specs.List.{list_all}
-use Rattle.tmw_defs.specs.History.{is_call}
-use Rattle.tmw_events.specs.declared.event.Kind.{Kind}
-use Rattle.tmw_events.specs.declared.event.Kind.TheVariants.{R, W, N, T, X}
 
 -- A call that reads, writes or adds to a register that the run has.
 abbrev pub is_operation : ℕ → Kind → Bool

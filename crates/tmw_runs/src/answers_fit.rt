@@ -1,6 +1,5 @@
 //! Which answers a call may have.
-ghost use Rattle.std.specs.Prelude.{◌≡◌};
-ghost use Rattle.tmw_defs.specs.History.{answers};
+ghost use Rattle.tmw_runs.specs.Shared.{answers, ◌≡◌};
 ghost use Rattle.tmw_runs.specs.Runs.{is_abort};
 
 use tmw_events::Kind;

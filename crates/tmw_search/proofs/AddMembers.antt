@@ -1,6 +1,5 @@
 -- Members of one set or of several are added to a list.
-use Rattle.tmw_search.proofs.Shared.{Adds, AddsMember, cases_lt, ◌+◌, Bool, Contains, Contains-append_left, Contains-push, Contains-push_cases, [], ◌++◌, ◌∷◌, In, IsTrue, List, State, ap, arith, bit_at, bit_at-zero, false, inl, inr, refl, subst, sym, true, ℕ, ◌%◌, ◌*◌, ◌-◌, ◌<◌, ◌^◌, ◌∙◌, ◌≡◌, ◌⊎◌}
-use Rattle.std.proofs.Common.{Err, Ok, OnErr, OnOk, Result}
+use Rattle.tmw_search.proofs.Shared.{Adds, AddsMember, Bool, Contains, Contains-append_left, Contains-push, Contains-push_cases, Err, In, IsTrue, List, Ok, OnErr, OnOk, Result, State, [], ap, arith, bit_at, bit_at-zero, cases_lt, false, inl, inr, refl, subst, sym, true, ℕ, ◌%◌, ◌*◌, ◌++◌, ◌+◌, ◌-◌, ◌<◌, ◌^◌, ◌∙◌, ◌∷◌, ◌≡◌, ◌⊎◌}
 use Rattle.tmw_search.proofs.Bits.{same_place, less_of, less_has}
 use Rattle.tmw_search.proofs.Branches.{never-true}
 

@@ -1,5 +1,5 @@
 -- The transactions from which an open read may have its value, one after another.
-use Rattle.tmw_search.proofs.Shared.{Bool, Effect, Has, In, IsBranch, IsNode, IsRead, IsTrue, List, MayBe, Node, Open, Reads, ReadsFrom, ReadsStart, ReadSource, State, and_le_l, and_le_r, ap, arith, bit_and, bit_at, bit_at-zero, bit_not, bit_or, eq-eqb, false, inl, inr, need_at, not, slice_index, source_at, subst, sym, true, w8, ℕ, ◌%◌, ◌*◌, ◌-◌, ◌<◌, ◌==◌, ◌^◌, ◌∙◌, ◌≡◌, ◌⊎◌, Branch, IsOrder, From, Gives, HasNone, IsLegal, MatchOption, MayGive, Option, room, ◌+◌}
+use Rattle.tmw_search.proofs.Shared.{Bool, Branch, Effect, From, Gives, Has, HasNone, In, IsBranch, IsLegal, IsNode, IsOrder, IsRead, IsTrue, List, MatchOption, MayBe, MayGive, Node, Open, Option, ReadSource, Reads, ReadsFrom, ReadsStart, State, and_le_l, and_le_r, ap, arith, bit_and, bit_at, bit_at-zero, bit_not, bit_or, eq-eqb, false, inl, inr, need_at, not, room, slice_index, source_at, subst, sym, true, w8, ℕ, ◌%◌, ◌*◌, ◌+◌, ◌-◌, ◌<◌, ◌==◌, ◌^◌, ◌∙◌, ◌≡◌, ◌⊎◌}
 use Rattle.tmw_search.proofs.Bits.{masks, some-place, same_place, less_of, less_has, or-left, or-right, or_either}
 use Rattle.tmw_search.proofs.Consequences.{Grows, room-most, room-pair}
 

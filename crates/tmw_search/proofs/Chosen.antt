@@ -1,5 +1,5 @@
 -- What a mask chooses of a list, one by one, and what a completion holds of it.
-use Rattle.tmw_search.proofs.Shared.{Bool, IsTrue, List, Some, Txn, [], and_from, and_parts, ap, arith, bit_at, bit_at-suc, bit_at_lowest, bit_at_ones, cases_Bool, cases_lt, chosen, eq-eqb, eqb-true, if◌then◌else◌, inl, inr, length, list_all, list_all-remove, refl, remove, same_from_bits, slice_get, slice_get_within, suc, sym, true, zero, ℕ, ◌%◌, ◌+◌, ◌-◌, ◌/◌, ◌<◌, ◌==◌, ◌^◌, ◌∙◌, ◌∷◌, ◌≡◌, ◌⊎◌, AreHeld, may_hold, pow-suc, status_of, ◌*◌}
+use Rattle.tmw_search.proofs.Shared.{AreHeld, Bool, IsTrue, List, Some, Txn, [], and_from, and_parts, ap, arith, bit_at, bit_at-suc, bit_at_lowest, bit_at_ones, cases_Bool, cases_lt, chosen, eq-eqb, eqb-true, if◌then◌else◌, inl, inr, length, list_all, list_all-remove, may_hold, pow-suc, refl, remove, same_from_bits, slice_get, slice_get_within, status_of, suc, sym, true, zero, ℕ, ◌%◌, ◌*◌, ◌+◌, ◌-◌, ◌/◌, ◌<◌, ◌==◌, ◌^◌, ◌∙◌, ◌∷◌, ◌≡◌, ◌⊎◌}
 use Rattle.std.proofs.lemmas.List.Edits.{length-remove}
 use Rattle.tmw_search.proofs.Bits.{IsLess}
 

@@ -1,5 +1,6 @@
 -- What one more pair makes of who comes before whom, and what follows from each of several facts, one after another.
-use Rattle.tmw_search.proofs.Shared.{Before, Bool, Has, In, IsOrder, IsRanking, Joins, List, Narrows, ap, arith, bit_at, bit_or, cases_lt, false, get_or_past, if◌then◌else◌, inl, inr, length, or_of_8, slice_index, sym, true, ℕ, ◌<◌, ◌==◌, ◌∙◌, ◌≡◌, ◌≤◌, Clear, Consequence, IfClear, IfStuck, IsOut, Never, Passes, SettledSource, ReadSource, Stuck, WithinSource, bit_at-zero, lives, ◌%◌, ◌*◌, ◌+◌, ◌-◌, ◌^◌, ◌⊎◌, and_le_r, bit_and, bit_at_above, bit_at_and, ext_get_or, room, room_of, same_from_bits, suc, zero}
+use Rattle.tmw_search.proofs.Shared.{Before, Bool, Clear, Has, IfClear, IfStuck, In, IsOrder, IsOut, IsRanking, Joins, List, Narrows, Never, Passes, ReadSource, SettledSource, Stuck, WithinSource, and_le_r, ap, arith, bit_and, bit_at, bit_at-zero, bit_at_above, bit_at_and, bit_or, cases_lt, ext_get_or, false, get_or_past, if◌then◌else◌, inl, inr, length, lives, or_of_8, room, room_of, same_from_bits, slice_index, suc, sym, true, zero, ℕ, ◌%◌, ◌*◌, ◌+◌, ◌-◌, ◌<◌, ◌==◌, ◌^◌, ◌∙◌, ◌≡◌, ◌≤◌, ◌⊎◌}
+use Rattle.tmw_search.specs.declared.consequence.Consequence.{Consequence}
 use Rattle.tmw_search.proofs.Bits.{masks, same_place}
 
 -- nothing changes, where the second comes before the first

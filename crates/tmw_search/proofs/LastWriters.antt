@@ -1,5 +1,5 @@
 -- Which of a register's writers is its last, one other after another.
-use Rattle.tmw_search.proofs.Shared.{ComeBefore, List, ap, arith, bit_and, bit_at, bit_at-zero, bit_at_clear_other, bit_at_clear_same, bit_not, bit_or, inl, inr, slice_index, sym, w8, ℕ, ◌%◌, ◌*◌, ◌-◌, ◌<◌, ◌^◌, ◌∙◌, ◌≡◌, Adds, Bool, ComesLast, Effect, EndWith, EndsAt, Has, HasNone, In, IsEndOf, IsFound, IsLast, IsLegal, IsNode, IsOrder, IsPutLast, IsRead, IsTrue, Joins, LeftByOne, Narrows, Node, State, Writes, bit_at-lt, bit_at_and, bit_at_not, ext_get_or, get_or-map, get_or-set_other, get_or-set_same, left_at, length, length-map, length-set, map, or_of_8, ordered, refl, slice_set, subst, true, ◌↔◌}
+use Rattle.tmw_search.proofs.Shared.{Adds, Bool, ComeBefore, ComesLast, Effect, EndWith, EndsAt, Has, HasNone, In, IsEndOf, IsFound, IsLast, IsLegal, IsNode, IsOrder, IsPutLast, IsRead, IsTrue, Joins, LeftByOne, List, Narrows, Node, State, Writes, ap, arith, bit_and, bit_at, bit_at-lt, bit_at-zero, bit_at_and, bit_at_clear_other, bit_at_clear_same, bit_at_not, bit_not, bit_or, ext_get_or, get_or-map, get_or-set_other, get_or-set_same, inl, inr, left_at, length, length-map, length-set, map, or_of_8, ordered, refl, slice_index, slice_set, subst, sym, true, w8, ℕ, ◌%◌, ◌*◌, ◌-◌, ◌<◌, ◌^◌, ◌↔◌, ◌∙◌, ◌≡◌}
 use Rattle.tmw_search.proofs.Bits.{masks, or_either, same_place, bit_cases, IsLess, or-left, or-right}
 use Rattle.tmw_search.proofs.AddMembers.{ByOne, adds-to, adds-empty}
 use Rattle.tmw_search.proofs.Nodes.{found-clear, legal-chosen, legal-less, legal-with, node-ordered}

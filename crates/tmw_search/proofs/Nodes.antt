@@ -1,8 +1,8 @@
 -- What the legal orders of a node are where more is known, and where a read is given its source.
-use Rattle.tmw_search.proofs.Shared.{AllSettled, Before, Bool, Choices, Chosen, Effect, From, Has, HasNone, In, IsBetween, IsFound, IsLegal, IsNode, IsOrder, IsRanking, IsRead, IsSound, IsTrue, List, Narrows, Node, Open, Reads, SettledSource, Settles, ReadSource, Sourced, State, Writes, arith, false, inl, inr, ordered, refl, slice_index, source_at, subst, sym, ℕ, ◌<◌, ◌≡◌, ◌⊎◌, cond, count_by, FromIs, Gives, Holds, Leaves, MayGive, Needs, WithinSource, ap, bit_at, bit_or, get_or, get_or-set_other, get_or-set_same, idle, is_open, length, set, ◌%◌, ◌*◌, ◌+◌, ◌^◌, ◌↔◌, ◌∙◌}
+use Rattle.tmw_search.proofs.Shared.{AllSettled, Before, Bool, Chosen, Effect, From, FromIs, Gives, Has, HasNone, Holds, In, IsBetween, IsFound, IsLegal, IsNode, IsOrder, IsRanking, IsRead, IsSound, IsTrue, Leaves, List, MayGive, Narrows, Needs, Node, Open, ReadSource, Reads, SettledSource, Settles, Sourced, State, WithinSource, Writes, ap, arith, bit_at, bit_or, cond, count_by, false, get_or, get_or-set_other, get_or-set_same, idle, inl, inr, is_open, length, ordered, refl, set, slice_index, source_at, subst, sum_by-set, sym, ℕ, ◌%◌, ◌*◌, ◌+◌, ◌<◌, ◌^◌, ◌↔◌, ◌∙◌, ◌≡◌, ◌⊎◌}
+use Rattle.tmw_search.specs.declared.source_choices.Choices.{Choices}
 use Rattle.tmw_search.proofs.Bits.{same_place, masks}
 use Rattle.tmw_search.proofs.Consequences.{Grows, rank_of, order-ranks}
-use Rattle.std.proofs.lemmas.List.Sums.{sum_by-set}
 
 pub ranking-less : (old new : List ℕ) (rank : ℕ → ℕ) → Grows old new → IsRanking rank new → IsRanking rank old
 ranking-less = grind arith

@@ -1,5 +1,5 @@
 -- What follows from each read, one after another.
-use Rattle.tmw_search.proofs.Shared.{Bool, Branch, Chosen, Effect, Entails, From, Gives, HasNone, In, IsBranch, IsFalse, IsLegal, IsNode, IsOnly, IsRead, IsTrue, KeepsOthers, LeavesOut, List, Narrows, Node, NoneMay, TakesIn, Open, Reads, ReadsFrom, SettledSource, Settles, ReadSource, Sourced, Start, State, Writes, ap, arith, bit_and, bit_at, bit_at-zero, bit_at_clear_other, bit_not, eq-eqb, false, inl, inr, looking, need_at, ordered, refl, slice_index, source_at, subst, sym, true, w8, ℕ, ◌%◌, ◌*◌, ◌+◌, ◌-◌, ◌<◌, ◌==◌, ◌^◌, ◌↔◌, ◌∙◌, ◌≡◌, ◌≤◌, ◌⊎◌}
+use Rattle.tmw_search.proofs.Shared.{Bool, Branch, Chosen, Effect, Entails, From, Gives, HasNone, In, IsBranch, IsFalse, IsLegal, IsNode, IsOnly, IsRead, IsTrue, KeepsOthers, LeavesOut, List, Narrows, Node, NoneMay, Open, ReadSource, Reads, ReadsFrom, SettledSource, Settles, Sourced, Start, State, TakesIn, Writes, ap, arith, bit_and, bit_at, bit_at-zero, bit_at_clear_other, bit_not, eq-eqb, false, inl, inr, looking, need_at, ordered, refl, slice_index, source_at, subst, sym, true, w8, ℕ, ◌%◌, ◌*◌, ◌+◌, ◌-◌, ◌<◌, ◌==◌, ◌^◌, ◌↔◌, ◌∙◌, ◌≡◌, ◌≤◌, ◌⊎◌}
 use Rattle.tmw_search.proofs.Bits.{masks, same_place}
 use Rattle.tmw_search.proofs.Branches.{never-true}
 use Rattle.tmw_search.proofs.Nodes.{is_pair, sound-more, node-ordered, legal-chosen, legal-with, legal-less, reads-sourced, sourced-reads}

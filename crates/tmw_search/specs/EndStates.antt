@@ -1,19 +1,8 @@
 -- What is answered of a window: its layers, and its end states from a set of states.
-use Rattle.std.specs.Prelude.{◌≡◌, ◌↔◌, ◌<◌, ◌≤◌, ℕ, Bool, true, false, List, IsTrue, length}
-use Rattle.std.specs.Cmp.Lexicographic.{slice_cmp}
-use Rattle.std.specs.List.{Contains}
-use Rattle.std.specs.List.Sorted.{IsStrictlySortedBy}
-use Rattle.std.specs.Ordering.{nat_cmp}
-use Rattle.tmw_events.specs.declared.event.Event.{Event}
-use Rattle.tmw_defs.specs.declared.criterion.Criterion.{Criterion}
-use Rattle.tmw_defs.specs.Criteria.{EndsBy}
-use Rattle.tmw_defs.specs.History.{transactions}
+use Rattle.tmw_search.specs.Shared.{Bool, Contains, Criterion, EndsBy, Event, IsStrictlySortedBy, IsTrue, List, StandsFor, State, false, length, members, nat_cmp, slice_cmp, transactions, true, ℕ, ◌<◌, ◌↔◌, ◌≡◌, ◌≤◌}
 use Rattle.tmw_search.specs.Layers.{InLayer}
-use Rattle.tmw_defs.specs.Opaque.{State}
 use Rattle.tmw_cuts.specs.declared.states.States.{States}
 use Rattle.tmw_cuts.specs.declared.window.Window.{Window}
-use Rattle.tmw_cuts.specs.Members.{members}
-use Rattle.tmw_cuts.specs.StandsFor.{StandsFor}
 use Rattle.tmw_search.specs.declared.end_states.EndStates.{EndStates}
 use Rattle.tmw_search.specs.declared.end_states.EndStates.TheVariants.{Few, Many}
 

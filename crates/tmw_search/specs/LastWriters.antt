@@ -1,19 +1,10 @@
 -- The ends of a node's orders, told by the last writer of each register; and those by completions and from starts.
-use Rattle.std.specs.Prelude.{◌≡◌, ◌⊎◌, ◌<◌, ◌≤◌, ℕ, Bool, List, IsTrue, length, slice_index, slice_set, map}
-use Rattle.std.specs.List.{Contains}
-use Rattle.tmw_defs.specs.Opaque.{State}
-use Rattle.tmw_cuts.specs.declared.effect.Effect.{Effect}
+use Rattle.tmw_search.specs.Shared.{Bool, Contains, Criterion, Effect, EndsBy, Event, IsTrue, List, State, length, map, slice_index, slice_set, transactions, view, views_of, ℕ, ◌<◌, ◌≡◌, ◌≤◌, ◌⊎◌}
 use Rattle.tmw_search.specs.declared.node.Node.{Node}
 use Rattle.tmw_search.specs.declared.source_choices.Choices.{Choices}
 use Rattle.tmw_search.specs.Precedence.{Chosen, Has}
 use Rattle.tmw_search.specs.NodeOrders.{In, left_at, IsLegal, IsNode}
 use Rattle.tmw_search.specs.LegalOrders.{EndsAt, EndsIn, members_of}
-use Rattle.tmw_defs.specs.declared.criterion.Criterion.{Criterion}
-use Rattle.tmw_defs.specs.Criteria.{EndsBy}
-use Rattle.tmw_defs.specs.History.{transactions}
-use Rattle.tmw_events.specs.declared.event.Event.{Event}
-use Rattle.tmw_cuts.specs.StandsFor.{views_of}
-use Rattle.tmw_cuts.specs.Views.{view}
 use Rattle.tmw_search.specs.declared.completion_ends.Reading.{Reading}
 use Rattle.tmw_search.specs.declared.end_states.EndStates.{EndStates}
 use Rattle.tmw_search.specs.EndStates.{AreMembers}

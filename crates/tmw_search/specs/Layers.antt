@@ -1,14 +1,7 @@
 -- Layers: after k transactions were placed, which sets of k and which states can be reached. A set of the transactions of a
 -- list is a mask: bit j chooses the one at place j.
-use Rattle.std.specs.Prelude.{◌≡◌, ◌==◌, ◌%◌, ◌/◌, ◌^◌, ◌<◌, ℕ, false, List, [], ◌∷◌, length, slice_get, Some, if◌then◌else◌, ◌*◌, Bool, IsTrue, bit_or}
-use Rattle.std.specs.Int.{bit_at}
-use Rattle.tmw_defs.specs.History.{Txn}
-use Rattle.tmw_defs.specs.Opaque.{State, precedes, may_hold, reads_hold, after_writes}
-use Rattle.tmw_defs.specs.Outcomes.{Ends}
-use Rattle.std.specs.Cmp.Lexicographic.{slice_cmp}
-use Rattle.std.specs.Ordering.{nat_cmp, on, then_cmp}
+use Rattle.tmw_search.specs.Shared.{Bool, Ends, IsTrue, List, Some, State, Txn, View, [], after_writes, bit_at, bit_or, false, if◌then◌else◌, length, may_hold, nat_cmp, on, precedes, reads_hold, slice_cmp, slice_get, then_cmp, ℕ, ◌%◌, ◌*◌, ◌/◌, ◌<◌, ◌==◌, ◌^◌, ◌∷◌, ◌≡◌}
 use Rattle.std.specs.declared.cmp.Ordering.{Ordering}
-use Rattle.tmw_cuts.specs.Views.{View}
 
 -- The transactions that the mask chooses, in their order.
 abbrev pub chosen : ℕ → List Txn → List Txn

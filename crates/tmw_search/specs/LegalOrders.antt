@@ -2,24 +2,12 @@
 -- and where the search begins.
 -- Transactions are told by their places, below 8; `mat` at j is the mask of those that precede j (with or without j itself). Rankings are
 -- those of specs/Precedence.antt: all eight places have different ranks, and a bit i of mat at j says rank i ≤ rank j.
-use Rattle.std.specs.Prelude.{◌≡◌, ◌==◌, ◌⊎◌, ◌↔◌, ◌-◌, ◌^◌, ◌<◌, ◌≤◌, ℕ, true, List, length, slice_get, slice_index, get_or, Some, IsTrue, if◌then◌else◌, false, Bool, map, bit_or}
-use Rattle.std.specs.Int.{bit_at}
-use Rattle.tmw_defs.specs.declared.criterion.Criterion.{Criterion}
+use Rattle.tmw_search.specs.Shared.{Bool, Contains, Criterion, Effect, EndsBy, Event, IsTrue, List, Only, Op, Some, State, Txn, View, after_writes, bit, bit_at, bit_or, effect_of, false, get_or, if◌then◌else◌, length, map, may_hold, operations, precedes, reads_hold, slice_get, slice_index, status_of, transactions, true, view, views_of, ℕ, ◌-◌, ◌<◌, ◌==◌, ◌^◌, ◌↔◌, ◌≡◌, ◌≤◌, ◌⊎◌}
 use Rattle.tmw_defs.specs.declared.criterion.Criterion.TheVariants.{Opacity, Strict}
-use Rattle.tmw_defs.specs.declared.op.Op.{Op}
-use Rattle.tmw_defs.specs.Criteria.{EndsBy}
-use Rattle.tmw_defs.specs.History.{Txn, operations, status_of, transactions}
-use Rattle.tmw_defs.specs.Opaque.{State, precedes, may_hold, reads_hold, after_writes}
-use Rattle.tmw_defs.specs.Outcomes.{Only}
 use Rattle.tmw_search.specs.Precedence.{IsRanking, IsRead, source_at}
-use Rattle.tmw_cuts.specs.declared.effect.Effect.{Effect}
 use Rattle.tmw_search.specs.declared.source_choices.ReadSource.TheVariants.{Open}
 use Rattle.tmw_search.specs.NodeOrders.{idle, In, Needs, left_at, Writes, Reads, Leaves}
-use Rattle.tmw_cuts.specs.Views.{View, bit, view, effect_of}
-use Rattle.std.specs.List.{Contains}
-use Rattle.tmw_events.specs.declared.event.Event.{Event}
 use Rattle.tmw_defs.specs.QuietEvents.{is_pending}
-use Rattle.tmw_cuts.specs.StandsFor.{views_of}
 use Rattle.tmw_search.specs.OneEnd.{is_committed}
 use Rattle.tmw_search.specs.declared.node.Node.{Node}
 use Rattle.tmw_cuts.specs.declared.txn.Txn as cuts

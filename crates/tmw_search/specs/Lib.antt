@@ -5,3 +5,4 @@ pub mod LegalOrders
 pub mod NodeOrders
 pub mod OneEnd
 pub mod Precedence
+mod Shared

@@ -1,12 +1,8 @@
 -- Which orders of a node are legal, and what follows from its reads.
-use Rattle.std.specs.Prelude.{◌≡◌, ◌⊎◌, ◌↔◌, ◌<◌, ◌≤◌, ℕ, false, List, [], map, slice_index, get_or, IsTrue, Bool, IsFalse}
-use Rattle.std.specs.Int.{bit_at}
-use Rattle.tmw_defs.specs.Opaque.{State}
+use Rattle.tmw_search.specs.Shared.{Bool, Effect, IsFalse, IsTrue, List, State, [], bit_at, effect_of, false, get_or, map, slice_index, ℕ, ◌<◌, ◌↔◌, ◌≡◌, ◌≤◌, ◌⊎◌}
 use Rattle.tmw_search.specs.declared.source_choices.ReadSource.{ReadSource}
 use Rattle.tmw_search.specs.declared.source_choices.ReadSource.TheVariants.{Open, Start, From}
-use Rattle.tmw_cuts.specs.declared.effect.Effect.{Effect}
 use Rattle.tmw_cuts.specs.declared.txn.Txn.{Txn}
-use Rattle.tmw_cuts.specs.Views.{effect_of}
 use Rattle.tmw_search.specs.declared.node.Node.{Node}
 use Rattle.tmw_search.specs.declared.node.Branch.{Branch}
 use Rattle.tmw_search.specs.Precedence.{Has, IsOrder, IsRanking, IsRead, source_at}

@@ -1,13 +1,11 @@
 -- Who comes before whom: bit i of the mask at j says that i comes before j, or is it. What the sources say of a ranking, and what is
 -- settled of them. What falls where a pair more is ordered, and how many reads are open.
-use Rattle.std.specs.Prelude.{◌≡◌, ◌⊎◌, ◌<◌, ◌≤◌, ℕ, Bool, List, length, slice_index, IsTrue, true, false, ◌+◌, ◌*◌, get_or, ◌-◌, zero, suc}
-use Rattle.std.specs.Int.{bit_at}
+use Rattle.tmw_search.specs.Shared.{Bool, IsTrue, List, bit_at, count_by, false, get_or, length, slice_index, suc, true, zero, ℕ, ◌*◌, ◌+◌, ◌-◌, ◌<◌, ◌≡◌, ◌≤◌, ◌⊎◌}
 use Rattle.tmw_search.specs.declared.consequence.Consequence.{Consequence}
 use Rattle.tmw_search.specs.declared.consequence.Consequence.TheVariants.{Never, Clear, Stuck}
 use Rattle.tmw_search.specs.declared.source_choices.Choices.{Choices}
 use Rattle.tmw_search.specs.declared.source_choices.ReadSource.{ReadSource}
 use Rattle.tmw_search.specs.declared.source_choices.ReadSource.TheVariants.{Open, Start, From}
-use Rattle.std.specs.List.{count_by}
 
 abbrev pub Has : List ℕ → ℕ → ℕ → Type 0
 Has reach i j = bit_at (slice_index reach j) i ≡ 1

@@ -1,10 +1,7 @@
 //! The ends of a window's transactions, by each completion and from each start.
-ghost use Rattle.std.specs.Prelude.{◌≡◌, ◌↔◌, ◌<◌, ◌≤◌, ℕ, IsTrue, IsFalse, length, slice_index};
-ghost use Rattle.std.specs.List.{Contains};
-ghost use Rattle.tmw_cuts.specs.Members.{members, room_of};
-ghost use Rattle.tmw_defs.specs.Opaque.{State};
+ghost use Rattle.tmw_search.specs.Shared.{IsFalse, IsTrue, State, length, members, room_of, slice_index, ℕ, ◌<◌, ◌≡◌, ◌≤◌};
 ghost use Rattle.tmw_search.specs.Precedence.{IsRead, IsOrder};
-ghost use Rattle.tmw_search.specs.LastWriters.{AreEndsFrom, EndsByReading, EndsFromAll, EndsByMore, IsEndOf, Adds};
+ghost use Rattle.tmw_search.specs.LastWriters.{AreEndsFrom, EndsByReading, EndsFromAll, EndsByMore, Adds};
 ghost use Rattle.tmw_search.specs.EndStates.{told};
 ghost use Rattle.tmw_search.specs.NodeOrders.{In, effects, IsNode, AllOpen, Entails};
 ghost use Rattle.tmw_search.specs.LegalOrders.{ReadsAll};

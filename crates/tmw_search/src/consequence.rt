@@ -1,5 +1,4 @@
-ghost use Rattle.std.specs.Prelude.{◌≡◌, ◌<◌, IsTrue, ℕ};
-ghost use Rattle.std.specs.Int.{bit_at};
+ghost use Rattle.tmw_search.specs.Shared.{IsTrue, bit_at, ℕ, ◌<◌, ◌≡◌};
 ghost use Rattle.tmw_search.specs.Precedence.{Has, IsOrder, Narrows, Out, IsSource, FromStart, IsOut, IsSettled, IfClear, IfStuck, Passes, lives};
 
 use crate::precedence::{Masks, has, precede};

@@ -1,5 +1,4 @@
-ghost use Rattle.std.specs.Prelude.{◌≡◌, ◌≤◌, ◌<◌, [], IfOk, IsTrue, IsFalse, length};
-ghost use Rattle.tmw_cuts.specs.Members.{members, HasRoom, room_of};
+ghost use Rattle.tmw_search.specs.Shared.{HasRoom, IfOk, IsFalse, IsTrue, [], length, members, room_of, ◌<◌, ◌≡◌, ◌≤◌};
 ghost use Rattle.tmw_search.specs.LastWriters.{Adds};
 
 use std::alloc::{AllocError, Global};

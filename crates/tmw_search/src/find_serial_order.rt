@@ -1,7 +1,5 @@
 //! Looks for a legal serial order of a window's transactions.
-ghost use Rattle.std.specs.Prelude.{◌≡◌, ◌<◌, ◌≤◌, IfSome, MatchOption, is_some, length};
-ghost use Rattle.std.specs.List.{Contains};
-ghost use Rattle.tmw_cuts.specs.Members.{members};
+ghost use Rattle.tmw_search.specs.Shared.{Contains, IfSome, MatchOption, is_some, length, members, ◌≤◌};
 ghost use Rattle.tmw_search.specs.EndStates.{TellsEnd};
 ghost use Rattle.tmw_search.specs.LegalOrders.{Explains, NoneExplains};
 

@@ -1,10 +1,8 @@
 //! The ends of a node's orders: one register after another, one of its writers is taken for the last.
-ghost use Rattle.std.specs.Prelude.{◌≡◌, ◌↔◌, ◌<◌, ◌≤◌, IsTrue, IsFalse, ℕ, slice_index, IfSome, IfNone, length};
-ghost use Rattle.tmw_cuts.specs.Members.{members};
+ghost use Rattle.tmw_search.specs.Shared.{IfNone, IfSome, IsFalse, IsTrue, State, length, members, slice_index, ℕ, ◌<◌, ◌↔◌, ◌≡◌};
 ghost use Rattle.tmw_search.specs.Precedence.{IsRead, Within, Has, IsOrder, Narrows};
 ghost use Rattle.tmw_search.specs.LastWriters.{ComeBefore, IsEndOf, EndWith, IsPutLast, LeftByOne, Adds};
 ghost use Rattle.tmw_search.specs.NodeOrders.{In, effects, left_at, ordered, IsNode};
-ghost use Rattle.tmw_defs.specs.Opaque.{State};
 
 use crate::effects::left_at;
 use crate::end_set::EndSet;

@@ -1,6 +1,4 @@
-ghost use Rattle.std.specs.Prelude.{◌≡◌, ◌↔◌, ◌<◌, ◌≤◌, OnOk, IsTrue, length, map, true};
-ghost use Rattle.tmw_cuts.specs.Views.{view};
-ghost use Rattle.tmw_defs.specs.Opaque.{may_hold};
+ghost use Rattle.tmw_search.specs.Shared.{IsTrue, OnOk, length, map, may_hold, true, view, ◌<◌, ◌↔◌, ◌≡◌, ◌≤◌};
 ghost use Rattle.tmw_search.specs.LastWriters.{Adds};
 ghost use Rattle.tmw_search.specs.Layers.{MayCome, Makes, Follows};
 

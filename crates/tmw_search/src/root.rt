@@ -1,7 +1,5 @@
 //! Where the search begins: what is known of all orders.
-ghost use Rattle.std.specs.Prelude.{◌≡◌, ◌<◌, ◌≤◌, ◌↔◌, ℕ, IsTrue, get_or, length, map};
-ghost use Rattle.tmw_cuts.specs.Views.{view};
-ghost use Rattle.tmw_defs.specs.Opaque.{State};
+ghost use Rattle.tmw_search.specs.Shared.{IsTrue, State, get_or, length, map, view, ℕ, ◌<◌, ◌↔◌, ◌≡◌, ◌≤◌};
 ghost use Rattle.tmw_search.specs.declared.source_choices.ReadSource.TheVariants.{Open};
 ghost use Rattle.tmw_search.specs.NodeOrders.{In, effects, IsNode};
 ghost use Rattle.tmw_search.specs.Precedence.{IsOrder};

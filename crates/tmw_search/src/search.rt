@@ -1,9 +1,7 @@
-ghost use Rattle.std.specs.Prelude.{◌≡◌, ◌⊎◌, ◌↔◌, ◌<◌, IsTrue, ℕ, slice_index, get_or, MatchOption, None};
-ghost use Rattle.std.specs.Int.{bit_at};
+ghost use Rattle.tmw_search.specs.Shared.{IsTrue, MatchOption, None, State, get_or, slice_index, ℕ, ◌<◌, ◌↔◌, ◌≡◌, ◌⊎◌};
 ghost use Rattle.tmw_search.specs.Precedence.{IsRead, WithinSource, source_at, opens, Has};
 ghost use Rattle.tmw_search.specs.declared.source_choices.ReadSource.{ReadSource};
 ghost use Rattle.tmw_search.specs.declared.source_choices.ReadSource.TheVariants.{From, Open};
-ghost use Rattle.tmw_defs.specs.Opaque.{State};
 ghost use Rattle.tmw_search.specs.NodeOrders.{effects, left_at, In, Holds, FromIs, idle, MayBe, IsNode, IsFound, HasNone, IsBranch, MayGive, Gives};
 
 use crate::consequence::Consequence;

@@ -1,6 +1,5 @@
-ghost use Rattle.std.specs.Prelude.{◌≡◌, ◌↔◌, ◌<◌, IsTrue, ℕ, slice_index};
-ghost use Rattle.std.specs.Int.{bit_at};
-ghost use Rattle.tmw_search.specs.Precedence.{Has, IsOrder, Narrows, IfClear, IfStuck, Passes, lives, Sourced, SettledSource, WithinSource, ChosenBy, Chosen, SettledBy, AllSettled, Within};
+ghost use Rattle.tmw_search.specs.Shared.{IsTrue, ◌<◌, ◌↔◌, ◌≡◌};
+ghost use Rattle.tmw_search.specs.Precedence.{IsOrder, Narrows, IfClear, IfStuck, Passes, lives, Sourced, SettledSource, WithinSource, ChosenBy, Chosen, SettledBy, AllSettled, Within};
 
 use crate::consequence::{Consequence, settle_read, settle_start};
 use crate::precedence::Masks;

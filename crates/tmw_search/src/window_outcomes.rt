@@ -1,7 +1,4 @@
-ghost use Rattle.std.specs.Prelude.{◌≡◌, ◌<◌, ◌≤◌, List, IfOk, IfSome};
-ghost use Rattle.tmw_events.specs.declared.event.Event.{Event};
-ghost use Rattle.tmw_cuts.specs.Members.{HasRoom, room_of};
-ghost use Rattle.tmw_cuts.specs.StandsFor.{StandsFor};
+ghost use Rattle.tmw_search.specs.Shared.{Event, HasRoom, IfOk, IfSome, List, StandsFor, room_of, ◌<◌, ◌≡◌, ◌≤◌};
 ghost use Rattle.tmw_search.specs.EndStates.{TellsEnd, AreEnds, EndsOf, Replaces, told};
 
 use crate::completion_ends::find_ends;

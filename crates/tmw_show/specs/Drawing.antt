@@ -1,28 +1,14 @@
 -- How a window is drawn: the states from which it begins, and its events in a column for each thread. Numbers are decimal, without
 -- sign and without leading zeros.
-use Rattle.std.specs.Prelude.{ℕ, Bool, true, false, ◌+◌, ◌-◌, ◌*◌, ◌==◌, List, [], ◌∷◌, ◌++◌, length, take, replicate, max, codes, Option, Some, None, option_map, if◌then◌else◌}
-use Rattle.std.specs.List.{flat_map}
-use Rattle.std.specs.Fmt.{decimal}
-use Rattle.tmw_events.specs.declared.event.Event.{Event}
-use Rattle.tmw_events.specs.declared.registers.Registers.{Registers}
-use Rattle.tmw_lines.specs.LineFeeds.{line}
-use Rattle.tmw_trace.specs.Text.{values_text}
-use Rattle.tmw_defs.specs.Opaque.{State}
-use Rattle.tmw_defs.specs.declared.criterion.Criterion.{Criterion}
-use Rattle.tmw_defs.specs.declared.criterion.Criterion.TheVariants.{Opacity, Strict}
-use Rattle.tmw_defs.specs.declared.verdict.Verdict.{Verdict}
-use Rattle.tmw_defs.specs.declared.verdict.Verdict.TheVariants.{OpaqueSoFar, StrictSoFar, Violated, Undecided, Malformed}
+use Rattle.tmw_show.specs.Shared.{Bool, BrokenRule, Criterion, Event, List, Malformed, Name, None, Opacity, OpaqueSoFar, Option, Registers, Some, State, Strict, StrictSoFar, Undecided, Verdict, Violated, [], codes, decimal, false, flat_map, if◌then◌else◌, kept_of, length, line, max, option_map, replicate, take, true, values_text, ℕ, ◌*◌, ◌++◌, ◌+◌, ◌-◌, ◌==◌, ◌∷◌}
 use Rattle.tmw_defs.specs.declared.verdict.Why.{Why}
 use Rattle.tmw_defs.specs.declared.verdict.Why.TheVariants.{Transactions, States}
-use Rattle.tmw_wellformed.specs.declared.malformed.Malformed.{Malformed as Fault}
 use Rattle.tmw_wellformed.specs.declared.malformed.Malformed.TheVariants.{Register, Busy, Idle, Mismatch}
-use Rattle.tmw_part.specs.Marks.{kept_of}
 use Rattle.tmw_part.specs.NameInWindow.{names_of}
-use Rattle.tmw_part.specs.declared.name_in_window.Name.{Name}
 use Rattle.tmw_show.specs.TransactionNames.{label_at}
 use Rattle.tmw_show.specs.ValueNames.{long_values, names_from, shown_kind}
-use Rattle.tmw_monitor.specs.declared.broken_rule.BrokenRule.{BrokenRule}
 use Rattle.tmw_show.specs.declared.run_verdict.RunVerdict.{RunVerdict}
+use Rattle.tmw_wellformed.specs.declared.malformed.Malformed.{Malformed as Fault}
 
 -- so many blanks
 abbrev pub blanks : ℕ → List ℕ

@@ -4,6 +4,7 @@ pub mod Page
 pub mod RunShow
 pub mod SentenceParts
 pub mod Sentences
+mod Shared
 pub mod TracesLaw
 pub mod TracesText
 pub mod TransactionNames

@@ -1,18 +1,7 @@
 -- Which events of a window are shown: all, or those that contradict each other, where it is asked why the window is violated.
-use Rattle.std.specs.Prelude.{◌≡◌, ℕ, Bool, true, false, List, [], ◌++◌, length, nat_lt, codes, if◌then◌else◌, Option, None}
-use Rattle.std.specs.Fmt.{decimal}
-use Rattle.tmw_cuts.specs.Members.{members}
-use Rattle.tmw_defs.specs.declared.criterion.Criterion.{Criterion}
-use Rattle.tmw_defs.specs.declared.verdict.Verdict.{Verdict}
-use Rattle.tmw_defs.specs.declared.verdict.Verdict.TheVariants.{Violated}
-use Rattle.tmw_events.specs.declared.event.Event.{Event}
-use Rattle.tmw_events.specs.declared.registers.Registers.{Registers}
-use Rattle.tmw_lines.specs.LineFeeds.{line}
-use Rattle.tmw_part.specs.FindPart.{FindsPart}
+use Rattle.tmw_show.specs.Shared.{Bool, Criterion, Event, FindsPart, List, None, Option, Reason, Registers, Verdict, Violated, [], all_kept, codes, decimal, false, if◌then◌else◌, kept_of, length, line, members, nat_lt, true, ℕ, ◌++◌, ◌≡◌}
 use Rattle.tmw_part.specs.DrawnSteps.{drawn_of}
 use Rattle.tmw_part.specs.FindReason.{FindsReason}
-use Rattle.tmw_part.specs.declared.reason_case.Reason.{Reason}
-use Rattle.tmw_part.specs.Marks.{all_kept, kept_of}
 use Rattle.tmw_window.specs.declared.shown_window.ShownWindow.{ShownWindow}
 use Rattle.tmw_show.specs.declared.needed_events.NeededEvents.{NeededEvents}
 use Rattle.tmw_show.specs.declared.shown_trace.ShownTrace.{ShownTrace}

@@ -1,22 +1,10 @@
 -- The page that draws a window: a constant head, what is shown as one JSON object, and a constant tail. Of a trace the object has digits,
 -- the letters of events and blanks alone, within strings, and numbers.
-use Rattle.std.specs.Prelude.{ℕ, Bool, true, false, ◌+◌, List, [], ◌∷◌, ◌++◌, take, drop, codes, Option, Some, None}
-use Rattle.std.specs.List.{flat_map}
-use Rattle.std.specs.Fmt.{decimal}
-use Rattle.tmw_events.specs.Text.{event_text}
-use Rattle.tmw_events.specs.declared.event.Event.{Event}
-use Rattle.tmw_events.specs.declared.registers.Registers.{Registers}
-use Rattle.tmw_trace.specs.Text.{values_text}
-use Rattle.tmw_cuts.specs.Members.{members}
-use Rattle.tmw_defs.specs.Opaque.{State}
-use Rattle.tmw_defs.specs.declared.criterion.Criterion.{Criterion}
-use Rattle.tmw_defs.specs.declared.criterion.Criterion.TheVariants.{Opacity, Strict}
+use Rattle.tmw_show.specs.Shared.{Bool, Criterion, Event, List, None, Opacity, Option, Reason, Registers, Some, State, Strict, [], codes, decimal, drop, event_text, false, flat_map, members, report_by, take, true, values_text, ℕ, ◌++◌, ◌+◌, ◌∷◌}
 use Rattle.tmw_show.specs.Drawing.{marked_at, wrong_text}
-use Rattle.tmw_report.specs.Lines.{report_by}
 use Rattle.tmw_show.specs.declared.page.constants.TheConstants.{HEAD, TAIL}
 use Rattle.tmw_show.specs.declared.needed_events.NeededEvents.{NeededEvents}
 use Rattle.tmw_show.specs.declared.needed_events.NeededEvents.TheVariants.{Part}
-use Rattle.tmw_part.specs.declared.reason_case.Reason.{Reason}
 use Rattle.tmw_show.specs.declared.frame.Frame.TheVariants.{Clause}
 use Rattle.tmw_show.specs.NeededEvents.{reason_of}
 use Rattle.tmw_show.specs.Sentences.{reason_text}

@@ -1,28 +1,11 @@
 -- What `show` promises: from the bytes that its source tells to what its sink takes and the exit status.
-use Rattle.std.specs.Prelude.{◌≡◌, ◌+◌, ℕ, List, ◌++◌, Option, Some, None, Result, Ok, Err}
+use Rattle.tmw_show.specs.Shared.{AnswersTextFault, AreEvents, BrokenRule, Criterion, Drawing, Err, Event, Header, IsRemarkedRun, List, Malformed, None, Ok, Option, Page, RemarksTrace, Result, ShowOptions, Some, Traces, Verdict, kept_of, members, report_by, rules_for, trace_grammar, trace_text, verdict_status, ℕ, ◌++◌, ◌+◌, ◌≡◌}
 use Rattle.tmw_lines.specs.TextFault.{HasTextFault}
-use Rattle.tmw_trace.specs.Text.{trace_grammar, trace_text, AreEvents}
-use Rattle.tmw_trace.specs.declared.header.Header.{Header}
-use Rattle.tmw_events.specs.declared.event.Event.{Event}
-use Rattle.tmw_defs.specs.declared.criterion.Criterion.{Criterion}
-use Rattle.tmw_defs.specs.declared.verdict.Verdict.{Verdict}
-use Rattle.tmw_defs.specs.declared.verdict.Verdict.TheVariants.{Malformed}
-use Rattle.tmw_cuts.specs.Members.{members}
-use Rattle.tmw_monitor.specs.declared.broken_rule.BrokenRule.{BrokenRule}
-use Rattle.tmw_monitor.specs.Fits.{rules_for}
 use Rattle.tmw_report.specs.declared.fault.Fault.{Fault}
-use Rattle.tmw_report.specs.Lines.{report_by, verdict_status}
-use Rattle.tmw_report.specs.CommandRun.{AnswersTextFault}
-use Rattle.tmw_report.specs.Quote.{RemarksTrace}
-use Rattle.tmw_report.specs.Remark.{IsRemarkedRun}
 use Rattle.tmw_report.specs.declared.remark.Remark.{Remark}
-use Rattle.tmw_report.specs.declared.remark.Remark.TheVariants.{Broken as IsBroken}
 use Rattle.tmw_streams.specs.Streams.{FromSource, ToSink}
 use Rattle.tmw_window.specs.ShownWindow.{IsShowing}
-use Rattle.tmw_part.specs.Marks.{kept_of}
 use Rattle.tmw_options.specs.declared.form.Form.{Form}
-use Rattle.tmw_options.specs.declared.form.Form.TheVariants.{Drawing, Traces, Page}
-use Rattle.tmw_options.specs.declared.show_options.ShowOptions.{ShowOptions}
 use Rattle.tmw_show.specs.declared.shown_trace.ShownTrace.{ShownTrace}
 use Rattle.tmw_show.specs.Drawing.{states_text, window_text}
 use Rattle.tmw_show.specs.NeededEvents.{IsNeededOf, marks_of, needed_text, reason_of}
@@ -31,6 +14,7 @@ use Rattle.tmw_show.specs.Sentences.{found_text}
 use Rattle.tmw_show.specs.declared.frame.Frame.TheVariants.{Line}
 use Rattle.tmw_show.specs.TracesText.{traces_text}
 use Rattle.tmw_show.specs.ValueNames.{long_values}
+use Rattle.tmw_report.specs.declared.remark.Remark.TheVariants.{Broken as IsBroken}
 
 -- The bytes are the text of a trace, and this is what is shown of its history.
 pub record IsShownOf (options : ShowOptions) (bytes : List ℕ) (shown : ShownTrace) : Type 0 where

@@ -1,7 +1,5 @@
 -- What the sentences on a violation are made of. Values that are among some have names.
-use Rattle.std.specs.Prelude.{ℕ, List, ◌++◌, codes, Option, Some, None}
-use Rattle.std.specs.Fmt.{decimal}
-use Rattle.tmw_part.specs.declared.reason_step.ValueSource.{ValueSource}
+use Rattle.tmw_show.specs.Shared.{List, None, Option, Some, ValueSource, codes, decimal, ℕ, ◌++◌}
 use Rattle.tmw_show.specs.TransactionNames.{name_text}
 use Rattle.tmw_show.specs.ValueNames.{value_text}
 

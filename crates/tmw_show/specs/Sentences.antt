@@ -1,23 +1,16 @@
 -- The sentences that tell why a window is violated. Values that are among some have names.
-use Rattle.std.specs.Prelude.{ℕ, ◌+◌, ◌==◌, ◌&&◌, Bool, not, if◌then◌else◌, slice_index, true, false, List, [], ◌∷◌, ◌++◌, codes, drop, length, min, nat_lt, take, Option, Some, None}
-use Rattle.std.specs.List.{flat_map, list_any}
-use Rattle.std.specs.Fmt.{decimal}
-use Rattle.tmw_lines.specs.LineFeeds.{line}
-use Rattle.tmw_events.specs.declared.event.Event.{Event}
+use Rattle.tmw_show.specs.Shared.{Bool, Event, List, None, Option, Reason, Some, State, ValueSource, [], codes, decimal, drop, false, flat_map, if◌then◌else◌, length, line, list_any, min, nat_lt, not, slice_index, take, true, ℕ, ◌&&◌, ◌++◌, ◌+◌, ◌==◌, ◌∷◌}
 use Rattle.tmw_events.specs.declared.ix.Ix.{Ix}
-use Rattle.tmw_defs.specs.Opaque.{State}
 use Rattle.tmw_part.specs.Origins.{origin_of, stays}
 use Rattle.tmw_part.specs.declared.origin.Fate.{Fate}
-use Rattle.tmw_part.specs.declared.origin.Fate.TheVariants.{GivenUp, GivingUp, Unasked, Overwritten, Stays}
+use Rattle.tmw_part.specs.declared.origin.Fate.TheVariants.{GivenUp, GivingUp, Unasked, Stays}
+use Rattle.tmw_part.specs.declared.reason_step.ReasonStep.TheVariants.{Overwritten, RealTime, From, TooLate, ReadFirst, ChangedFirst, Through}
 use Rattle.tmw_part.specs.declared.origin.Origin.{Origin}
 use Rattle.tmw_part.specs.declared.reason_case.Derivation.{Derivation}
-use Rattle.tmw_part.specs.declared.reason_case.Reason.{Reason}
 use Rattle.tmw_part.specs.declared.reason_case.ReasonCase.{ReasonCase}
 use Rattle.tmw_part.specs.declared.reason_step.Contradiction.{Contradiction}
 use Rattle.tmw_part.specs.declared.reason_step.Contradiction.TheVariants.{Cycle, NoSource, Unlike}
-use Rattle.tmw_part.specs.declared.reason_step.ValueSource.{ValueSource}
 use Rattle.tmw_part.specs.declared.reason_step.ReasonStep.{ReasonStep}
-use Rattle.tmw_part.specs.declared.reason_step.ReasonStep.TheVariants.{RealTime, From, TooLate, Overwritten, ReadFirst, ChangedFirst, Through}
 use Rattle.tmw_show.specs.declared.frame.Frame.{Frame}
 use Rattle.tmw_show.specs.declared.frame.Frame.TheVariants.{Line, Clause}
 use Rattle.tmw_show.specs.SentenceParts.{before_text, left_text, read_text, writer_text}

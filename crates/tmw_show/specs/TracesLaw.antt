@@ -1,26 +1,14 @@
 -- The law of the traces that `show --trace` writes: `judge` reads each of them as a trace. What it may say of traces of the whole window
 -- tells whether the run is violated; those of a part are not final-state opaque, or not final-state strict.
-use Rattle.std.specs.Prelude.{◌≡◌, ◌≢◌, ◌↔◌, ◌≤◌, ℕ, List, [], ◌∷◌, length, map, All, IsTrue}
-use Rattle.std.specs.List.{flat_map}
-use Rattle.tmw_events.specs.declared.event.Event.{Event}
-use Rattle.tmw_events.specs.declared.registers.Registers.{Registers}
-use Rattle.tmw_trace.specs.Text.{trace_text, AreEvents}
-use Rattle.tmw_trace.specs.declared.header.Header.{Header}
+use Rattle.tmw_show.specs.Shared.{All, AreEvents, Criterion, Event, Header, IsTrue, List, Registers, ShowOptions, Traces, Verdict, Violated, [], flat_map, length, map, members, rules_for, trace_text, ℕ, ◌↔◌, ◌∷◌, ◌≡◌, ◌≢◌, ◌≤◌}
 use Rattle.tmw_trace.specs.declared.version.Version.TheVariants.{Two}
-use Rattle.tmw_defs.specs.declared.criterion.Criterion.{Criterion}
-use Rattle.tmw_defs.specs.declared.verdict.Verdict.{Verdict}
-use Rattle.tmw_defs.specs.declared.verdict.Verdict.TheVariants.{Violated}
 use Rattle.tmw_defs.specs.Criteria.{IsFinalBy}
 use Rattle.tmw_defs.specs.History.{is_well_formed}
 use Rattle.tmw_defs.specs.Verdict.{Rules, IsViolated, IsVerdict}
-use Rattle.tmw_cuts.specs.Members.{members}
 use Rattle.tmw_monitor.specs.declared.bounds.Bounds.{Bounds}
-use Rattle.tmw_monitor.specs.Fits.{rules_for}
 use Rattle.tmw_window.specs.WindowLaw.{at_end}
-use Rattle.tmw_options.specs.declared.form.Form.TheVariants.{Traces}
 use Rattle.tmw_show.specs.declared.needed_events.NeededEvents.{NeededEvents}
 use Rattle.tmw_show.specs.declared.needed_events.NeededEvents.TheVariants.{Part}
-use Rattle.tmw_options.specs.declared.show_options.ShowOptions.{ShowOptions}
 use Rattle.tmw_show.specs.declared.shown_trace.ShownTrace.{ShownTrace}
 use Rattle.tmw_show.specs.RunShow.{IsShownOf, shown_events, shown_text}
 

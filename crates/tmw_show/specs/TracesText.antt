@@ -1,12 +1,5 @@
 -- The texts of the traces of a window: one for each state from which it begins.
-use Rattle.std.specs.Prelude.{ℕ, ◌+◌, List, ◌∷◌, ◌++◌, take, codes}
-use Rattle.std.specs.List.{flat_map}
-use Rattle.tmw_events.specs.Text.{event_text}
-use Rattle.tmw_events.specs.declared.event.Event.{Event}
-use Rattle.tmw_events.specs.declared.registers.Registers.{Registers}
-use Rattle.tmw_lines.specs.LineFeeds.{line}
-use Rattle.tmw_trace.specs.Text.{values_text}
-use Rattle.tmw_defs.specs.Opaque.{State}
+use Rattle.tmw_show.specs.Shared.{Event, List, Registers, State, codes, event_text, flat_map, line, take, values_text, ℕ, ◌++◌, ◌+◌, ◌∷◌}
 
 -- the header of a trace of so many registers that begins with this state, without its line feed
 abbrev pub start_text : Registers → State → List ℕ

@@ -1,7 +1,5 @@
 -- The names of a window's transactions: T1, T2 .. in the order of their first events.
-use Rattle.std.specs.Prelude.{ℕ, List, ◌++◌, ◌+◌, ◌==◌, find, codes, Option, Some, None, option_map}
-use Rattle.std.specs.Fmt.{decimal}
-use Rattle.tmw_part.specs.declared.name_in_window.Name.{Name}
+use Rattle.tmw_show.specs.Shared.{List, Name, None, Option, Some, codes, decimal, find, option_map, ℕ, ◌++◌, ◌+◌, ◌==◌}
 
 -- of the transaction at this place among those of the window, from 0
 abbrev pub name_text : ℕ → List ℕ

@@ -1,9 +1,5 @@
 -- Short names for long values: v1, v2 .. in the order in which they appear among the events that are shown.
-use Rattle.std.specs.Prelude.{ℕ, ◌+◌, ◌==◌, ◌||◌, Bool, nat_lt, List, [], ◌∷◌, ◌++◌, codes, position, Option, Some, None, if◌then◌else◌}
-use Rattle.std.specs.List.{list_any}
-use Rattle.std.specs.Fmt.{decimal}
-use Rattle.tmw_events.specs.Text.{kind_text}
-use Rattle.tmw_events.specs.declared.event.Event.{Event}
+use Rattle.tmw_show.specs.Shared.{Bool, Event, List, None, Option, Some, [], codes, decimal, if◌then◌else◌, kind_text, list_any, nat_lt, position, ℕ, ◌++◌, ◌+◌, ◌==◌, ◌||◌, ◌∷◌}
 use Rattle.tmw_events.specs.declared.event.Kind.{Kind}
 use Rattle.tmw_events.specs.declared.event.Kind.TheVariants.{N, V, W}
 

@@ -1,10 +1,7 @@
 -- The law of `show --why`: of each violated run whose last window is not too long a part is shown of which nothing more can be taken out.
-use Rattle.std.specs.Prelude.{◌≡◌, ◌≤◌, ℕ, List, true, length}
-use Rattle.tmw_cuts.specs.Members.{members}
-use Rattle.tmw_part.specs.FindPart.{IsMinimalPart}
+use Rattle.tmw_show.specs.Shared.{IsMinimalPart, List, ShowOptions, length, members, true, ℕ, ◌≡◌, ◌≤◌}
 use Rattle.tmw_show.specs.NeededEvents.{IsViolation, marks_of}
 use Rattle.tmw_show.specs.RunShow.{IsShownOf}
-use Rattle.tmw_options.specs.declared.show_options.ShowOptions.{ShowOptions}
 use Rattle.tmw_show.specs.declared.shown_trace.ShownTrace.{ShownTrace}
 
 -- Where it is asked why a run is violated, and its last window has at most 1,000 events, those that are shown of them are a part that is

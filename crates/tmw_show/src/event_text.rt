@@ -1,6 +1,4 @@
-ghost use Rattle.std.specs.Prelude.{◌≡◌, ◌++◌, IfOk, OnOk};
-ghost use Rattle.tmw_events.specs.Text.{event_text, kind_text};
-ghost use Rattle.tmw_streams.specs.Memory.{held_bytes};
+ghost use Rattle.tmw_show.specs.Shared.{IfOk, OnOk, event_text, held_bytes, kind_text, ◌++◌, ◌≡◌};
 
 use std::alloc::{AllocError, Global};
 use tmw_events::{Event, put_event};

@@ -1,5 +1,4 @@
-ghost use Rattle.std.specs.Prelude.{◌≡◌, ◌++◌, ℕ, List, OnOk};
-ghost use Rattle.std.specs.List.{flat_map};
+ghost use Rattle.tmw_show.specs.Shared.{List, OnOk, flat_map, ℕ, ◌++◌, ◌≡◌};
 ghost use Rattle.tmw_show.specs.Page.{list_json};
 
 use std::alloc::AllocError;

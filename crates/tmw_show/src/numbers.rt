@@ -1,5 +1,4 @@
-ghost use Rattle.std.specs.Prelude.{◌≡◌, ◌∷◌, ◌++◌, OnOk, decimal};
-ghost use Rattle.tmw_trace.specs.Text.{values_text};
+ghost use Rattle.tmw_show.specs.Shared.{OnOk, decimal, values_text, ◌++◌, ◌∷◌, ◌≡◌};
 ghost use Rattle.tmw_show.specs.Drawing.{blanks};
 
 use crate::item_text::{ItemText, push_each};

@@ -1,8 +1,5 @@
-ghost use Rattle.std.specs.Prelude.{◌≡◌, ◌⊎◌};
-ghost use Rattle.tmw_report.specs.Lines.{fault_line};
+ghost use Rattle.tmw_show.specs.Shared.{Memory, Remarks, fault_line, ◌≡◌, ◌⊎◌};
 ghost use Rattle.tmw_report.specs.SendText.{IsPut};
-ghost use Rattle.tmw_report.specs.Remark.{Remarks};
-ghost use Rattle.tmw_report.specs.declared.fault.Fault.TheVariants.{Memory};
 ghost use Rattle.tmw_show.specs.RunShow.{remark_by, remark_of, shown_status, shown_text};
 
 use crate::form_text::shown_text;

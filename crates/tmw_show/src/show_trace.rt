@@ -1,9 +1,6 @@
-ghost use Rattle.std.specs.Prelude.{◌≡◌, ℕ, IfErr, IfOk, List};
-ghost use Rattle.tmw_report.specs.declared.fault.Fault.TheVariants.{Memory};
+ghost use Rattle.tmw_show.specs.Shared.{IfErr, IfOk, List, Memory, RemarksFault, failures_after_answer, ℕ, ◌≡◌};
 ghost use Rattle.tmw_show.specs.NeededEvents.{IsShownFor};
 ghost use Rattle.tmw_streams.specs.Transfers.{Tells};
-ghost use Rattle.tmw_report.specs.CommandRun.{failures_after_answer};
-ghost use Rattle.tmw_report.specs.Quote.{RemarksFault};
 ghost use Rattle.tmw_show.specs.RunShow.{AnswersShow};
 
 use crate::shown_trace::ShownTrace;

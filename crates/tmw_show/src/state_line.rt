@@ -1,4 +1,4 @@
-ghost use Rattle.tmw_lines.specs.LineFeeds.{line};
+ghost use Rattle.tmw_show.specs.Shared.{line};
 ghost use Rattle.tmw_show.specs.Drawing.{state_text};
 
 use crate::item_text::ItemText;

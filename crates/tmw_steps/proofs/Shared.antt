@@ -1,7 +1,6 @@
 -- What the proofs of this crate take from the libraries, from the crates below and from its specs.
-pub use Rattle.std.proofs.Common.{Err, IfNone, List, None, Ok, Option, Result, Some, [], ap, append-nil, arith, codes, drop, get_or, inl, inr, length, length-drop, refl, subst, sym, ℕ, ◌++◌, ◌∙◌, ◌∷◌, ◌≡◌, ◌≢◌}
+pub use Rattle.std.proofs.Common.{Err, IfNone, List, None, Ok, Option, Result, Some, [], ap, append-nil, arith, codes, drop, get_or, inl, inr, length, length-drop, refl, rules, subst, sym, ℕ, ◌++◌, ◌∙◌, ◌∷◌, ◌≡◌, ◌≢◌}
 pub use Rattle.std.proofs.lemmas.List.{drop_all, take_rest}
-pub use Rattle.std.specs.Fmt.{decimal}
 pub use Rattle.tmw_events.specs.Text.{FitsKind, digit, event_text, kind_text}
 pub use Rattle.tmw_ring_defs.specs.declared.ring_step.Step.{Step}
 pub use Rattle.tmw_streams.proofs.Puts.{Puts-front, Puts-more}

@@ -1,6 +1,5 @@
 -- The three numbers of a size, one after the other, and when a text is the text of no size.
-use Rattle.std.proofs.Common.{rules}
-use Rattle.tmw_steps.proofs.Shared.{FitsSize, List, SizeLine, [], ap, arith, drop, drop_all, length, length-drop, size_numbers, ℕ, ◌∷◌, ◌≡◌, ◌≢◌}
+use Rattle.tmw_steps.proofs.Shared.{FitsSize, List, SizeLine, [], ap, arith, drop, drop_all, length, length-drop, rules, size_numbers, ℕ, ◌∷◌, ◌≡◌, ◌≢◌}
 use Rattle.tmw_trace.specs.Text.{values_text}
 use Rattle.tmw_trace.specs.FirstValue.{IsFirstValue, IsNoFirstValue}
 use Rattle.tmw_trace.specs.ValueTextInjectivity.{next-values}

@@ -3,5 +3,6 @@ pub mod Laws
 pub mod Lengths
 pub mod ReplyText
 pub mod RunSteps
+mod Shared
 pub mod StepTextInjectivity
 pub mod Text

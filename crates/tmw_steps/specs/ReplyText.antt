@@ -1,11 +1,6 @@
 -- The texts of the replies to a ring's steps. Numbers are decimal, without sign and without leading zeros.
-use Rattle.std.specs.Prelude.{ℕ, List, ◌++◌, codes}
-use Rattle.std.specs.List.{flat_map}
-use Rattle.std.specs.Fmt.{decimal}
-use Rattle.tmw_events.specs.Text.{event_text}
-use Rattle.tmw_lines.specs.LineFeeds.{line}
+use Rattle.tmw_steps.specs.Shared.{Cleared, Filled, Full, List, NotNow, NotReady, Place, Published, Ready, Saw, Spent, Stopped, Taken, Word, codes, decimal, event_text, flat_map, line, ℕ, ◌++◌}
 use Rattle.tmw_ring_defs.specs.declared.ring_step.Reply.{Reply}
-use Rattle.tmw_ring_defs.specs.declared.ring_step.Reply.TheVariants.{Saw, Cleared, Full, Spent, Place, Filled, Published, Ready, NotReady, Word, Taken, Stopped, NotNow}
 
 -- how a step is answered, in words, with its numbers or its event after one space each
 abbrev pub reply_text : Reply → List ℕ

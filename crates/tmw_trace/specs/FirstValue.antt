@@ -1,7 +1,5 @@
 -- The values in a header, each after one space.
-use Rattle.std.specs.Prelude.{◌≡◌, ℕ, ◌<◌, ◌≤◌, ◌^◌, true, List, ◌∷◌, ◌++◌, length, take, drop}
-use Rattle.std.specs.Fmt.{decimal}
-use Rattle.tmw_lines.specs.FreeParts.{is_next}
+use Rattle.tmw_trace.specs.Shared.{List, decimal, drop, is_next, length, take, true, ℕ, ◌++◌, ◌<◌, ◌^◌, ◌∷◌, ◌≡◌, ◌≤◌}
 use Rattle.tmw_trace.specs.Text.{version_digit, initial_text}
 use Rattle.tmw_trace.specs.declared.header.Header.{Header}
 

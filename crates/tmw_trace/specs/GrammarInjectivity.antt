@@ -1,23 +1,14 @@
 -- The text of a header names it, and so does that of an event; no such text has a line feed.
-use Rattle.std.proofs.Common.{◌≡◌, ℕ, ◌<◌, ◌≤◌, ◌^◌, ◌==◌, true, not, List, [], ◌∷◌, ◌++◌, length, take, drop, get_or, refl, sym, ap, subst, ◌∙◌, length-drop, take-append-drop, arith}
-use Rattle.std.specs.List.{AllByRecursion}
+use Rattle.tmw_trace.specs.Shared.{All-take, AllByRecursion, Event, FitsKind, IsFree, IsNaming, List, Registers, [], and_from, and_parts, ap, arith, drop, eqb-true, event_text, get_or, length, length-drop, not, recursion_from_All, refl, same_ix, subst, sym, take, take-append-drop, true, ℕ, ◌++◌, ◌<◌, ◌==◌, ◌^◌, ◌∙◌, ◌∷◌, ◌≡◌, ◌≤◌}
 use Rattle.std.proofs.Math.Bool.{Bool-set}
 use Rattle.std.proofs.Math.Bridge.{le_prop}
-use Rattle.std.proofs.lemmas.Bool.{and_parts, and_from, eqb-true}
-use Rattle.std.proofs.lemmas.List.Elements.{All-take, recursion_from_All}
-use Rattle.tmw_lines.specs.FreeParts.{IsFree}
 use Rattle.tmw_trace.specs.Version.{are_zeros, is_start}
-use Rattle.tmw_events.specs.Text.{event_text, FitsKind}
 use Rattle.tmw_trace.specs.Text.{version_digit, initial_text, header_text, trace_grammar, FitsHeader}
-use Rattle.tmw_events.specs.declared.event.Event.{Event}
 use Rattle.tmw_trace.specs.declared.header.Header.{Header}
-use Rattle.tmw_events.specs.declared.registers.Registers.{Registers}
 use Rattle.tmw_trace.specs.declared.version.Version.{Version}
 use Rattle.tmw_trace.specs.declared.version.Version.TheVariants.{One, Two}
-use Rattle.tmw_lines.specs.Grammar.{IsNaming}
 use Rattle.tmw_trace.specs.KindTextInjectivity.{no_feed, kind_text-injective, free-kind_text}
 use Rattle.tmw_trace.specs.ValueTextInjectivity.{free-values_text, values_text-injective}
-use Rattle.tmw_events.proofs.Same.{same_ix}
 
 -- a number from 1 to 8 is one count of registers
 same_registers : (a b : Registers) → a.number ≡ b.number → a ≡ b

@@ -1,14 +1,6 @@
 -- A text names its kind: two kinds with one text are one kind, and no kind's text has a line feed.
-use Rattle.std.proofs.Common.{◌≡◌, ℕ, ◌+◌, ◌==◌, true, false, not, drop, get_or, refl, ap, ◌∙◌, arith}
-use Rattle.std.proofs.lemmas.Bool.{and_from}
+use Rattle.tmw_trace.specs.Shared.{A, C, FitsKind, IsFree, K, Kind, N, R, T, V, W, X, and_from, ap, arith, decimal_injective, drop, false, free-decimal, get_or, kind_text, not, refl, same_ix, true, ℕ, ◌+◌, ◌==◌, ◌∙◌, ◌≡◌}
 use Rattle.std.proofs.lemmas.Bool.Decides.{nat_tests}
-use Rattle.std.proofs.lemmas.Fmt.{decimal_injective}
-use Rattle.tmw_lines.specs.FreeParts.{IsFree}
-use Rattle.tmw_events.specs.Text.{kind_text, FitsKind}
-use Rattle.tmw_events.specs.declared.event.Kind.{Kind}
-use Rattle.tmw_events.specs.declared.event.Kind.TheVariants.{R, V, W, K, T, C, X, A, N}
-use Rattle.tmw_lines.proofs.Splits.{free-decimal}
-use Rattle.tmw_events.proofs.Same.{same_ix}
 
 pub kind_text-injective : (k m : Kind) → FitsKind k → FitsKind m → kind_text k ≡ kind_text m → k ≡ m
 kind_text-injective (R r) (R s) f g is = ap R (same_ix r s (omega (arith, ap (λ xs. get_or xs 2 0) is)))

@@ -1,15 +1,7 @@
 -- The longest texts of an event and of a header, and that longer ones are no text of either.
-use Rattle.std.proofs.Common.{ℕ, ◌*◌, ◌<◌, ◌≤◌, ◌^◌, List, [], ◌∷◌, length, take, ap, length-append, arith}
-use Rattle.std.specs.Fmt.{decimal}
-use Rattle.std.specs.List.{All, AllByRecursion}
-use Rattle.std.proofs.lemmas.Fmt.{length-decimal-le}
+use Rattle.tmw_trace.specs.Shared.{A, All, All-take, AllByRecursion, C, FitsKind, IsNoHeader, IsNoItem, K, Kind, List, N, R, T, V, W, X, [], ap, arith, decimal, kind_text, length, length-append, length-decimal-le, recursion_from_All, take, ℕ, ◌*◌, ◌<◌, ◌^◌, ◌∷◌, ◌≤◌}
 use Rattle.std.proofs.lemmas.List.{length-take-le}
-use Rattle.std.proofs.lemmas.List.Elements.{All-take, recursion_from_All}
-use Rattle.tmw_events.specs.Text.{kind_text, FitsKind}
-use Rattle.tmw_lines.specs.Grammar.{IsNoHeader, IsNoItem}
 use Rattle.tmw_trace.specs.Text.{values_text, initial_text, trace_grammar}
-use Rattle.tmw_events.specs.declared.event.Kind.{Kind}
-use Rattle.tmw_events.specs.declared.event.Kind.TheVariants.{R, V, W, K, T, C, X, A, N}
 use Rattle.tmw_trace.specs.declared.version.Version.{Version}
 use Rattle.tmw_trace.specs.declared.version.Version.TheVariants.{One, Two}
 

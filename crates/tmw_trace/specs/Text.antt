@@ -1,10 +1,5 @@
 -- The texts of headers and traces. Numbers are decimal, without sign and without leading zeros.
-use Rattle.std.specs.Prelude.{◌≡◌, ℕ, ◌+◌, ◌<◌, ◌^◌, true, List, [], ◌∷◌, ◌++◌, length, take, codes, All}
-use Rattle.std.specs.List.{flat_map}
-use Rattle.std.specs.Fmt.{decimal}
-use Rattle.tmw_events.specs.Text.{event_text, FitsKind}
-use Rattle.tmw_events.specs.declared.event.Event.{Event}
-use Rattle.tmw_lines.specs.Grammar.{Grammar, lines_text, AreLines}
+use Rattle.tmw_trace.specs.Shared.{All, AreLines, Event, FitsKind, Grammar, List, [], codes, decimal, event_text, flat_map, length, lines_text, take, true, ℕ, ◌++◌, ◌+◌, ◌<◌, ◌^◌, ◌∷◌, ◌≡◌}
 use Rattle.tmw_trace.specs.Version.{is_spoken}
 use Rattle.tmw_trace.specs.declared.header.Header.{Header}
 use Rattle.tmw_trace.specs.declared.version.Version.{Version}

@@ -1,11 +1,6 @@
 -- A text names its values: two lists of values with one text are one list, and no such text has a line feed.
-use Rattle.std.proofs.Common.{◌≡◌, ℕ, ◌<◌, ◌^◌, true, List, [], ◌∷◌, length, drop, refl, ap, ◌∙◌, arith}
-use Rattle.std.specs.Fmt.{decimal}
-use Rattle.std.specs.List.{AllByRecursion}
-use Rattle.std.proofs.lemmas.Fmt.{decimal_injective}
-use Rattle.tmw_lines.specs.FreeParts.{IsFree, is_next}
+use Rattle.tmw_trace.specs.Shared.{AllByRecursion, IsFree, List, [], ap, arith, decimal, decimal_injective, drop, free-append, free-decimal, is_next, length, refl, split_free, true, ℕ, ◌<◌, ◌^◌, ◌∙◌, ◌∷◌, ◌≡◌}
 use Rattle.tmw_trace.specs.Text.{values_text}
-use Rattle.tmw_lines.proofs.Splits.{free-append, free-decimal, split_free}
 
 -- behind a value comes a space or nothing
 pub next-values : (values : List ℕ) → is_next 32 (values_text values) ≡ true

@@ -1,9 +1,5 @@
 -- What a trace's version lets its header and its events say.
-use Rattle.std.specs.Prelude.{◌==◌, ℕ, Bool, true, false, cond, List, drop}
-use Rattle.std.specs.List.{list_all}
-use Rattle.tmw_events.specs.declared.event.Event.{Event}
-use Rattle.tmw_events.specs.declared.event.Kind.{Kind}
-use Rattle.tmw_events.specs.declared.event.Kind.TheVariants.{N}
+use Rattle.tmw_trace.specs.Shared.{Bool, Event, Kind, List, N, cond, drop, false, list_all, true, ℕ, ◌==◌}
 use Rattle.tmw_trace.specs.declared.version.Version.{Version}
 use Rattle.tmw_trace.specs.declared.version.Version.TheVariants.{One, Two}
 

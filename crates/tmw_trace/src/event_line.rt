@@ -1,6 +1,4 @@
-ghost use Rattle.std.specs.Prelude.{◌≡◌, IfSome, IfNone};
-ghost use Rattle.tmw_events.specs.Text.{event_text};
-ghost use Rattle.tmw_lines.specs.Grammar.{IsNoItem};
+ghost use Rattle.tmw_trace.specs.Shared.{IfNone, IfSome, IsNoItem, event_text, ◌≡◌};
 ghost use Rattle.tmw_trace.specs.Version.{is_spoken};
 ghost use Rattle.tmw_trace.specs.Text.{trace_grammar, FitsEvent};
 

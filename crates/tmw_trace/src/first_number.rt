@@ -1,6 +1,4 @@
-ghost use Rattle.std.specs.Prelude.{◌≡◌, ◌<◌, ◌≤◌, ◌++◌, length, drop, get_or, IfSome};
-ghost use Rattle.std.specs.Fmt.{decimal};
-ghost use Rattle.tmw_lines.specs.LineFeeds.{line};
+ghost use Rattle.tmw_trace.specs.Shared.{IfSome, decimal, drop, get_or, length, line, ◌++◌, ◌<◌, ◌≡◌, ◌≤◌};
 
 /// Reads the number that these bytes begin with, up to a line feed, and returns it and the length of both. A number
 /// of twenty digits, which may be too large for 64 bits, is left to `number_of`.

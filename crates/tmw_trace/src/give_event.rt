@@ -1,7 +1,5 @@
-ghost use Rattle.std.specs.Prelude.{◌≡◌, ℕ, ◌+◌, ◌<◌, ◌≤◌, ◌^◌, ◌∷◌, ◌++◌, length, drop};
-ghost use Rattle.tmw_events.specs.Text.{digit, kind_text, FitsKind};
+ghost use Rattle.tmw_trace.specs.Shared.{FitsKind, digit, drop, kind_text, length, line, ℕ, ◌++◌, ◌+◌, ◌<◌, ◌^◌, ◌∷◌, ◌≡◌, ◌≤◌};
 ghost use Rattle.tmw_lines.specs.GiveResult.{IsGiven};
-ghost use Rattle.tmw_lines.specs.LineFeeds.{line};
 ghost use Rattle.tmw_trace.specs.Text.{trace_grammar};
 
 use crate::event_line::speaks;

@@ -1,9 +1,7 @@
-ghost use Rattle.std.specs.Prelude.{◌≡◌, ℕ, ◌+◌, ◌<◌, ◌^◌, true, List, length, take, drop, All, IfSome, IfNone};
+ghost use Rattle.tmw_trace.specs.Shared.{All, IfNone, IfSome, IsNoHeader, List, Registers, drop, length, take, true, ℕ, ◌+◌, ◌<◌, ◌^◌, ◌≡◌};
 ghost use Rattle.tmw_trace.specs.Version.{are_zeros};
-ghost use Rattle.tmw_lines.specs.Grammar.{IsNoHeader};
 ghost use Rattle.tmw_trace.specs.Text.{header_text, numbers_text, values_text, trace_grammar, FitsHeader};
 ghost use Rattle.tmw_trace.specs.declared.header.Header.{Header};
-ghost use Rattle.tmw_events.specs.declared.registers.Registers.{Registers};
 ghost use Rattle.tmw_trace.specs.FirstValue.{HasStart, IsFirstValue, IsNoFirstValue};
 
 use crate::header::Header;

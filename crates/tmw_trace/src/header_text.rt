@@ -1,6 +1,4 @@
-ghost use Rattle.std.specs.Prelude.{◌≡◌};
-ghost use Rattle.tmw_lines.specs.LineFeeds.{line};
-ghost use Rattle.tmw_streams.specs.Transfers.{Puts};
+ghost use Rattle.tmw_trace.specs.Shared.{Puts, line, ◌≡◌};
 ghost use Rattle.tmw_trace.specs.Text.{header_text, initial_text, numbers_text, values_text, version_digit};
 
 use crate::header::Header;

@@ -1,4 +1,4 @@
-ghost use Rattle.tmw_streams.specs.Transfers.{Puts};
+ghost use Rattle.tmw_trace.specs.Shared.{Puts};
 ghost use Rattle.tmw_trace.specs.Text.{trace_text};
 
 use crate::header::Header;

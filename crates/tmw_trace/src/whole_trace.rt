@@ -1,6 +1,5 @@
-ghost use Rattle.std.specs.Prelude.{◌≡◌, ℕ, List, IfOk, IfErr, OnOk};
+ghost use Rattle.tmw_trace.specs.Shared.{IfErr, IfOk, List, OnOk, Tells, ℕ, ◌≡◌};
 ghost use Rattle.tmw_lines.specs.TextFault.{HasTextFault, reading_failures};
-ghost use Rattle.tmw_streams.specs.Transfers.{Tells};
 ghost use Rattle.tmw_trace.specs.Text.{trace_grammar, trace_text, AreEvents};
 
 use crate::trace::Trace;

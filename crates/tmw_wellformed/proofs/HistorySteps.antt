@@ -1,7 +1,6 @@
 -- What one event more makes of a history's transactions: whether their texts are texts still, which are live, and how many.
-use Rattle.tmw_wellformed.proofs.Shared.{Bool, Event, IsTrue, Kind, List, None, Option, Some, Txn, [], add_event, and_parts, arith, begun, count_by, ended_rest, ends, false, find, if◌then◌else◌, is_ended, is_some, is_text, length, list_all, live_of, longer, not, refl, sum_by-cons, true, ℕ, ◌++◌, ◌+◌, ◌==◌, ◌∷◌, ◌≡◌}
+use Rattle.tmw_wellformed.proofs.Shared.{Bool, Event, IsTrue, Kind, List, None, Option, Some, Txn, [], add_event, and_parts, arith, begun, count_by, ended_rest, ends, false, find, if◌then◌else◌, is_ended, is_some, is_text, length, list_all, live_of, longer, not, only_one, refl, sum_by-cons, true, ℕ, ◌++◌, ◌+◌, ◌==◌, ◌∷◌, ◌≡◌}
 use Rattle.std.proofs.Math.Bool.{and-true}
-use Rattle.tmw_defs.proofs.OneMore.{only_one}
 use Rattle.tmw_defs.specs.ThreadTransactions.{of_thread, ended_but_last}
 use Rattle.tmw_wellformed.proofs.TextSteps.{is_ended-push}
 

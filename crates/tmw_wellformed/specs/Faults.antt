@@ -1,10 +1,5 @@
 -- What can be wrong with the next event of a well-formed history.
-use Rattle.std.specs.Prelude.{◌&&◌, ℕ, Bool, true, false, not, nat_lt, List, [], ◌∷◌, ◌++◌, Option, Some, None, is_some, is_none, IsTrue, IsFalse}
-use Rattle.std.specs.List.{list_any}
-use Rattle.tmw_events.specs.declared.event.Event.{Event}
-use Rattle.tmw_events.specs.declared.event.Kind.{Kind}
-use Rattle.tmw_events.specs.declared.event.Kind.TheVariants.{R, W, T, X, N}
-use Rattle.tmw_defs.specs.History.{answers, is_well_formed}
+use Rattle.tmw_wellformed.specs.Shared.{Bool, Event, IsFalse, IsTrue, Kind, List, N, None, Option, R, Some, T, W, X, [], answers, false, is_none, is_some, is_well_formed, list_any, nat_lt, not, true, ℕ, ◌&&◌, ◌++◌, ◌∷◌}
 use Rattle.tmw_wellformed.specs.declared.malformed.Malformed.{Malformed}
 use Rattle.tmw_wellformed.specs.declared.malformed.Malformed.TheVariants.{Register, Busy, Idle, Mismatch}
 use Rattle.tmw_wellformed.specs.PendingCalls.{pending_call}

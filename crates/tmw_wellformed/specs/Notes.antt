@@ -1,9 +1,5 @@
 -- What an event is to its transaction: whether it begins it, and how it ends it.
-use Rattle.std.specs.Prelude.{◌≡◌, ◌+◌, ◌↔◌, List, [], ◌∷◌, ◌++◌, length, Option, Some, None, IsTrue}
-use Rattle.tmw_events.specs.declared.event.Event.{Event}
-use Rattle.tmw_events.specs.declared.event.Kind.{Kind}
-use Rattle.tmw_events.specs.declared.event.Kind.TheVariants.{C, A}
-use Rattle.tmw_defs.specs.History.{transactions}
+use Rattle.tmw_wellformed.specs.Shared.{A, C, Event, IsTrue, Kind, List, None, Option, Some, [], length, transactions, ◌++◌, ◌+◌, ◌↔◌, ◌∷◌, ◌≡◌}
 use Rattle.tmw_wellformed.specs.declared.note.End.{End}
 use Rattle.tmw_wellformed.specs.declared.note.End.TheVariants.{Commit, Abort}
 use Rattle.tmw_wellformed.specs.declared.note.Note.{Note}

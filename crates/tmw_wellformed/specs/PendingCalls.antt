@@ -1,9 +1,5 @@
 -- A thread's live transaction and its pending call, in a history.
-use Rattle.std.specs.Prelude.{◌==◌, ◌&&◌, ℕ, not, List, [], ◌∷◌, count_by, Option, Some, None, option_and_then}
-use Rattle.std.specs.List.{find}
-use Rattle.tmw_events.specs.declared.event.Event.{Event}
-use Rattle.tmw_events.specs.declared.event.Kind.{Kind}
-use Rattle.tmw_defs.specs.History.{Txn, is_ended, transactions}
+use Rattle.tmw_wellformed.specs.Shared.{Event, Kind, List, None, Option, Some, Txn, [], count_by, find, is_ended, not, option_and_then, transactions, ℕ, ◌&&◌, ◌==◌, ◌∷◌}
 
 -- The call of a text that has no answer: calls and answers stand in turn, so it is the last event where that is a call.
 abbrev pub call_of : List Kind → Option Kind

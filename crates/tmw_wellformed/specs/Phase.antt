@@ -1,8 +1,5 @@
 -- The phases of a thread: which one a live transaction's text is in, and which event leads from one to which.
-use Rattle.std.specs.Prelude.{Bool, true, false, Option, Some, None, Result, Ok, Err, if◌then◌else◌}
-use Rattle.tmw_events.specs.declared.event.Kind.{Kind}
-use Rattle.tmw_events.specs.declared.event.Kind.TheVariants.{R, V, W, K, T, C, X, A, N}
-use Rattle.tmw_defs.specs.History.{Txn, ends}
+use Rattle.tmw_wellformed.specs.Shared.{A, Bool, C, Err, K, Kind, N, None, Ok, Option, R, Result, Some, T, Txn, V, W, X, ends, false, if◌then◌else◌, true}
 use Rattle.tmw_wellformed.specs.declared.malformed.Malformed.{Malformed}
 use Rattle.tmw_wellformed.specs.declared.malformed.Malformed.TheVariants.{Busy, Idle, Mismatch}
 use Rattle.tmw_wellformed.specs.declared.phase.Phase.{Phase}

@@ -1,7 +1,5 @@
 -- Which history a tracker stands for.
-use Rattle.std.specs.Prelude.{◌≡◌, ◌<◌, ℕ, List, slice_get, Some, IsTrue}
-use Rattle.tmw_events.specs.declared.event.Event.{Event}
-use Rattle.tmw_defs.specs.History.{transactions, is_well_formed}
+use Rattle.tmw_wellformed.specs.Shared.{Event, IsTrue, List, Some, is_well_formed, slice_get, transactions, ℕ, ◌<◌, ◌≡◌}
 use Rattle.tmw_wellformed.specs.declared.phases.Phases.{Phases}
 use Rattle.tmw_wellformed.specs.declared.tracker.Tracker.{Tracker}
 use Rattle.tmw_wellformed.specs.PendingCalls.{live_of, live_count}

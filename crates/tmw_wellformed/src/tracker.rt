@@ -1,6 +1,4 @@
-ghost use Rattle.std.specs.Prelude.{◌≡◌, ℕ, List, [], ◌∷◌, ◌++◌, ◌↔◌, IfOk, IfErr, OnErr, IsTrue, Some};
-ghost use Rattle.tmw_events.specs.declared.event.Event.{Event};
-ghost use Rattle.tmw_events.specs.declared.event.Kind.TheVariants.{X};
+ghost use Rattle.tmw_wellformed.specs.Shared.{Event, IfErr, IfOk, IsTrue, List, OnErr, Some, X, [], ℕ, ◌++◌, ◌↔◌, ◌∷◌, ◌≡◌};
 ghost use Rattle.tmw_defs.specs.Cuts.{is_cut};
 ghost use Rattle.tmw_wellformed.specs.PendingCalls.{live_count, pending_call};
 ghost use Rattle.tmw_wellformed.specs.Notes.{Notes};

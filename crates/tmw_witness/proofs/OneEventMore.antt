@@ -1,7 +1,8 @@
 -- What one event more makes of the views of a window's transactions: one of them turns, or one begins.
-use Rattle.tmw_witness.specs.Witness.{ExplainsWith}
+use Rattle.tmw_witness.proofs.Shared.{Ask, Begin, C, ExplainsWith, IsNext, List, PrecedesNone, Some, StandsFor, TurnsAt, View, Witness, [], and_parts, ap, append-nil, arith, asked_on, bit, bit_at, bit_within, completed_mask, count_of, ends_at, false, found-begun, found-moved, inl, inr, is_ended, is_over, left_out, length, length-views_of, live-next, moves, new_view, next_view, pow-suc, refl, same_place, shown_bit, shows-views_of, slice_get, slice_get_some, slice_get_within, subst, sym, transactions, true, views, views_of, ℕ, ◌++◌, ◌<◌, ◌^◌, ◌∙◌, ◌∷◌, ◌≡◌, ◌≤◌}
 use Rattle.tmw_witness.proofs.WitnessChanges.{left_out-kept, live-left_out}
-use Rattle.tmw_witness.proofs.Shared.{Ask, Begin, C, IsNext, List, PrecedesNone, Some, StandsFor, TurnsAt, View, Witness, [], and_parts, append-nil, ap, arith, asked_on, bit, bit_at, completed_mask, count_of, ends_at, false, found-begun, found-moved, found_lives, found_within, inl, inr, is_ended, is_over, left_out, length, live-next, moves, new_view, next_view, pow-suc, refl, same_place, shows-views_of, slice_get, slice_get_some, slice_get_within, subst, sym, transactions, true, views, views_of, views_of-push, ℕ, ◌++◌, ◌<◌, ◌^◌, ◌∙◌, ◌∷◌, ◌≡◌, ◌≤◌}
+use Rattle.tmw_cuts.proofs.TurnSteps.{found_lives, found_within}
+use Rattle.tmw_cuts.proofs.Pushes.{views_of-push}
 use Rattle.tmw_events.specs.declared.event.Kind.{Kind}
 use Rattle.tmw_events.specs.declared.event.Event.{Event}
 use Rattle.tmw_events.specs.declared.ix.Ix.{Ix}
@@ -10,9 +11,6 @@ use Rattle.tmw_cuts.specs.declared.window.Window.{Window}
 use Rattle.tmw_cuts.specs.Turns.{change, ops_of, place_of, views_after}
 use Rattle.tmw_cuts.proofs.Changes.{length-change, slice_get-change_here, slice_get-change_other}
 use Rattle.tmw_cuts.proofs.Masks.{bit-le}
-use Rattle.tmw_cuts.proofs.OneEventMore.{length-views_of}
-use Rattle.tmw_search.proofs.Bits.{bit_within}
-use Rattle.tmw_search.proofs.LayerSteps.{shown_bit}
 
 -- one that precedes another has completed
 completed-before : (events : List Event) (p : ℕ) (x z : View) → slice_get (views_of events) p ≡ Some x

@@ -1,9 +1,8 @@
 -- What each change of a kept witness makes of it.
-use Rattle.tmw_witness.proofs.Shared.{Bool, In, IsTrue, IsWitness, List, MayStand, PlacesThose, Some, State, TurnsAt, View, Witness, Witnesses, [], after_writes, arith, bit, bit_at, bit_at_above, bit_at_set_other, bit_at_set_same, bit_or, cases_lt, committed_of, div-lt_iff_lt-mul, false, get_or-set_other, get_or-set_same, inl, inr, length, length-append, may_hold, not-true, rank_of, reads_hold, refl, slice_get, slice_get_some, slice_get_within, slice_set, state_of, suc, sym, true, w8, zero, ℕ, ◌%◌, ◌*◌, ◌++◌, ◌+◌, ◌/◌, ◌<◌, ◌^◌, ◌∙◌, ◌∷◌, ◌≡◌, ◌≤◌, ◌⊎◌}
+use Rattle.tmw_witness.proofs.Shared.{Bool, In, IsTrue, IsWitness, List, MayCome, MayStand, PlacesThose, Some, State, TurnsAt, View, Witness, Witnesses, [], after_writes, arith, bit, bit_at, bit_at_above, bit_at_set_other, bit_at_set_same, bit_or, cases_lt, committed_of, div-lt_iff_lt-mul, false, get_or-set_other, get_or-set_same, inl, inr, length, length-append, may_hold, not-true, rank_of, reads_hold, refl, slice_get, slice_get_some, slice_get_within, slice_set, state_of, suc, sym, true, w8, zero, ℕ, ◌%◌, ◌*◌, ◌++◌, ◌+◌, ◌/◌, ◌<◌, ◌^◌, ◌∙◌, ◌∷◌, ◌≡◌, ◌≤◌, ◌⊎◌}
 use Rattle.std.proofs.lemmas.Nat.{pow_pos}
 use Rattle.tmw_defs.proofs.TextsProof.{slice_get_end}
 use Rattle.tmw_defs.specs.declared.status.Status.TheVariants.{Live}
-use Rattle.tmw_search.specs.Layers.{MayCome}
 use Rattle.tmw_witness.proofs.TurnsAt.{Goes, placed, witness-turned}
 
 -- the arrays have their lengths

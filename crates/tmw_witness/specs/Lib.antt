@@ -1,2 +1,3 @@
 pub mod EventAtPlace
+mod Shared
 pub mod Witness

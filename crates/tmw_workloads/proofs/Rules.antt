@@ -1,6 +1,5 @@
 -- The rules of a part, by those of its parts.
-use Rattle.std.proofs.Common.{arith}
-use Rattle.tmw_workloads.proofs.Shared.{All, AreScripts, Bool, FitsKind, IsOrder, IsScript, IsTransaction, IsTrue, Kind, List, and_from, and_parts, is_transaction, le-leb, length, list_all, lt-ltb, ltb-true, nat_lt, ℕ, ◌<◌, ◌≤◌}
+use Rattle.tmw_workloads.proofs.Shared.{All, AreScripts, Bool, FitsKind, IsOrder, IsScript, IsTransaction, IsTrue, Kind, List, and_from, and_parts, arith, le-leb, length, list_all, lt-ltb, ltb-true, nat_lt, ℕ, ◌<◌, ◌≤◌}
 use Rattle.std.proofs.lemmas.List.Sums.{AllPass-from_list_all, list_all-from_AllPass}
 use Rattle.tmw_workloads.specs.Workload.{is_short_script, is_short_transaction, is_workload}
 

@@ -1,5 +1,5 @@
 -- The calls of a transaction, by their texts and one by one.
-use Rattle.tmw_workloads.proofs.Shared.{All, All-head, All-tail, Data, FitsKind, IsNoPart, IsTransaction, Kind, List, [], ap, call_data, false, is_operation, is_request, is_transaction, list_all, map, refl, sym, transaction_data, ℕ, ◌&&◌, ◌++◌, ◌∙◌, ◌∷◌, ◌≡◌, arith}
+use Rattle.tmw_workloads.proofs.Shared.{All, All-head, All-tail, Data, FitsKind, IsNoPart, IsTransaction, Kind, List, [], ap, arith, call_data, false, is_operation, is_request, is_transaction, list_all, map, refl, sym, transaction_data, ℕ, ◌&&◌, ◌++◌, ◌∙◌, ◌∷◌, ◌≡◌}
 use Rattle.std.proofs.Math.Bool.{and-true}
 use Rattle.tmw_trace.specs.KindTextInjectivity.{kind_text-injective}
 use Rattle.tmw_workloads.proofs.Values.{array_same}

@@ -1,5 +1,5 @@
 -- What a value is, by what was read of it.
-use Rattle.tmw_workloads.proofs.Shared.{Data, Items, List, Some, [], array, boolean, items_of, null, number, object, refl, string, ◌∷◌, ◌≡◌, arith}
+use Rattle.tmw_workloads.proofs.Shared.{Data, Items, List, Some, [], arith, array, boolean, items_of, null, number, object, refl, string, ◌∷◌, ◌≡◌}
 use Rattle.serde_json.specs.Find.{as_array}
 
 pub array_from_as_array : (content : Data) (items : Items) → Some items ≡ as_array content → content ≡ array items

@@ -1,10 +1,6 @@
 -- The JSON value that a workload is written as, and the texts that a reader of workloads is given.
-use Rattle.std.specs.Prelude.{◌≡◌, ◌<◌, ◌≤◌, ℕ, List, IsTrue, IsUtf8, None, Some, All, codes, map}
-use Rattle.serde_json.specs.Data.{Data, array, member, no_members, number, object, string, unsigned}
+use Rattle.tmw_workloads.specs.Shared.{All, Data, FitsKind, IsTrue, IsUtf8, Kind, List, None, Some, array, codes, items_of, kind_text, map, member, no_members, number, object, string, unsigned, ℕ, ◌<◌, ◌≡◌, ◌≤◌}
 use Rattle.serde_json.specs.Read.{read}
-use Rattle.serde_json.specs.View.{items_of}
-use Rattle.tmw_events.specs.Text.{kind_text, FitsKind}
-use Rattle.tmw_events.specs.declared.event.Kind.{Kind}
 use Rattle.tmw_workloads.specs.Workload.{is_workload}
 
 -- An array of what each element is written as.

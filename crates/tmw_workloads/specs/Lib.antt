@@ -1,3 +1,4 @@
 pub mod Json
+mod Shared
 pub mod Workload
 pub mod WorkloadParts

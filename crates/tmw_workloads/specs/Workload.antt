@@ -1,8 +1,5 @@
 -- What a workload is.
-use Rattle.std.specs.Prelude.{ℕ, Bool, List, length, ◌&&◌, nat_lt, nat_le}
-use Rattle.std.specs.List.{list_all}
-use Rattle.tmw_events.specs.declared.event.Kind.{Kind}
-use Rattle.tmw_runs.specs.Scripts.{is_transaction}
+use Rattle.tmw_workloads.specs.Shared.{Bool, Kind, List, is_transaction, length, list_all, nat_le, nat_lt, ℕ, ◌&&◌}
 
 -- The transaction has 1 to 64 calls, of which the last alone is a request.
 abbrev pub is_short_transaction : ℕ → List Kind → Bool

@@ -1,8 +1,5 @@
 -- The parts of a workload that are read one by one, each with the values of its calls in 64 bits.
-use Rattle.std.specs.Prelude.{◌≡◌, ℕ, List, IsTrue, All}
-use Rattle.serde_json.specs.Data.{Data}
-use Rattle.tmw_events.specs.Text.{FitsKind}
-use Rattle.tmw_events.specs.declared.event.Kind.{Kind}
+use Rattle.tmw_workloads.specs.Shared.{All, Data, FitsKind, IsTrue, Kind, List, ℕ, ◌≡◌}
 use Rattle.tmw_workloads.specs.Json.{FitScripts}
 use Rattle.tmw_workloads.specs.Workload.{are_scripts, is_order, is_short_script, is_short_transaction}
 

@@ -1,8 +1,4 @@
-ghost use Rattle.std.specs.Prelude.{◌≡◌, IfSome, IfNone};
-ghost use Rattle.std.specs.List.{list_all};
-ghost use Rattle.serde_json.specs.View.{view};
-ghost use Rattle.tmw_events.specs.Text.{FitsKind};
-ghost use Rattle.tmw_runs.specs.Scripts.{is_operation, is_request, is_transaction};
+ghost use Rattle.tmw_workloads.specs.Shared.{FitsKind, IfNone, IfSome, is_operation, is_request, is_transaction, list_all, view, ◌≡◌};
 ghost use Rattle.tmw_workloads.specs.Json.{call_data};
 ghost use Rattle.tmw_workloads.specs.WorkloadParts.{IsNoPart};
 

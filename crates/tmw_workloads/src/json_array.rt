@@ -1,6 +1,4 @@
-ghost use Rattle.std.specs.Prelude.{◌≡◌, ◌≤◌, List, length, IfSome, IfNone};
-ghost use Rattle.serde_json.specs.Data.{Data, array};
-ghost use Rattle.serde_json.specs.View.{view, items_of};
+ghost use Rattle.tmw_workloads.specs.Shared.{Data, IfNone, IfSome, List, array, items_of, length, view, ◌≡◌, ◌≤◌};
 ghost use Rattle.tmw_workloads.specs.Json.{list_data};
 
 use serde_json::Value;

@@ -1,6 +1,4 @@
-ghost use Rattle.std.specs.Prelude.{◌≡◌, IfSome, IfNone};
-ghost use Rattle.serde_json.specs.Data.{Data};
-ghost use Rattle.serde_json.specs.View.{view};
+ghost use Rattle.tmw_workloads.specs.Shared.{Data, IfNone, IfSome, view, ◌≡◌};
 ghost use Rattle.tmw_workloads.specs.Json.{fields_data};
 
 use serde_json::Value;

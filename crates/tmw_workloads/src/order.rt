@@ -1,5 +1,4 @@
-ghost use Rattle.std.specs.Prelude.{◌≡◌, ◌<◌, IfOk, IfErr, IfSome, IfNone};
-ghost use Rattle.serde_json.specs.View.{view};
+ghost use Rattle.tmw_workloads.specs.Shared.{IfErr, IfNone, IfOk, IfSome, view, ◌<◌, ◌≡◌};
 ghost use Rattle.tmw_workloads.specs.Json.{list_data, number_data};
 ghost use Rattle.tmw_workloads.specs.WorkloadParts.{IsNoPart, IsOrder};
 ghost use Rattle.tmw_workloads.specs.declared.fault.WorkloadFault.TheVariants.{Json, Shape};

@@ -1,5 +1,4 @@
-ghost use Rattle.std.specs.Prelude.{◌≡◌, ◌<◌, ◌≤◌, IfSome, IfNone};
-ghost use Rattle.serde_json.specs.View.{view};
+ghost use Rattle.tmw_workloads.specs.Shared.{IfNone, IfSome, view, ◌<◌, ◌≡◌, ◌≤◌};
 ghost use Rattle.tmw_workloads.specs.Json.{number_data};
 ghost use Rattle.tmw_workloads.specs.WorkloadParts.{IsNoPart};
 

@@ -1,6 +1,4 @@
-ghost use Rattle.std.specs.Prelude.{◌≡◌, IfOk, IfErr};
-ghost use Rattle.serde_json.specs.View.{view};
-ghost use Rattle.tmw_runs.specs.Scripts.{script_of, scripts_of};
+ghost use Rattle.tmw_workloads.specs.Shared.{IfErr, IfOk, script_of, scripts_of, view, ◌≡◌};
 ghost use Rattle.tmw_workloads.specs.Json.{list_data, script_data};
 ghost use Rattle.tmw_workloads.specs.WorkloadParts.{AreScripts, IsNoPart, IsScript};
 ghost use Rattle.tmw_workloads.specs.declared.fault.WorkloadFault.TheVariants.{Json, Shape};

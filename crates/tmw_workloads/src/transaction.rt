@@ -1,5 +1,4 @@
-ghost use Rattle.std.specs.Prelude.{◌≡◌, IfOk, IfErr};
-ghost use Rattle.serde_json.specs.View.{view};
+ghost use Rattle.tmw_workloads.specs.Shared.{IfErr, IfOk, view, ◌≡◌};
 ghost use Rattle.tmw_workloads.specs.Json.{transaction_data};
 ghost use Rattle.tmw_workloads.specs.WorkloadParts.{IsTransaction, IsNoPart};
 ghost use Rattle.tmw_workloads.specs.declared.fault.WorkloadFault.TheVariants.{Json, Shape};

@@ -1,6 +1,4 @@
-ghost use Rattle.std.specs.Prelude.{◌≡◌, IfOk, IfErr};
-ghost use Rattle.serde_json.specs.View.{view};
-ghost use Rattle.tmw_runs.specs.Scripts.{scripts_of};
+ghost use Rattle.tmw_workloads.specs.Shared.{IfErr, IfOk, scripts_of, view, ◌≡◌};
 ghost use Rattle.tmw_workloads.specs.Json.{workload_data, FitScripts, IsWorkloadText, IsNoWorkload, IsOtherText, IsNoText};
 ghost use Rattle.tmw_workloads.specs.declared.fault.WorkloadFault.TheVariants.{Json, Shape};
 

@@ -1,7 +1,6 @@
-ghost use Rattle.std.specs.Prelude.{◌≡◌, MatchBool, None, Some};
+ghost use Rattle.tmw_command.specs.Shared.{MatchBool, None, Some, memory_is, ◌≡◌};
 ghost use Rattle.tmw_command.specs.BenchRun.{asks_for_log};
 ghost use Rattle.tmw_command.specs.RunBench.{BenchesBytes};
-ghost use Rattle.tmw_tm.specs.Memory.{memory_is};
 
 use crate::bench::bench_source::{bench_source, hunt_source};
 use crate::bench::bench_text::{answer_hunt, answer_run};

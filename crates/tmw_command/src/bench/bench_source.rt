@@ -1,13 +1,7 @@
-ghost use Rattle.std.specs.Prelude.{◌≡◌, ℕ, IfErr, IfOk, List};
-ghost use Rattle.tmw_defs.specs.declared.criterion.Criterion.TheVariants.{Opacity};
-ghost use Rattle.tmw_report.specs.declared.fault.Fault.TheVariants.{Memory};
-ghost use Rattle.tmw_show.specs.NeededEvents.{IsNeededOf};
-ghost use Rattle.tmw_report.specs.CommandRun.{failures_after_answer};
+ghost use Rattle.tmw_command.specs.Shared.{IfErr, IfOk, IsNeededOf, List, Memory, Opacity, Tells, failures_after_answer, memory_is, ℕ, ◌≡◌};
 ghost use Rattle.tmw_command.specs.BenchRun.{benched_of, hunted_of};
 ghost use Rattle.tmw_command.specs.RunBench.{AnswersBench, AnswersHunt, fault_of};
 ghost use Rattle.tmw_command.specs.DriveRun.{IsHeaderOf};
-ghost use Rattle.tmw_streams.specs.Transfers.{Tells};
-ghost use Rattle.tmw_tm.specs.Memory.{memory_is};
 
 use crate::bench::bench_run::BenchRun;
 use crate::bench::hunt_run::HuntRun;

@@ -1,9 +1,4 @@
-ghost use Rattle.std.specs.Prelude.{◌≡◌, ◌&&◌, ◌⊎◌, IfOk, string_bytes};
-ghost use Rattle.tmw_counts.specs.CountedPart.{is_open};
-ghost use Rattle.tmw_report.specs.Lines.{fault_line};
-ghost use Rattle.tmw_report.specs.SendText.{IsPut};
-ghost use Rattle.tmw_report.specs.Remark.{Remarks, nothing_shown_if};
-ghost use Rattle.tmw_report.specs.declared.fault.Fault.TheVariants.{Memory};
+ghost use Rattle.tmw_command.specs.Shared.{IfOk, IsPut, Memory, Remarks, fault_line, is_open, nothing_shown_if, string_bytes, ◌&&◌, ◌≡◌, ◌⊎◌};
 ghost use Rattle.tmw_command.specs.BenchRun.{bench_lines, bench_shows_nothing, bench_status, bench_text, hunt_shows_nothing, hunt_status, hunt_text, last_lines};
 
 use crate::bench::bench_run::BenchRun;

@@ -1,5 +1,5 @@
+ghost use Rattle.tmw_command.specs.Shared.{memory_is};
 ghost use Rattle.tmw_command.specs.RunDrive.{DrivesBytes};
-ghost use Rattle.tmw_tm.specs.Memory.{memory_is};
 
 use crate::drive::drive_source::drive_source;
 use crate::drive::drive_text::answer_driven;

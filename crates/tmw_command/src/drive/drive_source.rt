@@ -1,8 +1,5 @@
-ghost use Rattle.std.specs.Prelude.{◌≡◌, ℕ, List};
-ghost use Rattle.tmw_report.specs.CommandRun.{failures_after_answer};
+ghost use Rattle.tmw_command.specs.Shared.{List, Tells, failures_after_answer, memory_is, ℕ, ◌≡◌};
 ghost use Rattle.tmw_command.specs.RunDrive.{AnswersWorkload, fault_of};
-ghost use Rattle.tmw_streams.specs.Transfers.{Tells};
-ghost use Rattle.tmw_tm.specs.Memory.{memory_is};
 
 use crate::drive::drive_run::{DriveRun, header_of};
 use crate::read_source::read_source;

@@ -1,9 +1,5 @@
-ghost use Rattle.std.specs.Prelude.{◌≡◌, ◌++◌, ◌⊎◌, IfOk, OnOk, string_bytes};
-ghost use Rattle.tmw_report.specs.Lines.{fault_line};
-ghost use Rattle.tmw_report.specs.SendText.{IsPut};
-ghost use Rattle.tmw_report.specs.declared.fault.Fault.TheVariants.{Memory};
+ghost use Rattle.tmw_command.specs.Shared.{IfOk, IsPut, Memory, OnOk, Puts, fault_line, string_bytes, ◌++◌, ◌≡◌, ◌⊎◌};
 ghost use Rattle.tmw_command.specs.DriveRun.{asked_line, asks_for_trace, driven_lines, driven_status, driven_text, log_text};
-ghost use Rattle.tmw_streams.specs.Transfers.{Puts};
 
 use crate::drive::drive_run::DriveRun;
 use std::alloc::{AllocError, Global};

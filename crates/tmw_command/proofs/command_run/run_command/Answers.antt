@@ -1,5 +1,5 @@
 -- Words that are had are run by their reading, and else the fault is answered.
-use Rattle.std.proofs.Common.{rules}
+use Rattle.tmw_command.proofs.Shared.{rules}
 use Rattle.tmw_command.proofs.command_run.run_command.Goals as goal
 
 pub returns-in-Ok : goal.returns-in-Ok

@@ -1,5 +1,4 @@
-use Rattle.tmw_cuts.proofs.Shared.{Turn, ap, refl, slice_set}
-use Rattle.std.specs.Prelude.{slice_index_or}
+use Rattle.tmw_cuts.proofs.Shared.{Turn, ap, refl, slice_index_or, slice_set}
 use Rattle.tmw_cuts.specs.declared.turn.Stage.TheVariants.{Between}
 use Rattle.tmw_cuts.proofs.turn.end.Goals as goal
 

@@ -1,4 +1,4 @@
-use Rattle.tmw_drive.proofs.Shared.{AllEnd, AllPlay, Answer, Call, Drives, Event, List, Player, [], ap, drop, length, length-map, script_of, scripts_of, subst, sym, take_at, ℕ, ◌∙◌, ◌≡◌, arith}
+use Rattle.tmw_drive.proofs.Shared.{AllEnd, AllPlay, Answer, Call, Drives, Event, List, Player, [], ap, arith, drop, length, length-map, script_of, scripts_of, subst, sym, take_at, ℕ, ◌∙◌, ◌≡◌}
 use Rattle.tmw_drive.proofs.AllPlayers.{all_play-new}
 use Rattle.tmw_drive.proofs.Drives.{is_driven}
 use Rattle.tmw_drive.proofs.Workloads.{are_transactions-workload}

@@ -1,4 +1,4 @@
-use Rattle.tmw_drive.proofs.Shared.{Answer, Call, Event, Plays, [], ap, calls_of, inl, inr, kinds_of, refl, subst, sym, ◌++◌, ◌∙◌, ◌∷◌, arith}
+use Rattle.tmw_drive.proofs.Shared.{Answer, Call, Event, Plays, [], ap, arith, calls_of, inl, inr, kinds_of, refl, subst, sym, ◌++◌, ◌∙◌, ◌∷◌}
 use Rattle.tmw_drive.proofs.Entries.{kinds_of-pair_own, pushed-pair}
 use Rattle.tmw_drive.proofs.Players.{beginning-plays, call-plays, goes_on-same, plays-goes_on, whole-plays}
 use Rattle.tmw_drive.proofs.play.step.Goals as goal

@@ -1,6 +1,5 @@
 -- The kind came after the thread and its space.
-use Rattle.std.proofs.Common.{[], ◌∷◌}
-use Rattle.tmw_events.specs.Text.{digit, kind_text}
+use Rattle.tmw_events.proofs.Shared.{[], digit, kind_text, ◌∷◌}
 use Rattle.tmw_streams.proofs.Puts.{Puts-more, Puts-front}
 use Rattle.tmw_events.proofs.event_text.put_event.Goals as goal
 

@@ -1,4 +1,4 @@
-use Rattle.std.proofs.Common.{arith}
+use Rattle.tmw_events.proofs.Shared.{arith}
 use Rattle.tmw_events.proofs.KindTexts.{no_register}
 use Rattle.tmw_events.proofs.kind_line.kind_of.Goals as goal
 

@@ -1,5 +1,4 @@
-use Rattle.std.proofs.Common.{◌≡◌, ℕ, ◌<◌, ◌^◌, List, drop}
-use Rattle.std.specs.Str.Parse.{AllDigits, digits_value_after, digits_value}
+use Rattle.tmw_events.proofs.Shared.{AllDigits, List, digits_value, digits_value_after, drop, ℕ, ◌<◌, ◌^◌, ◌≡◌}
 use Rattle.tmw_events.proofs.number.digits_number.Given as goal
 
 -- the digits still to come complete the number, which has 64 bits, and all are digits exactly when those are

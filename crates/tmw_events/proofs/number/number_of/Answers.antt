@@ -1,9 +1,9 @@
-use Rattle.std.proofs.Common.{◌≡◌, ◌<◌, ◌∙◌, length, get_or, sym, arith}
+use Rattle.tmw_events.proofs.Shared.{arith, get_or, length, sym, ◌<◌, ◌∙◌, ◌≡◌}
 use Rattle.std.proofs.lemmas.Bool.{eqb-true}
 use Rattle.std.proofs.lemmas.Bool.Decides.{nat_tests}
 use Rattle.tmw_events.proofs.Numbers.{empty_no_decimal, zero_no_decimal, decimal_from_digits, no_decimal_from_digits}
-use Rattle.tmw_events.proofs.number.number_of.Goals as goal
 use Rattle.tmw_events.proofs.number.number_of.Goals.{else-bytes-eq48-via-then-bytes-eq48+else-bytes-gt1, else-bytes-eq48-via-else-bytes-eq48}
+use Rattle.tmw_events.proofs.number.number_of.Goals as goal
 
 pub returns-then-is_empty-clause-none : goal.returns-then-is_empty-clause-none
 returns-then-is_empty-clause-none c =

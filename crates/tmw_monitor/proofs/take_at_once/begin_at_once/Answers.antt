@@ -1,8 +1,7 @@
 -- An event that begins a transaction is quiet and leads to no cut, and the window has room for it.
-use Rattle.tmw_monitor.proofs.Shared.{Begin, arith, drop, found-begun, inl, length-views_of, members, refl, transactions, uncut-next, views_of}
+use Rattle.tmw_monitor.proofs.Shared.{Begin, arith, begun-pushed, completed-within, drop, found-begun, inl, length-views_of, members, no_commit, refl, transactions, uncut-next, views_of}
 use Rattle.tmw_defs.proofs.QuietProof.{left_out}
 use Rattle.tmw_cuts.proofs.Moves.{asked_on}
-use Rattle.tmw_witness.proofs.OneEventMore.{begun-pushed, completed-within, no_commit}
 use Rattle.tmw_monitor.proofs.AtOnce.{asked_quiet, open-fine}
 use Rattle.tmw_monitor.proofs.take_at_once.begin_at_once.Goals as goal
 

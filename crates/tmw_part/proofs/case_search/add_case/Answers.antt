@@ -1,4 +1,4 @@
-use Rattle.tmw_part.proofs.Shared.{rules, sym, [], ◌∙◌, ◌∷◌, ◌≡◌}
+use Rattle.tmw_part.proofs.Shared.{[], rules, sym, ◌∙◌, ◌∷◌, ◌≡◌}
 use Rattle.tmw_part.proofs.CasesProof.{said-push, said-same}
 use Rattle.tmw_part.proofs.case_search.add_case.Goals as goal
 

@@ -1,6 +1,4 @@
-use Rattle.tmw_part.proofs.Shared.{length, rules, sym, ◌∙◌, ◌++◌, ◌∷◌, ◌≡◌, []}
-use Rattle.std.proofs.lemmas.List.Elements.{Contains-append_left}
-use Rattle.tmw_part.specs.CaseSearch.{asked_at}
+use Rattle.tmw_part.proofs.Shared.{Contains-append_left, [], asked_at, length, rules, sym, ◌++◌, ◌∙◌, ◌∷◌, ◌≡◌}
 use Rattle.tmw_part.proofs.PlacesProof.{once-said}
 use Rattle.tmw_part.proofs.DerivationsProof.{made-again}
 use Rattle.tmw_part.proofs.case_search.add_state.Goals as goal

@@ -1,4 +1,4 @@
-use Rattle.tmw_part.specs.CaseSearch.{Grows}
+use Rattle.tmw_part.proofs.Shared.{Grows}
 use Rattle.tmw_part.proofs.case_search.add_states.Given as goal
 
 abbrev pub invariant-loop-place : goal.invariant-loop-place

@@ -1,5 +1,4 @@
-use Rattle.tmw_part.proofs.Shared.{All-more, take_all}
-use Rattle.tmw_part.specs.Reasons.{IsDerivationIn}
+use Rattle.tmw_part.proofs.Shared.{All-more, IsDerivationIn, take_all}
 use Rattle.tmw_part.proofs.case_search.are_derivations.Goals as goal
 
 pub loop-one-preserved : goal.loop-one-preserved

@@ -1,5 +1,4 @@
-use Rattle.tmw_part.proofs.Shared.{All, take}
-use Rattle.tmw_part.specs.Reasons.{IsDerivationIn}
+use Rattle.tmw_part.proofs.Shared.{All, IsDerivationIn, take}
 use Rattle.tmw_part.proofs.case_search.are_derivations.Given as goal
 
 abbrev pub invariant-loop-one : goal.invariant-loop-one

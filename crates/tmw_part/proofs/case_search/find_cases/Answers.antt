@@ -1,5 +1,4 @@
-use Rattle.tmw_part.proofs.Shared.{arith, length, ◌<◌}
-use Rattle.tmw_part.specs.CaseSearch.{AreFirst}
+use Rattle.tmw_part.proofs.Shared.{AreFirst, arith, length, ◌<◌}
 use Rattle.tmw_part.proofs.CasesProof.{said-whole}
 use Rattle.tmw_part.proofs.case_search.find_cases.Goals as goal
 

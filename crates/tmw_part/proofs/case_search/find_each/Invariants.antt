@@ -1,4 +1,4 @@
-use Rattle.tmw_part.specs.CaseSearch.{AreSaid}
+use Rattle.tmw_part.proofs.Shared.{AreSaid}
 use Rattle.tmw_part.proofs.case_search.find_each.Given as goal
 
 abbrev pub invariant-loop-place : goal.invariant-loop-place

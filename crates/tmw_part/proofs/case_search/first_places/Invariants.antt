@@ -1,4 +1,4 @@
-use Rattle.tmw_part.specs.CaseSearch.{AreFirst}
+use Rattle.tmw_part.proofs.Shared.{AreFirst}
 use Rattle.tmw_part.proofs.case_search.first_places.Given as goal
 
 abbrev pub invariant-loop-place : goal.invariant-loop-place

@@ -1,6 +1,4 @@
-use Rattle.std.proofs.Common.{append-nil}
-use Rattle.tmw_part.proofs.Shared.{ltb-false, sym}
-use Rattle.std.proofs.lemmas.Option.{slice_get_past}
+use Rattle.tmw_part.proofs.Shared.{append-nil, ltb-false, slice_get_past, sym}
 use Rattle.tmw_part.proofs.case_search.push_state.Goals as goal
 
 pub returns-in_default : goal.returns-in_default

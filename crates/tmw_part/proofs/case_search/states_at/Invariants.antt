@@ -1,5 +1,4 @@
-use Rattle.tmw_part.proofs.Shared.{flat_map, slice_get, take, ◌≡◌}
-use Rattle.std.specs.Option.{option_to_list}
+use Rattle.tmw_part.proofs.Shared.{flat_map, option_to_list, slice_get, take, ◌≡◌}
 use Rattle.tmw_part.proofs.case_search.states_at.Given as goal
 
 abbrev pub invariant-loop-place : goal.invariant-loop-place

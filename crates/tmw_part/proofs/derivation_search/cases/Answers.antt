@@ -1,5 +1,4 @@
-use Rattle.tmw_part.proofs.Shared.{IsMade}
-use Rattle.std.proofs.lemmas.List.Elements.{All-push}
+use Rattle.tmw_part.proofs.Shared.{All-push, IsMade}
 use Rattle.tmw_part.proofs.derivation_search.cases.Goals.{then-is_case+in_ok-assumed+in_ok-one+in-Some+in_ok-push, else-is_case}
 use Rattle.tmw_part.proofs.derivation_search.cases.Goals as goal
 

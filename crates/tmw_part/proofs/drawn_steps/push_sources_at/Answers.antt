@@ -1,4 +1,4 @@
-use Rattle.std.proofs.Common.{append_assoc}
+use Rattle.tmw_part.proofs.Shared.{append_assoc}
 use Rattle.tmw_part.proofs.drawn_steps.push_sources_at.Goals as goal
 
 pub returns : goal.returns

@@ -1,5 +1,4 @@
-use Rattle.tmw_part.proofs.Shared.{is_unread, operations, ◌≡◌}
-use Rattle.tmw_part.specs.PartTest.{are_ops_left}
+use Rattle.tmw_part.proofs.Shared.{are_ops_left, is_unread, operations, ◌≡◌}
 use Rattle.tmw_part.proofs.is_left_of.are_ops_left.Given as goal
 
 abbrev pub invariant-loop-op : goal.invariant-loop-op

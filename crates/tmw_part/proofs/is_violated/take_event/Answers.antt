@@ -1,7 +1,6 @@
 -- With the event there is one transaction more where it begins one, for which the window has room; or the events are ill-formed with it,
 -- or have too many.
-use Rattle.tmw_part.proofs.Shared.{ap, arith, inl, inr, length, subst, transactions, ◌∙◌, ◌≡◌}
-use Rattle.tmw_events.specs.declared.registers.Registers.{Registers}
+use Rattle.tmw_part.proofs.Shared.{Registers, ap, arith, inl, inr, length, subst, transactions, ◌∙◌, ◌≡◌}
 use Rattle.tmw_cuts.specs.StandsFor.{Follows, IsNext, begun_by}
 use Rattle.tmw_cuts.specs.declared.turn.Move.TheVariants.{Begin}
 use Rattle.tmw_cuts.proofs.Follows.{follows-events}

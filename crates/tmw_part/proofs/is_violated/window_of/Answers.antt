@@ -1,5 +1,4 @@
-use Rattle.tmw_part.proofs.Shared.{AreTaken, AreUnfit, ap, arith, subst, take, take_all, ◌+◌}
-use Rattle.tmw_events.specs.declared.registers.Registers.{Registers}
+use Rattle.tmw_part.proofs.Shared.{AreTaken, AreUnfit, Registers, ap, arith, subst, take, take_all, ◌+◌}
 use Rattle.tmw_part.proofs.MoreEvents.{unfit-begun, take-next}
 use Rattle.tmw_part.proofs.is_violated.window_of.Goals as goal
 

@@ -1,5 +1,4 @@
-use Rattle.tmw_part.proofs.Shared.{Bool, List, inl, inr, subst, sym, ◌∙◌}
-use Rattle.tmw_part.specs.FindPart.{FailsIn}
+use Rattle.tmw_part.proofs.Shared.{Bool, FailsIn, List, inl, inr, subst, sym, ◌∙◌}
 use Rattle.tmw_part.proofs.Fewer.{length-without, fewer-kept, same-marks}
 use Rattle.tmw_part.proofs.part_search.try_without.Goals as goal
 

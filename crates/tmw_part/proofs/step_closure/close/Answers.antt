@@ -1,7 +1,5 @@
 -- Each round adds a candidate that was not told, and is told then.
-use Rattle.tmw_part.proofs.Shared.{Contains, ReasonStep, Some, [], and_parts, cases_Bool, inl, inr, is_news, not, not-true, refl, sym, tells, true, ◌++◌, ◌∙◌, ◌∷◌, ◌≡◌}
-use Rattle.std.specs.List.{find}
-use Rattle.std.proofs.lemmas.List.Elements.{All-push}
+use Rattle.tmw_part.proofs.Shared.{All-push, Contains, ReasonStep, Some, [], and_parts, cases_Bool, find, inl, inr, is_news, not, not-true, refl, sym, tells, true, ◌++◌, ◌∙◌, ◌∷◌, ◌≡◌}
 use Rattle.tmw_part.proofs.ClosureSteps.{derives-assumed, derives-push, tells-itself, tells-more}
 use Rattle.tmw_part.proofs.ListFacts.{count-fewer, find-some}
 use Rattle.tmw_part.proofs.step_closure.close.Goals.{else-loop-steps-test, then-loop-steps-test+in_default}

@@ -1,5 +1,4 @@
-use Rattle.tmw_part.proofs.Shared.{is_news, length, ◌≡◌}
-use Rattle.std.specs.List.{find}
+use Rattle.tmw_part.proofs.Shared.{find, is_news, length, ◌≡◌}
 use Rattle.tmw_part.proofs.step_closure.find_step.Given as goal
 
 abbrev pub invariant-loop-rest : goal.invariant-loop-rest

@@ -1,7 +1,7 @@
 -- The mask of a power of two divides by it.
+use lib.Bits.{and_mask}
 use Rattle.tmw_ring.proofs.Shared.{ap, arith, bit_and, mod-eq_of_lt, ℕ, ◌%◌, ◌*◌, ◌-◌, ◌<◌, ◌^◌, ◌∙◌, ◌≡◌}
 use Rattle.std.proofs.Math.Pow.{pow-lt}
-use lib.Bits.{and_mask}
 use Rattle.tmw_ring.proofs.cell_layout.cell_of.Goals as goal
 
 -- one shifted by fewer than 64 bits loses none

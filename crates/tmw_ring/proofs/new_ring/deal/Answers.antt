@@ -1,4 +1,4 @@
-use Rattle.tmw_ring.proofs.Shared.{AreNewWriters, List, RingIs, WriterIs, ap, arith, length, length_push, subst, sym, ℕ, ◌+◌, ◌<◌, ◌∙◌, rules}
+use Rattle.tmw_ring.proofs.Shared.{AreNewWriters, List, RingIs, WriterIs, ap, arith, length, length_push, rules, subst, sym, ℕ, ◌+◌, ◌<◌, ◌∙◌}
 use Rattle.tmw_ring.proofs.Deal.{dealt, left_over, new_writer-idle, new_writers-dealt}
 use Rattle.tmw_ring.proofs.Seats.{splits_second}
 use Rattle.tmw_ring.proofs.new_ring.deal.Goals as goal

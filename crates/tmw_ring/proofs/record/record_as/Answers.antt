@@ -1,4 +1,4 @@
-use Rattle.tmw_ring.proofs.Shared.{HasRecorded, Kind, RingIs, RingSize, ap, false, is_full, is_spent, subst, sym, writer_in, writer_is, ◌∙◌, ◌≡◌, arith}
+use Rattle.tmw_ring.proofs.Shared.{HasRecorded, Kind, RingIs, RingSize, ap, arith, false, is_full, is_spent, subst, sym, writer_in, writer_is, ◌∙◌, ◌≡◌}
 use Rattle.tmw_ring.proofs.RecordSteps.{looks, looks-recorded}
 use Rattle.tmw_ring.proofs.record.record_as.Goals as goal
 

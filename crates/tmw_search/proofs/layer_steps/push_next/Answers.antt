@@ -1,5 +1,5 @@
-use Rattle.tmw_search.proofs.AddMembers.{adds-push}
 use Rattle.tmw_search.proofs.Shared.{Makes, State, after_writes, bit_or, if◌then◌else◌, refl, sym, view, ℕ, ◌%◌, ◌*◌, ◌^◌, ◌∙◌, ◌≡◌}
+use Rattle.tmw_search.proofs.AddMembers.{adds-push}
 use Rattle.tmw_search.proofs.LayerLists.{pair}
 use Rattle.tmw_search.proofs.layer_steps.push_next.Goals.{then-held, else-held}
 use Rattle.tmw_search.proofs.layer_steps.push_next.Goals as goal

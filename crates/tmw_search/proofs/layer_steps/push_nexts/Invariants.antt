@@ -1,4 +1,4 @@
-use Rattle.tmw_search.proofs.Shared.{Adds, true, MakesAt, map, view}
+use Rattle.tmw_search.proofs.Shared.{Adds, MakesAt, map, true, view}
 use Rattle.tmw_search.proofs.AddMembers.{OfFirst}
 use Rattle.tmw_search.proofs.layer_steps.push_nexts.Given as goal
 

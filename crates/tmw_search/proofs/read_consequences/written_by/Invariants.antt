@@ -1,4 +1,4 @@
-use Rattle.tmw_search.proofs.Shared.{bit_at, ◌≡◌, In, Leaves, effects, ℕ, ◌<◌}
+use Rattle.tmw_search.proofs.Shared.{In, Leaves, bit_at, effects, ℕ, ◌<◌, ◌≡◌}
 use Rattle.tmw_search.proofs.read_consequences.written_by.Given as goal
 
 abbrev pub invariant-loop-left : goal.invariant-loop-left

@@ -1,7 +1,6 @@
 use Rattle.tmw_search.proofs.Shared.{Bool, HasEight, Marks, Some, View, arith, effect_of, length, length-map, map, refl, slice_get, slice_get_read, slice_get_within, view, ℕ, ◌+◌, ◌<◌, ◌≡◌}
 use Rattle.tmw_search.proofs.RootNode.{marks-more, marks-same}
 use Rattle.tmw_search.proofs.WindowViews.{shown_at}
-use Rattle.tmw_search.proofs.root.statuses_of.Goals.{in-Committed, in-Pending, in-Live, in-Aborted}
 use Rattle.tmw_cuts.specs.declared.txn.Txn as cuts
 use Rattle.tmw_search.proofs.root.statuses_of.Goals as goal
 

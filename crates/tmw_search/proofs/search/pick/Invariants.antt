@@ -1,5 +1,4 @@
-use Rattle.tmw_search.proofs.Shared.{In, IsBranch, IsRead, None, Open, bit_at, effects, source_at, ℕ, ◌<◌, ◌≡◌}
-use Rattle.std.specs.Prelude.{IfSome}
+use Rattle.tmw_search.proofs.Shared.{IfSome, In, IsBranch, IsRead, None, Open, bit_at, effects, source_at, ℕ, ◌<◌, ◌≡◌}
 use Rattle.tmw_search.proofs.search.pick.Given as goal
 
 -- Where none is found yet, no read of the transactions before this one is open, nor one of its own that is not left.

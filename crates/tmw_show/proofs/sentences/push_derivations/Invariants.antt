@@ -1,6 +1,4 @@
-use Rattle.tmw_show.proofs.Shared.{flat_map, take, ◌++◌, ◌≡◌}
-use Rattle.tmw_cuts.specs.Members.{members}
-use Rattle.tmw_show.specs.Sentences.{derivation_text}
+use Rattle.tmw_show.proofs.Shared.{derivation_text, flat_map, members, take, ◌++◌, ◌≡◌}
 use Rattle.tmw_show.proofs.sentences.push_derivations.Given as goal
 
 abbrev pub invariant-loop-derivation : goal.invariant-loop-derivation

@@ -1,5 +1,6 @@
 -- The second text and number came after the first.
-use Rattle.tmw_steps.proofs.Shared.{Puts-more, decimal, ◌++◌}
+use Rattle.tmw_steps.proofs.Shared.{Puts-more, ◌++◌}
+use Rattle.std.specs.Fmt.{decimal}
 use Rattle.tmw_steps.proofs.reply_line.put_numbers.Goals as goal
 
 pub returns : goal.returns

@@ -1,5 +1,5 @@
 -- A transaction that could not be read, and the script that was read whole.
-use Rattle.tmw_workloads.proofs.Shared.{IsScript, IsTransaction, arith, err_from_is_err_and, script_of, sym, transaction_data, view, ◌∙◌}
+use Rattle.tmw_workloads.proofs.Shared.{IsScript, IsTransaction, arith, err_from_is_err_and, script_of, sym, transaction_data, ◌∙◌}
 use Rattle.tmw_workloads.proofs.Lists.{length-read, none_at, read_all}
 use Rattle.tmw_workloads.proofs.Rules.{script_each, script_right}
 use Rattle.tmw_workloads.proofs.scripts.read_script.Goals as goal

@@ -1,6 +1,6 @@
 -- The workload that was read was carried out, or it was not, by the fault that is answered.
+use Rattle.tmw_command.proofs.Shared.{memory_is}
 use Rattle.tmw_command.proofs.BenchAnswers.{hunted-answers, right-bench}
-use Rattle.tmw_tm.specs.Memory.{memory_is}
 use Rattle.tmw_command.proofs.bench.bench_source.hunt_source.Goals as goal
 
 pub returns-in-Ok-clause-right : goal.returns-in-Ok-clause-right

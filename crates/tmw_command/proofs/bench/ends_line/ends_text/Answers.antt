@@ -1,5 +1,5 @@
 -- The line is the text of the object of the ends, and its line feed.
-use Rattle.std.proofs.Common.{◌∙◌}
+use Rattle.tmw_command.proofs.Shared.{◌∙◌}
 use Rattle.tmw_command.proofs.EndsLines.{ends_object-line}
 use Rattle.tmw_command.proofs.bench.ends_line.ends_text.Goals as goal
 

@@ -1,7 +1,5 @@
 -- The words so far, as they stand.
-use Rattle.std.proofs.Common.{◌≡◌, map, take}
-use Rattle.serde_json.specs.View.{view}
-use Rattle.tmw_command.specs.EndsObject.{end_data}
+use Rattle.tmw_command.proofs.Shared.{end_data, map, take, view, ◌≡◌}
 use Rattle.tmw_command.proofs.bench.ends_line.words_of.Given as goal
 
 abbrev pub invariant-loop-end : goal.invariant-loop-end

@@ -1,6 +1,5 @@
 -- Where the report's line found no memory, that fault answers, which is right of all bytes.
-use Rattle.std.proofs.Common.{Ok, Err, inl, inr}
-use Rattle.tmw_report.specs.declared.fault.Fault.TheVariants.{Memory}
+use Rattle.tmw_command.proofs.Shared.{Err, Memory, Ok, inl, inr}
 use Rattle.tmw_command.proofs.drive.drive_command.run_drive.Goals as goal
 
 pub returns-in-Ok : goal.returns-in-Ok

@@ -1,8 +1,7 @@
 -- The workload that was read was driven, and its log has the header; or it was not, by the fault that is answered.
-use Rattle.std.proofs.Common.{◌<◌, ◌-◌, ◌^◌, List, length, ap, arith, refl, subst, sym}
+use Rattle.tmw_command.proofs.Shared.{List, ap, arith, length, refl, subst, sym, zeros, ◌-◌, ◌<◌, ◌^◌}
 use Rattle.tmw_counts.specs.CountedPart.{part_by}
 use Rattle.tmw_counts.specs.Summary.{IsSummary}
-use Rattle.tmw_defs.specs.Opaque.{zeros}
 use Rattle.tmw_defs.specs.Verdict.{IsVerdict}
 use Rattle.tmw_command.proofs.DriveAnswers.{right-drive, text_over}
 use Rattle.tmw_command.specs.DriveRun.{IsHeaderOf}

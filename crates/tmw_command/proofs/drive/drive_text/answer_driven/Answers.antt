@@ -1,5 +1,5 @@
 -- What was put is the trace, where it is asked for, and then the lines.
-use Rattle.std.proofs.Common.{◌∙◌, inl}
+use Rattle.tmw_command.proofs.Shared.{inl, ◌∙◌}
 use Rattle.tmw_command.proofs.drive.drive_text.answer_driven.Goals as goal
 
 pub returns-in-Ok-put_driven : goal.returns-in-Ok-put_driven

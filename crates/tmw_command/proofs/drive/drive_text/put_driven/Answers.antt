@@ -1,8 +1,8 @@
 -- The lines came after the trace, where that was asked for.
 use Rattle.tmw_streams.proofs.Puts.{Puts-more, Puts-front}
 use Rattle.tmw_trace.specs.Text.{trace_text}
-use Rattle.tmw_command.proofs.drive.drive_text.put_driven.Goals as goal
 use Rattle.tmw_command.proofs.drive.drive_text.put_driven.Goals.{then-trace+in_ok-write_trace, else-trace}
+use Rattle.tmw_command.proofs.drive.drive_text.put_driven.Goals as goal
 
 pub returns-in_err-write_trace : goal.returns-in_err-write_trace
 returns-in_err-write_trace g c =

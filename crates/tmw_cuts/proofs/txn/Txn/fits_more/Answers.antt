@@ -1,5 +1,5 @@
 -- A read or an add is answered what its register holds after the operations before.
-use Rattle.tmw_cuts.proofs.Shared.{Add, Read, Write, and-true, sym, [], inl, inr, refl, ◌∷◌}
+use Rattle.tmw_cuts.proofs.Shared.{Add, Read, Write, [], and-true, inl, inr, refl, sym, ◌∷◌}
 use Rattle.tmw_cuts.proofs.Effects.{reads_hold-append}
 use Rattle.tmw_cuts.proofs.txn.Txn.fits_more.Goals as goal
 

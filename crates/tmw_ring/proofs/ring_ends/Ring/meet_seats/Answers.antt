@@ -1,4 +1,4 @@
-use Rattle.tmw_ring.proofs.Shared.{none, step, rules}
+use Rattle.tmw_ring.proofs.Shared.{none, rules, step}
 use Rattle.tmw_ring.proofs.FindTail.{finds_tail}
 use Rattle.tmw_ring.proofs.Joins.{joins_both}
 use Rattle.tmw_ring.proofs.MeetSeats.{seats_met}

@@ -1,4 +1,5 @@
-use Rattle.tmw_ring.proofs.Shared.{Event, IsSettled, List, ReaderIs, RingIs, ap, events_from, reader_in, slots_items, subst, sym, ◌-◌, ◌∙◌, arith}
+use Rattle.tmw_ring.proofs.Shared.{Event, IsSettled, List, ReaderIs, RingIs, ap, arith, events_from, reader_in, subst, sym, ◌-◌, ◌∙◌}
+use Rattle.std.specs.Mem.Slots.{slots_items}
 use Rattle.tmw_ring.proofs.LastStates.{ended_joined}
 use Rattle.tmw_ring.proofs.SettleWords.{Counted, leaves, settles}
 use Rattle.tmw_ring.proofs.ring_ends.Ring.settle.Goals as goal

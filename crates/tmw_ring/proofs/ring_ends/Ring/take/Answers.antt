@@ -1,4 +1,4 @@
-use Rattle.tmw_ring.proofs.Shared.{HasFoundNone, HasTaken, ReaderIs, ap, reader_in, reader_is, subst, sym, ℕ, ◌∙◌, arith}
+use Rattle.tmw_ring.proofs.Shared.{HasFoundNone, HasTaken, ReaderIs, ap, arith, reader_in, reader_is, subst, sym, ℕ, ◌∙◌}
 use Rattle.tmw_ring.proofs.TakeSteps.{looked_none, looked_ready, read_told, freed_taken}
 use Rattle.tmw_ring.proofs.ring_ends.Ring.take.Goals as goal
 

@@ -1,7 +1,5 @@
 -- Each part follows the one before it.
-use Rattle.tmw_show.proofs.Shared.{List, ap, append_assoc, members, ℕ, ◌++◌, ◌+◌, ◌∙◌, ◌≡◌}
-use Rattle.std.proofs.Common.{codes}
-use Rattle.tmw_show.specs.NeededEvents.{reason_of}
+use Rattle.tmw_show.proofs.Shared.{List, ap, append_assoc, codes, members, reason_of, ℕ, ◌++◌, ◌+◌, ◌∙◌, ◌≡◌}
 use Rattle.tmw_show.specs.Page.{about_json, mark_json, needed_json, told_of, why_json, window_json}
 use Rattle.tmw_show.proofs.page.json.push_json.Goals as goal
 

@@ -1,5 +1,4 @@
-use Rattle.tmw_witness.proofs.Shared.{IsTrue, List, [], after_writes, ap, arith, get_or-set_same, inl, inr, reads_hold, rules, slice_get_within, slice_set, state_of, sym, ℕ, ◌+◌, ◌∙◌, ◌≡◌}
-use Rattle.std.proofs.lemmas.List.{set-set}
+use Rattle.tmw_witness.proofs.Shared.{IsTrue, List, [], after_writes, ap, arith, get_or-set_same, inl, inr, reads_hold, rules, set-set, slice_get_within, slice_set, state_of, sym, ℕ, ◌+◌, ◌∙◌, ◌≡◌}
 use Rattle.tmw_witness.proofs.WitnessChanges.{AreLong, end-kept}
 use Rattle.tmw_witness.proofs.witness.Witness.hold.Goals as goal
 
