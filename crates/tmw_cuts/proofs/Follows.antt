@@ -1,5 +1,6 @@
 -- Where the threads are in a whole history, and with an event more.
-use Rattle.tmw_cuts.proofs.Shared.{Answer, Ask, Begin, End, Err, Event, Follows, Found, IsLater, IsNext, IsTrue, Ix, Kind, List, Malformed, Move, None, Option, Pairs, Refuses, Registers, Rejects, Some, StandsFor, Turns, Txn, Window, [], after_call, ap, arith, call_in, call_of, calls_in, false, find_open, found_after, found_in, goes_on, is_cut, is_ended, is_text, is_well_formed, is_well_formed-push, kept_in, lacks_register, length, list_all, list_all-append, live_of, numbered, option_map, pending_call, refl, refuses-from, subst, sym, transactions, true, turn_at, ℕ, ◌&&◌, ◌++◌, ◌∙◌, ◌∷◌, ◌≡◌}
+use Rattle.tmw_cuts.proofs.Shared.{Answer, Ask, Begin, End, Err, Event, Follows, Found, IsLater, IsNext, IsTrue, Ix, Kind, List, Malformed, Move, None, Option, Pairs, Refuses, Registers, Rejects, Some, StandsFor, Turns, Txn, Window, [], after_call, ap, arith, call_of, calls_in, false, find_open, found_in, goes_on, is_cut, is_ended, is_text, is_well_formed, is_well_formed-push, kept_in, lacks_register, length, list_all, list_all-append, live_of, numbered, option_map, pending_call, refl, refuses-from, subst, sym, transactions, true, turn_at, ℕ, ◌&&◌, ◌++◌, ◌∙◌, ◌∷◌, ◌≡◌}
+use Rattle.tmw_cuts.proofs.NextViews.{call_in, found_after}
 use Rattle.tmw_defs.proofs.CutsProof.{transactions-cut, behind, behind-later}
 use Rattle.tmw_cuts.proofs.Moves.{Means, asked_on, rejects}
 use Rattle.tmw_cuts.proofs.OneEventMore.{moves, turns-push}

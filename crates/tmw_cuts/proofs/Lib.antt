@@ -8,6 +8,7 @@ pub mod FirstMembers
 pub mod Follows
 pub mod Masks
 pub mod Moves
+pub mod NextViews
 pub mod OneEventMore
 pub mod Pushes
 mod RegisterUse

@@ -1,5 +1,6 @@
 -- Which events a thread's pending call lets go on, and what the others are refused for.
-use Rattle.tmw_cuts.proofs.Shared.{A, Answer, Ask, Begin, Bool, C, End, Err, Idle, Ix, K, Kind, Live, Malformed, Move, N, None, Ok, Op, Option, R, Rejects, Some, T, V, W, X, [], after_call, answers, answers_asked, arith, asks, call_in, false, goes_on, is_call_answer, is_call_asked, is_over, lacks_register, move_of, numbered, operation, option_map, refl, status_after, true, ℕ, ◌∷◌, ◌≡◌}
+use Rattle.tmw_cuts.proofs.Shared.{A, Answer, Ask, Begin, Bool, C, End, Err, Idle, Ix, K, Kind, Live, Malformed, Move, N, None, Ok, Op, Option, R, Rejects, Some, T, V, W, X, [], after_call, answers, answers_asked, arith, asks, false, goes_on, is_call_answer, is_call_asked, is_over, lacks_register, move_of, numbered, operation, option_map, refl, status_after, true, ℕ, ◌∷◌, ◌≡◌}
+use Rattle.tmw_cuts.proofs.NextViews.{call_in}
 
 abbrev pub ends_at : Kind → Bool
 ends_at k = is_over (status_after (Some k))

@@ -1,5 +1,6 @@
 -- A window stands for the events with one more, where it begins a transaction, asks, answers or ends.
-use Rattle.tmw_cuts.proofs.Shared.{Answer, Ask, Begin, End, Event, Found, IsNext, Ix, Kind, List, Live, Move, None, Option, Registers, Some, StandsFor, T, Turn, Txn, View, Window, [], add_event, answered_ops, ap, arith, asks, begun_by, between, bit_or, call_in, cases_Bool, completed_mask, eqb-false, eqb-true, false, find_open, found_after, found_in, get_or-set_other, get_or-set_same, goes_on, if◌then◌else◌, inl, inr, is_cut, is_end, is_over, is_well_formed, is_well_formed-push, kept_in, length, length-map, list_all, list_all-map, mod-eq_of_lt, numbered, ops_of, option_map, place_of, pow-suc, pow_mono, refl, slice_get, slice_set, subst, sym, transactions, transactions-push, true, turn_at, txns_of, view, view_of, views, views_after, views_of, ℕ, ◌%◌, ◌*◌, ◌++◌, ◌+◌, ◌<◌, ◌==◌, ◌^◌, ◌∙◌, ◌∷◌, ◌≡◌, ◌≤◌}
+use Rattle.tmw_cuts.proofs.Shared.{Answer, Ask, Begin, End, Event, Found, IsNext, Ix, Kind, List, Live, Move, None, Option, Registers, Some, StandsFor, T, Turn, Txn, View, Window, [], add_event, ap, arith, asks, begun_by, between, bit_or, cases_Bool, completed_mask, eqb-false, eqb-true, false, find_open, found_in, get_or-set_other, get_or-set_same, goes_on, if◌then◌else◌, inl, inr, is_cut, is_over, is_well_formed, is_well_formed-push, kept_in, length, length-map, list_all, list_all-map, mod-eq_of_lt, numbered, option_map, pow-suc, pow_mono, refl, slice_get, slice_set, subst, sym, transactions, transactions-push, true, turn_at, txns_of, view, view_of, views, views_of, ℕ, ◌%◌, ◌*◌, ◌++◌, ◌+◌, ◌<◌, ◌==◌, ◌^◌, ◌∙◌, ◌∷◌, ◌≡◌, ◌≤◌}
+use Rattle.tmw_cuts.proofs.NextViews.{answered_ops, call_in, found_after, is_end, ops_of, place_of, views_after}
 use Rattle.tmw_cuts.proofs.Moves.{Is, Means, accepts, asked_on, ends_at}
 use Rattle.tmw_cuts.proofs.Pushes.{views_of-push}
 use Rattle.tmw_cuts.proofs.TurnSteps.{call-found, closed, find_open-other, find_open-own, found_live, masks-push, place_in}

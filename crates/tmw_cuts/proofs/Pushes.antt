@@ -1,5 +1,6 @@
 -- What is to be shown of events when there is one more.
-use Rattle.tmw_cuts.proofs.Shared.{AllByRecursion, Event, Found, Kind, Lies, List, Txn, View, [], add_event, and-true, and_right, answered_ops, ap, append-nil, append_assoc, arith, before_of, call_of, completed_mask, false, find_open, further, is_ended, le-ltb, length, lies-transactions, lt-ltb, map, new_view, next_view, operation, operations, option_map, precedes, refl, status_of-push, transactions, transactions-push, view_of, views_after, views_of, ℕ, ◌++◌, ◌+◌, ◌∙◌, ◌∷◌, ◌≡◌, ◌≤◌}
+use Rattle.tmw_cuts.proofs.Shared.{AllByRecursion, Event, Found, Kind, Lies, List, Txn, View, [], add_event, and-true, and_right, ap, append-nil, append_assoc, arith, before_of, call_of, completed_mask, false, find_open, further, is_ended, le-ltb, length, lies-transactions, lt-ltb, map, new_view, operation, operations, option_map, precedes, refl, status_of-push, transactions, transactions-push, view_of, views_of, ℕ, ◌++◌, ◌+◌, ◌∙◌, ◌∷◌, ◌≡◌, ◌≤◌}
+use Rattle.tmw_cuts.proofs.NextViews.{answered_ops, next_view, views_after}
 use Rattle.tmw_defs.proofs.OneMore as more
 
 operations-push : (text : List Kind) (k : Kind) → operations (text ++ k ∷ []) ≡ operations text ++ answered_ops (call_of text) k

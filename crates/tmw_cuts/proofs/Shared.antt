@@ -34,15 +34,16 @@ pub use Rattle.tmw_wellformed.proofs.TextSteps.{call_of-push, goes_on}
 pub use Rattle.tmw_wellformed.proofs.TrackerSteps.{is_well_formed-push, refuses-from}
 pub use Rattle.tmw_wellformed.specs.Faults.{Refuses, asks, lacks_register}
 pub use Rattle.tmw_wellformed.specs.PendingCalls.{call_of, live_of, pending_call}
+pub use Rattle.tmw_wellformed.proofs.NextCall.{next_call}
 pub use Rattle.tmw_wellformed.specs.declared.malformed.Malformed.{Malformed}
 pub use Rattle.tmw_wellformed.specs.declared.malformed.Malformed.TheVariants.{Idle, Register}
 pub use Rattle.tmw_cuts.specs.Effects.{IsEffectOf, SumsUp}
 pub use Rattle.tmw_cuts.specs.RegisterMask.{IsMaskOf, have, put}
 unfoldable pub use Rattle.tmw_cuts.specs.RegisterMask.{chosen}
 pub use Rattle.tmw_cuts.specs.RegisterUse.{needs, writes}
-pub use Rattle.tmw_cuts.specs.StandsFor.{Follows, IsNext, StandsFor, before_of, begun_by, calls_in, count_of, is_end, turn_at, txns_of, view_of, views, views_of}
-pub use Rattle.tmw_cuts.specs.Turns.{Found, Turns, after_call, answered_ops, between, call_in, change, find_open, found_after, found_in, further, is_open_for, kept_in, move_of, numbered, ops_of, place_of, views_after}
-pub use Rattle.tmw_cuts.specs.Views.{View, bit, completed_mask, new_view, next_view, view, with_op, with_status}
+pub use Rattle.tmw_cuts.specs.StandsFor.{Follows, IsNext, StandsFor, before_of, begun_by, calls_in, count_of, turn_at, txns_of, view_of, views, views_of}
+pub use Rattle.tmw_cuts.specs.Turns.{Found, Turns, after_call, between, change, find_open, found_in, further, is_open_for, kept_in, move_of, numbered}
+pub use Rattle.tmw_cuts.specs.Views.{View, bit, completed_mask, new_view, view, with_op, with_status}
 pub use Rattle.tmw_cuts.specs.declared.effect.Effect.{Effect}
 pub use Rattle.tmw_cuts.specs.declared.turn.Move.{Move}
 pub use Rattle.tmw_cuts.specs.declared.turn.Move.TheVariants.{Answer, Ask, Begin, End}

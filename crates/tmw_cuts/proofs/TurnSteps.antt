@@ -1,5 +1,6 @@
 -- What one event more makes of what is found of a thread, and of the mask of those that have completed.
-use Rattle.tmw_cuts.proofs.Shared.{Bool, Event, Found, IsTrue, Kind, List, Live, None, Option, Some, T, Txn, View, [], add_event, and_parts, ap, arith, bit_at, bit_at-suc, bit_at-zero, bit_at_lowest, bit_or, call_in, call_of, call_of-push, calls_in, cases_Bool, completed_mask, ended_rest, false, find_open, found_after, further, if◌then◌else◌, inl, inr, is_ended, is_open_for, is_over, is_text, length, list_all, live_of, map, only_one, option_and_then, option_map, pow-suc, refl, slice_get, status_of, status_of-push, suc, transactions, transactions-push, true, view_of, views_after, views_of, ℕ, ◌%◌, ◌*◌, ◌++◌, ◌+◌, ◌<◌, ◌==◌, ◌^◌, ◌∙◌, ◌∷◌, ◌≡◌}
+use Rattle.tmw_cuts.proofs.Shared.{Bool, Event, Found, IsTrue, Kind, List, Live, None, Option, Some, T, Txn, View, [], add_event, and_parts, ap, arith, bit_at, bit_at-suc, bit_at-zero, bit_at_lowest, bit_or, call_of, call_of-push, calls_in, cases_Bool, completed_mask, ended_rest, false, find_open, further, if◌then◌else◌, inl, inr, is_ended, is_open_for, is_over, is_text, length, list_all, live_of, map, only_one, option_and_then, option_map, pow-suc, refl, slice_get, status_of, status_of-push, suc, transactions, transactions-push, true, view_of, views_of, ℕ, ◌%◌, ◌*◌, ◌++◌, ◌+◌, ◌<◌, ◌==◌, ◌^◌, ◌∙◌, ◌∷◌, ◌≡◌}
+use Rattle.tmw_cuts.proofs.NextViews.{call_in, found_after, views_after}
 use Rattle.tmw_defs.specs.ThreadTransactions.{ended_but_last, of_thread}
 use Rattle.tmw_defs.proofs.TextsProof.{texts_law}
 use Rattle.tmw_cuts.proofs.Bits.{high_bits, mask-set}

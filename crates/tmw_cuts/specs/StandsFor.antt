@@ -1,8 +1,8 @@
 -- Which events a window stands for: it shows their transactions, in the order of their first events.
-use Rattle.tmw_cuts.specs.Shared.{Bool, IsTrue, Kind, List, Ok, Option, Txn, [], false, is_well_formed, lacks_register, length, map, operations, option_map, precedes, slice_index_or, status_of, take, transactions, true, ℕ, ◌*◌, ◌+◌, ◌<◌, ◌∷◌, ◌≡◌}
+use Rattle.tmw_cuts.specs.Shared.{IsTrue, Kind, List, Ok, Option, Txn, [], false, is_well_formed, lacks_register, length, map, operations, option_map, precedes, slice_index_or, status_of, take, transactions, ℕ, ◌*◌, ◌+◌, ◌<◌, ◌∷◌, ◌≡◌}
 use Rattle.tmw_events.specs.declared.event.Event.{Event}
 use Rattle.tmw_cuts.specs.declared.turn.Move.{Move}
-use Rattle.tmw_cuts.specs.declared.turn.Move.TheVariants.{Begin, End}
+use Rattle.tmw_cuts.specs.declared.turn.Move.TheVariants.{Begin}
 use Rattle.tmw_cuts.specs.declared.turn.Turn.{Turn}
 use Rattle.tmw_cuts.specs.declared.window.Window.{Window}
 use Rattle.tmw_cuts.specs.Turns.{between, Found, after_call, find_open, found_in, kept_in}
@@ -59,11 +59,6 @@ pub record IsNext (window : Window) (event : Event) (move : Move) : Type 0 where
 abbrev pub begun_by : Move → ℕ
 begun_by Begin = 1
 begun_by _ = 0
-
--- It ends one.
-abbrev pub is_end : Move → Bool
-is_end (End p) = true
-is_end _ = false
 
 -- The calls of a thread's open transaction that have no answer: none, or one, or that it has no open transaction.
 abbrev pub calls_in : Found → Option (Option Kind)

@@ -1,11 +1,10 @@
 -- What a turn tells of a thread: the place of its open transaction and its pending call.
-use Rattle.tmw_cuts.specs.Shared.{Bool, Err, Ix, Kind, List, None, Ok, Op, Option, Result, Some, Txn, [], answers, asks, if◌then◌else◌, is_ended, is_over, not, operation, option_map, slice_index_or, slice_set, status_after, suc, zero, ℕ, ◌&&◌, ◌++◌, ◌==◌, ◌∷◌, ◌≡◌}
+use Rattle.tmw_cuts.specs.Shared.{Bool, Err, Ix, Kind, List, None, Ok, Op, Option, Result, Some, Txn, [], answers, asks, if◌then◌else◌, is_ended, not, operation, option_map, slice_index_or, slice_set, suc, zero, ℕ, ◌&&◌, ◌==◌, ◌∷◌, ◌≡◌}
 use Rattle.tmw_events.specs.declared.event.Kind.TheVariants.{A, R, W, T, X, N}
 use Rattle.tmw_events.specs.EventOfWords.{ix_of}
 use Rattle.tmw_wellformed.specs.declared.malformed.Malformed.{Malformed}
 use Rattle.tmw_wellformed.specs.declared.malformed.Malformed.TheVariants.{Busy, Idle, Mismatch}
-use Rattle.tmw_wellformed.specs.PendingCalls.{call_of, next_call}
-use Rattle.tmw_cuts.specs.Views.{View, new_view, next_view}
+use Rattle.tmw_wellformed.specs.PendingCalls.{call_of}
 use Rattle.tmw_cuts.specs.declared.turn.Turn.{Turn}
 use Rattle.tmw_cuts.specs.declared.turn.Stage.{Stage}
 use Rattle.tmw_cuts.specs.declared.turn.Stage.TheVariants.{Between, Within, Reading, Adding, Writing, Committing, Aborting}
@@ -62,11 +61,6 @@ abbrev pub find_open : ℕ → List Txn → Found
 find_open thread [] = None
 find_open thread (t ∷ ts) = if is_open_for thread t then Some (0, call_of t.text) else option_map further (find_open thread ts)
 
--- The pending call of it.
-abbrev pub call_in : Found → Option Kind
-call_in None = None
-call_in (Some f) = f.1
-
 -- An answer that makes an operation, or else ends the transaction.
 abbrev pub move_of : Ix → List Op → Move
 move_of p [] = End p
@@ -84,35 +78,8 @@ abbrev pub end_at : Ix → Kind → Result Move Malformed
 end_at p A = Ok (End p)
 end_at p k = if asks k then Err Busy else Err Mismatch
 
--- What is found of its thread after the event, where there were so many transactions.
-abbrev pub found_after : Found → ℕ → Kind → Found
-found_after None n k = if is_over (status_after (Some k)) then None else Some (n, Some k)
-found_after (Some f) n k = if is_over (status_after (Some k)) then None else Some (f.0, next_call f.1 k)
-
--- The operation that an event more makes with the call before it.
-abbrev pub answered_ops : Option Kind → Kind → List Op
-answered_ops None kind = []
-answered_ops (Some call) kind = operation call kind
-
 -- The list with one of its members changed.
 abbrev pub change : {A : Type 0} → ℕ → (A → A) → List A → List A
 change i f [] = []
 change zero f (x ∷ xs) = f x ∷ xs
 change (suc i) f (x ∷ xs) = x ∷ change i f xs
-
--- What is shown after the event, where the transactions in the mask have completed before it.
-abbrev pub views_after : Found → Kind → ℕ → List View → List View
-views_after None k before vs = vs ++ new_view k before ∷ []
-views_after (Some f) k before vs = change f.0 (next_view k (answered_ops f.1 k)) vs
-
--- The place of the transaction to which the event belongs, if that was there before.
-abbrev pub place_of : Move → Option Ix
-place_of Begin = None
-place_of (Ask p) = Some p
-place_of (Answer p op) = Some p
-place_of (End p) = Some p
-
--- The operations that it makes.
-abbrev pub ops_of : Move → List Op
-ops_of (Answer p op) = op ∷ []
-ops_of _ = []

@@ -32,10 +32,6 @@ completed_mask (v ∷ vs) = bit (is_over v.status) + 2 * completed_mask vs
 abbrev pub new_view : Kind → ℕ → View
 new_view kind before = record { ops = []; status = status_after (Some kind); before = before }
 
--- A transaction with an event of this kind more, which makes these operations.
-abbrev pub next_view : Kind → List Op → View → View
-next_view kind ops v = record v { ops = v.ops ++ ops; status = status_after (Some kind) }
-
 -- A transaction that has this status for its own.
 abbrev pub with_status : Status → View → View
 with_status status v = record v { status = status }

@@ -1,3 +1,4 @@
+pub mod CallTexts
 pub mod Calls
 pub mod Completions
 mod Examples

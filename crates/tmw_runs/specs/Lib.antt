@@ -1,6 +1,5 @@
 pub mod AnswersStand
 pub mod ByTurns
-pub mod CallsAndAnswers
 pub mod Laws
 pub mod Runs
 pub mod ScriptRest

@@ -26,10 +26,6 @@ is_transaction registers (call ∷ more) = is_operation registers call && is_tra
 abbrev pub are_transactions : ℕ → List (List Kind) → Bool
 are_transactions registers script = list_all (is_transaction registers) script
 
--- Each transaction of these makes calls alone, on registers that the run has.
-abbrev pub are_calls : ℕ → List (List Kind) → Bool
-are_calls registers script = list_all (list_all (is_call registers)) script
-
 -- The script that a vector of vectors of calls is.
 abbrev pub script_of : Vec (Vec Kind) → List (List Kind)
 script_of script = map (λ calls. calls.items) script.items

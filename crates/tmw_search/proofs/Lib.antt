@@ -10,6 +10,7 @@ pub mod LayerSteps
 mod LegalOrdersProof
 mod Nodes
 pub mod OneEnd
+pub mod RankedOrders
 mod Ranks
 mod ReadSteps
 mod RootNode

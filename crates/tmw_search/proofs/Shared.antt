@@ -36,7 +36,7 @@ pub use Rattle.tmw_events.specs.declared.event.Event.{Event}
 pub use Rattle.tmw_search.specs.EndStates.{AreEnds, EndsOf, Replaces, TellsEnd}
 pub use Rattle.tmw_search.specs.LastWriters.{Adds, AreEndsFrom, ComeBefore, ComesLast, Completes, EndWith, EndsByMore, EndsByReading, EndsFromAll, IsEndOf, IsPutLast, LeftByOne}
 pub use Rattle.tmw_search.specs.Layers.{Follows, InLayer, IsFirst, LeavesNone, Makes, MakesAt, chosen, pair_cmp}
-pub use Rattle.tmw_search.specs.LegalOrders.{ActAs, ActsAs, Agree, AreRanked, AreRising, Begins, EndsAt, EndsIn, Explains, HasEight, HaveEight, IsCompletion, IsLast, IsRoot, IsRow, IsSerial, Marks, NoneBeforeItself, NoneExplains, RanksTo, ReadsAll, Refutes, ShowsOrder, ShowsStatus, ShowsTransaction, ShowsTransactions, has_asked, has_committed, members_of, orderly}
+pub use Rattle.tmw_search.specs.LegalOrders.{Agree, AreRising, Begins, EndsAt, EndsIn, Explains, HasEight, HaveEight, IsLast, IsRoot, IsRow, IsSerial, Marks, NoneExplains, ReadsAll, Refutes, ShowsStatus, has_asked, has_committed, members_of, orderly}
 pub use Rattle.tmw_search.specs.NodeOrders.{AllOpen, Entails, FromIs, Gives, HasNone, Holds, In, IsBranch, IsFound, IsLegal, IsNode, IsOnly, IsSound, KeepsOthers, Leaves, LeavesOut, MayBe, MayGive, Needs, NoneMay, Reads, ReadsFrom, ReadsStart, Settles, TakesIn, Writes, effects, idle, left_at, looking, need_at, ordered}
 pub use Rattle.tmw_search.specs.OneEnd.{AreForced, IsForced, is_blind_writer, is_committed, is_writer}
 pub use Rattle.tmw_search.specs.Precedence.{AllSettled, Before, Chosen, ChosenBy, Has, IfClear, IfStuck, IsBetween, IsOrder, IsOut, IsRanking, IsRead, Joins, Narrows, Out, Passes, SettledBy, SettledSource, Sourced, WithinSource, is_open, lives, opens, room, source_at}

@@ -1,4 +1,5 @@
 pub mod HistorySteps
+pub mod NextCall
 pub mod PhaseTexts
 mod Shared
 pub mod TextSteps

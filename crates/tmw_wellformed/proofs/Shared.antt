@@ -10,7 +10,8 @@ pub use Rattle.tmw_defs.specs.History.{Txn, add_event, answers, ends, is_call, i
 pub use Rattle.tmw_events.specs.declared.event.Event.{Event}
 pub use Rattle.tmw_events.specs.declared.event.Kind.{Kind}
 pub use Rattle.tmw_wellformed.specs.Faults.{Refuses, asks, earlier, has_fault, lacks_register}
-pub use Rattle.tmw_wellformed.specs.PendingCalls.{call_of, live_count, live_of, next_call, pending_call}
+pub use Rattle.tmw_wellformed.specs.PendingCalls.{call_of, live_count, live_of, pending_call}
+pub use Rattle.tmw_wellformed.proofs.NextCall.{next_call}
 pub use Rattle.tmw_wellformed.specs.Phase.{is_live, next_phase, phase_of, phase_within, takes, waits}
 pub use Rattle.tmw_wellformed.specs.declared.malformed.Malformed.{Malformed}
 pub use Rattle.tmw_wellformed.specs.declared.malformed.Malformed.TheVariants.{Register}

@@ -7,11 +7,6 @@ call_of [] = None
 call_of (call ∷ []) = Some call
 call_of (call ∷ answer ∷ more) = call_of more
 
--- The call that has no answer after an event more.
-abbrev pub next_call : Option Kind → Kind → Option Kind
-next_call None kind = Some kind
-next_call (Some call) kind = None
-
 -- The thread's live transaction, the one that has not ended: all its transactions but the last have.
 abbrev pub live_of : ℕ → List Txn → Option Txn
 live_of thread ts = find (λ t. (t.thread == thread) && not (is_ended t.text)) ts

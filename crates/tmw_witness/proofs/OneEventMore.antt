@@ -1,5 +1,5 @@
 -- What one event more makes of the views of a window's transactions: one of them turns, or one begins.
-use Rattle.tmw_witness.proofs.Shared.{Ask, Begin, C, ExplainsWith, IsNext, List, PrecedesNone, Some, StandsFor, TurnsAt, View, Witness, [], and_parts, ap, append-nil, arith, asked_on, bit, bit_at, bit_within, completed_mask, count_of, ends_at, false, found-begun, found-moved, inl, inr, is_ended, is_over, left_out, length, length-views_of, live-next, moves, new_view, next_view, pow-suc, refl, same_place, shown_bit, shows-views_of, slice_get, slice_get_some, slice_get_within, subst, sym, transactions, true, views, views_of, ℕ, ◌++◌, ◌<◌, ◌^◌, ◌∙◌, ◌∷◌, ◌≡◌, ◌≤◌}
+use Rattle.tmw_witness.proofs.Shared.{Ask, Begin, C, ExplainsWith, IsNext, List, PrecedesNone, Some, StandsFor, TurnsAt, View, Witness, [], and_parts, ap, append-nil, arith, asked_on, bit, bit_at, bit_within, completed_mask, count_of, ends_at, false, found-begun, found-moved, inl, inr, is_ended, is_over, left_out, length, length-views_of, live-next, moves, new_view, next_view, ops_of, place_of, pow-suc, refl, same_place, shown_bit, shows-views_of, slice_get, slice_get_some, slice_get_within, subst, sym, transactions, true, views, views_after, views_of, ℕ, ◌++◌, ◌<◌, ◌^◌, ◌∙◌, ◌∷◌, ◌≡◌, ◌≤◌}
 use Rattle.tmw_witness.proofs.WitnessChanges.{left_out-kept, live-left_out}
 use Rattle.tmw_cuts.proofs.TurnSteps.{found_lives, found_within}
 use Rattle.tmw_cuts.proofs.Pushes.{views_of-push}
@@ -8,7 +8,7 @@ use Rattle.tmw_events.specs.declared.event.Event.{Event}
 use Rattle.tmw_events.specs.declared.ix.Ix.{Ix}
 use Rattle.tmw_cuts.specs.declared.turn.Move.{Move}
 use Rattle.tmw_cuts.specs.declared.window.Window.{Window}
-use Rattle.tmw_cuts.specs.Turns.{change, ops_of, place_of, views_after}
+use Rattle.tmw_cuts.specs.Turns.{change}
 use Rattle.tmw_cuts.proofs.Changes.{length-change, slice_get-change_here, slice_get-change_other}
 use Rattle.tmw_cuts.proofs.Masks.{bit-le}
 

@@ -1,7 +1,7 @@
 -- The serial order that a witness tells: rank by rank, first those that are left out, by their places, and then the one that is held.
 -- So the window has the end state of the highest rank.
 use Rattle.tmw_witness.proofs.Shared.{Below, Bool, Contains, Ends, HasWriter, IsTrue, IsWitness, Leads, List, MayStand, Some, State, Txn, View, Witness, [], after, ap, arith, bit, bit_at, bit_at-zero, bit_at_set_other, bit_at_set_same, bit_cases, bit_or, cases_Bool, cases_lt, chosen, committed_of, false, if◌then◌else◌, inl, inr, leads-first, length, masks, may_hold, precedes, rank_of, refl, same_place, slice_get, slice_get_some, slice_get_within, state_of, status_of, suc, sym, true, w8, zero, ℕ, ◌%◌, ◌*◌, ◌+◌, ◌/◌, ◌<◌, ◌^◌, ◌∙◌, ◌≡◌, ◌≤◌, ◌⊎◌}
-use Rattle.tmw_search.specs.LegalOrders.{ShowsTransaction, ShowsTransactions}
+use Rattle.tmw_search.proofs.RankedOrders.{ShowsTransaction, ShowsTransactions}
 use Rattle.tmw_search.proofs.Chosen.{chosen-zero, chosen_bits}
 
 -- where transaction j comes in the order

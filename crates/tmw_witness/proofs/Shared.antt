@@ -9,9 +9,10 @@ pub use Rattle.std.specs.Int.{bit_at}
 pub use Rattle.std.specs.List.{Contains}
 pub use Rattle.std.specs.Prelude.{slice_get, slice_set}
 pub use Rattle.tmw_cuts.proofs.Moves.{asked_on, ends_at}
+pub use Rattle.tmw_cuts.proofs.NextViews.{next_view, ops_of, place_of, views_after}
 pub use Rattle.tmw_cuts.proofs.OneEventMore.{found-begun, found-moved, length-views_of, live-next, moves}
 pub use Rattle.tmw_cuts.specs.StandsFor.{IsNext, StandsFor, count_of, views, views_of}
-pub use Rattle.tmw_cuts.specs.Views.{View, bit, completed_mask, new_view, next_view, view}
+pub use Rattle.tmw_cuts.specs.Views.{View, bit, completed_mask, new_view, view}
 pub use Rattle.tmw_cuts.specs.declared.turn.Move.TheVariants.{Answer, Ask, Begin, End}
 pub use Rattle.tmw_defs.proofs.QuietProof.{left_out}
 pub use Rattle.tmw_defs.specs.History.{Txn, is_ended, is_over, status_after, status_of, transactions}

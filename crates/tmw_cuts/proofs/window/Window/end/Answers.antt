@@ -1,5 +1,6 @@
 -- The thread's transaction ends.
-use Rattle.tmw_cuts.proofs.Shared.{End, Event, Ix, List, Some, Window, [], ap, append-nil, bit_or, change, map, next_view, numbered, option_map, refl, rules, status_after, take, view, views, with_status, ◌∙◌, ◌≡◌}
+use Rattle.tmw_cuts.proofs.Shared.{End, Event, Ix, List, Some, Window, [], ap, append-nil, bit_or, change, map, numbered, option_map, refl, rules, status_after, take, view, views, with_status, ◌∙◌, ◌≡◌}
+use Rattle.tmw_cuts.proofs.NextViews.{next_view}
 use Rattle.tmw_defs.specs.declared.status.Status.{Status}
 use Rattle.tmw_cuts.specs.declared.txn.Txn.{Txn}
 use Rattle.tmw_cuts.proofs.Changes.{change-alike}

@@ -1,0 +1,8 @@
+-- The pending call of a text with an event more.
+use Rattle.std.specs.Prelude.{None, Option, Some}
+use Rattle.tmw_events.specs.declared.event.Kind.{Kind}
+
+-- The call that has no answer after an event more.
+abbrev pub next_call : Option Kind → Kind → Option Kind
+next_call None kind = Some kind
+next_call (Some call) kind = None
