@@ -6,9 +6,9 @@ one of proofs, and one of definitions and contracts, which has nothing of the cr
 
 Run it at the top of the repository, then `rt fmt` and `rt check` in the crate's folder. It drops what a file names nowhere else, and
 takes a name from the same module in all files. A file keeps lines of its own for the crate's own lemmas and goals, for whole modules,
-for what it renames, and for modules that no other file cites. Of two things of one name the one that more files cite is shared. Where
-no lines are saved, nothing is written. A second run changes nothing, and Proof.antt stays as it is. Output: for each crate how many
-lines it saved. Exit status: 0.
+for what it renames, and for modules that no other file cites. Definitions and contracts take what Prelude has from there, as the gate
+asks. Of two things of one name the one that more files cite is shared. Where that saves no lines, nothing is written. A second run
+changes nothing, and Proof.antt stays as it is. Output: for each crate how many lines it saved. Exit status: 0.
 """
 import functools
 import re
@@ -21,6 +21,7 @@ HEADS = {
     "proofs": "-- What the proofs of this crate take from the libraries, from the crates below and from its specs.",
     "specs": "-- What the definitions and contracts of this crate take from the libraries and from the crates below.",
 }
+PRELUDE = "Rattle.std.specs.Prelude"
 USE = re.compile(r"(?:unfoldable )?(?:pub |ghost )?use (\S+)\.\{(.*)\};?")
 WORD = re.compile(r"\[\]|[^\s(){}\[\],;:.]+")
 LIBRARIES = Path(subprocess.check_output(["rt", "doc"], text=True).strip()).parent / "rlibs"
@@ -93,7 +94,8 @@ def write_side(crate, side):
             cited[home_of(module, name), name][module] += 1
     for file in files:
         file.names = {name: cited[home_of(module, name), name].most_common(1)[0][0] for name, module in file.names.items()}
-    users = Counter(module for file in files for module in set(file.names.values()) if not module.startswith(own))
+    apart = (own, PRELUDE) if side == "specs" else own
+    users = Counter(module for file in files for module in set(file.names.values()) if not module.startswith(apart))
     counts = Counter((name, module) for file in files for name, module in file.names.items() if users[module] > 1)
     through = {name: module for (name, module), _ in sorted(counts.items(), key=lambda it: (it[1], it[0]))}
     unfolded = {name for file in files for name in file.unfolded & set(file.names) if file.names[name] == through.get(name)}

@@ -1,8 +1,13 @@
 -- The names of criteria and memories.
-use Rattle.tmw_args.specs.Shared.{Asked, Both, Criterion, List, Opacity, Option, Strict, Text, [], bytes_eq, codes, find, ◌∷◌}
+use Rattle.std.specs.Prelude.{List, [], ◌∷◌, Option, codes, find}
+use Rattle.std.specs.Str.{bytes_eq}
+use Rattle.clap.specs.Words.{Text}
+use Rattle.tmw_defs.specs.declared.criterion.Asked.{Asked}
+use Rattle.tmw_defs.specs.declared.criterion.Asked.TheVariants.{Opacity, Strict, Both}
+use Rattle.tmw_defs.specs.declared.criterion.Criterion.{Criterion}
+use Rattle.tmw_defs.specs.declared.criterion.Criterion.TheVariants as by
 use Rattle.tmw_args.specs.declared.which_memory.Which.{Which}
 use Rattle.tmw_args.specs.declared.which_memory.Which.TheVariants.{NoRec, Lock, Torn}
-use Rattle.tmw_defs.specs.declared.criterion.Criterion.TheVariants as by
 
 -- the first of these that has this name, if one has
 abbrev pub named : {A : Type 0} → (A → Text) → List A → Text → Option A

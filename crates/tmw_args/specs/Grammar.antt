@@ -1,8 +1,12 @@
 -- The program's commands and options, as the parser of command lines sees them.
-use Rattle.tmw_args.specs.Shared.{App, List, Names, Opacity, Rule, Signed, Some, Text, Unsigned, [], codes, map, new_app, new_rule, pos, texts, true, with_rule, with_subcommand, ℕ, ◌∷◌, ◌≡◌}
+use Rattle.std.specs.Prelude.{◌≡◌, ℕ, List, [], ◌∷◌, Some, codes, map, true, pos}
 use Rattle.std.specs.Borrow.{Bor}
+use Rattle.clap.specs.Walk.{texts}
+use Rattle.clap.specs.Words.{App, Rule, Text, new_app, new_rule, with_rule, with_subcommand}
 use Rattle.clap.specs.declared.builder.action.ArgAction.TheVariants.{SetTrue}
 use Rattle.clap.specs.declared.builder.value_parser.ValueParser.{ValueParser}
+use Rattle.clap.specs.declared.builder.value_parser.ValueParser.TheVariants.{Names, Signed, Unsigned}
+use Rattle.tmw_defs.specs.declared.criterion.Asked.TheVariants.{Opacity}
 use Rattle.tmw_args.specs.CriteriaAndMemories.{asked_name, criterion_name, every_asked, every_criterion, every_memory, memory_name}
 use Rattle.tmw_args.specs.declared.which_memory.Which.TheVariants.{NoRec}
 

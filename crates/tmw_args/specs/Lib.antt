@@ -3,4 +3,3 @@ pub mod CriteriaAndMemories
 pub mod Grammar
 pub mod OptionNumbers
 pub mod ReadWords
-mod Shared

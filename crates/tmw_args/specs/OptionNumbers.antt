@@ -1,7 +1,9 @@
 -- The numbers of options.
-use Rattle.tmw_args.specs.Shared.{Bool, None, Option, Some, Text, Unsigned, false, refl, true, ℕ, ◌≡◌, ◌≤◌}
+use Rattle.std.proofs.Common.{◌≡◌, ◌≤◌, ℕ, Bool, true, false, Option, Some, None, refl}
 use Rattle.std.specs.Str.Parse.{digits_value, without_leading_plus}
+use Rattle.clap.specs.Words.{Text}
 use Rattle.clap.specs.ValueTests.{accepts}
+use Rattle.clap.specs.declared.builder.value_parser.ValueParser.TheVariants.{Unsigned}
 use Rattle.clap.proofs.ValueTestLemmas.{accepts-Accepts}
 
 -- a number from `least` to `most`

@@ -1,5 +1,8 @@
 -- How the words of a command line are read.
-use Rattle.tmw_args.specs.Shared.{App, ArgumentConflict, DisplayHelp, DisplayVersion, Err, ErrorKind, IsAmong, List, Ok, OutOfMemory, Result, Text, ◌≡◌, ◌≢◌, ◌⊎◌}
+use Rattle.std.specs.Prelude.{◌≡◌, ◌≢◌, ◌⊎◌, List, Result, Ok, Err}
+use Rattle.clap.specs.Words.{App, IsAmong, Text}
+use Rattle.clap.specs.declared.error.kind.ErrorKind.{ErrorKind}
+use Rattle.clap.specs.declared.error.kind.ErrorKind.TheVariants.{ArgumentConflict, DisplayHelp, DisplayVersion, OutOfMemory}
 use Rattle.tmw_args.specs.Grammar.{IsProgram}
 use Rattle.tmw_args.specs.CommandOrder.{Asks, AsksForHelp, AsksForNothing, AsksForVersion, IsWrong, kinds_of}
 use Rattle.tmw_args.specs.declared.command_order.Order.{Order}

@@ -1,4 +1,5 @@
-ghost use Rattle.tmw_args.specs.Shared.{kind_of, map};
+ghost use Rattle.std.specs.Prelude.{map};
+ghost use Rattle.clap.specs.Words.{kind_of};
 ghost use Rattle.tmw_args.specs.ReadWords.{IsReading, IsRefusal};
 
 use crate::command_order::Order;

@@ -1,4 +1,4 @@
-ghost use Rattle.tmw_args.specs.Shared.{◌≡◌};
+ghost use Rattle.std.specs.Prelude.{◌≡◌};
 ghost use Rattle.tmw_args.specs.CriteriaAndMemories.{asked_named, criterion_named};
 
 use tmw_defs::{Asked, Criterion};

@@ -1,4 +1,6 @@
-ghost use Rattle.tmw_args.specs.Shared.{AddsSubcommand, IfOk, IsOkAnd, Names, Unsigned, app_of, codes, false, new_app, rule_of, ◌≡◌};
+ghost use Rattle.std.specs.Prelude.{◌≡◌, IfOk, IsOkAnd, codes, false};
+ghost use Rattle.clap.specs.Words.{AddsSubcommand, app_of, new_app, rule_of};
+ghost use Rattle.clap.specs.declared.builder.value_parser.ValueParser.TheVariants.{Names, Unsigned};
 ghost use Rattle.tmw_args.specs.Grammar.{IsProgram, bench_among, drive_among, flag_rule, judge_among, one_to, show_among, steps, value_rule, wanting, with_before, with_bounds, with_counts, with_criterion, with_flag, with_memory, with_run_flags};
 
 use clap::builder::ValueParser;

@@ -1,4 +1,6 @@
-ghost use Rattle.tmw_args.specs.Shared.{App, IfErr, IfOk, IfSome, List, Text, app_of, first_of, found_of, kind_of, map, option_map, rows_of, subcommand_rows_of, texts, ◌≡◌, ◌≤◌};
+ghost use Rattle.std.specs.Prelude.{◌≡◌, ◌≤◌, List, IfErr, IfOk, IfSome, map, option_map};
+ghost use Rattle.clap.specs.Walk.{texts};
+ghost use Rattle.clap.specs.Words.{App, Text, app_of, first_of, found_of, kind_of, rows_of, subcommand_rows_of};
 ghost use Rattle.tmw_args.specs.Grammar.{IsProgram};
 ghost use Rattle.tmw_args.specs.ReadWords.{FailsAs};
 ghost use Rattle.tmw_args.specs.CommandOrder.{Asks, asked_in, bench_in, bounds_in, criterion_in, drive_in, flag_in, form_by, form_in, help_as_flag, judge_in, memory_in, names_help, number_in, order_in, run_options_in, settings_in, show_in};

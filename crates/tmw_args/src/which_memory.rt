@@ -1,4 +1,4 @@
-ghost use Rattle.tmw_args.specs.Shared.{◌≡◌};
+ghost use Rattle.std.specs.Prelude.{◌≡◌};
 ghost use Rattle.tmw_args.specs.CriteriaAndMemories.{memory_named};
 
 /// A transactional memory that the program has.

@@ -1,5 +1,6 @@
 -- The text of what threads have made of a memory.
-use Rattle.tmw_command.specs.Shared.{BenchOptions, Bool, Ending, List, Opacity, Summary, [], cond, is_open, not, report_text, shown_status, shown_text, true, ℕ, ◌&&◌, ◌++◌, ◌||◌}
+use Rattle.tmw_command.specs.Shared.{BenchOptions, Ending, Opacity, Summary, is_open, report_text, shown_status, shown_text}
+use Rattle.std.specs.Prelude.{Bool, List, [], cond, not, true, ℕ, ◌&&◌, ◌++◌, ◌||◌}
 use Rattle.tmw_bench.specs.declared.bench_result.BenchResult.{BenchResult}
 use Rattle.tmw_bench.specs.declared.hunt_result.HuntResult.{HuntResult}
 use Rattle.tmw_options.specs.declared.form.Form.{Form}

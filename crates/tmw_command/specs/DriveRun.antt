@@ -1,5 +1,6 @@
 -- The text of what a memory made of a workload.
-use Rattle.tmw_command.specs.Shared.{Bool, List, Registers, RunOptions, Summary, [], cond, length, report_text, verdict_status, zeros, ℕ, ◌++◌, ◌||◌, ◌≡◌}
+use Rattle.tmw_command.specs.Shared.{Registers, RunOptions, Summary, report_text, verdict_status, zeros}
+use Rattle.std.specs.Prelude.{Bool, List, [], cond, length, ℕ, ◌++◌, ◌||◌, ◌≡◌}
 use Rattle.tmw_events.specs.declared.event.Event.{Event}
 use Rattle.tmw_report.specs.SummaryLine.{summary_text}
 use Rattle.tmw_command.specs.declared.drive.drive_run.DriveRun.{DriveRun}

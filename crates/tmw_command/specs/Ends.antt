@@ -1,5 +1,6 @@
 -- The line that tells how each thread has ended: compact JSON, with its line feed.
-use Rattle.tmw_command.specs.Shared.{Ending, List, [], codes, ℕ, ◌++◌, ◌∷◌}
+use Rattle.tmw_command.specs.Shared.{Ending}
+use Rattle.std.specs.Prelude.{List, [], codes, ℕ, ◌++◌, ◌∷◌}
 use Rattle.tmw_drive.specs.declared.ending.Ending.TheVariants.{Done, Left, Stopped}
 use Rattle.tmw_ring.specs.declared.refused.Refused.TheVariants.{Full, Spent}
 

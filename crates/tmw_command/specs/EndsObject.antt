@@ -1,5 +1,6 @@
 -- The JSON object that tells how each thread has ended, of which the line is the compact text.
-use Rattle.tmw_command.specs.Shared.{Ending, List, codes, items_of, map}
+use Rattle.tmw_command.specs.Shared.{Ending, items_of}
+use Rattle.std.specs.Prelude.{List, codes, map}
 use Rattle.serde_json.specs.Data.{Data, array, member, no_members, object, string}
 use Rattle.tmw_command.specs.Ends.{end_word}
 

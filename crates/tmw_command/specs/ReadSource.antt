@@ -1,5 +1,6 @@
 -- What is read of a workload: from the bytes that a source tells to the workload or a fault.
-use Rattle.tmw_command.specs.Shared.{Err, Fault, Io, IsTrue, Json, List, Memory, Ok, Result, Shape, ℕ}
+use Rattle.tmw_command.specs.Shared.{Fault, Io, Json, Memory, Shape}
+use Rattle.std.specs.Prelude.{Err, IsTrue, List, Ok, Result, ℕ}
 use Rattle.tmw_events.specs.declared.event.Kind.{Kind}
 use Rattle.tmw_runs.specs.Scripts.{scripts_of}
 use Rattle.tmw_workloads.specs.Json.{IsNoText, IsOtherText, IsWorkloadText}

@@ -1,5 +1,6 @@
 -- What `bench` promises: from the bytes that its source tells to what its sink takes and the exit status.
-use Rattle.tmw_command.specs.Shared.{BenchOptions, Err, Fault, FromSource, IsNeededOf, IsRemarkedRun, List, MatchBool, MemoryIs, Ok, Opacity, Registers, RemarksRun, Result, ToSink, length, ℕ, ◌≤◌}
+use Rattle.tmw_command.specs.Shared.{BenchOptions, Fault, FromSource, IsNeededOf, IsRemarkedRun, MatchBool, MemoryIs, Opacity, Registers, RemarksRun, ToSink}
+use Rattle.std.specs.Prelude.{Err, List, Ok, Result, length, ℕ, ◌≤◌}
 use Rattle.tmw_bench.specs.BenchHeadline.{IsBenched, IsHunted, IsNoBench}
 use Rattle.tmw_bench.specs.declared.fault.BenchFault.{BenchFault}
 use Rattle.tmw_options.specs.declared.bench_settings.Settings.{Settings}

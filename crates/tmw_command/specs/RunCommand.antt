@@ -1,6 +1,7 @@
 -- What a run of the command line does: from its words and the bytes that its source tells to what its two sinks take and the
 -- exit status. The second sink is for errors.
-use Rattle.tmw_command.specs.Shared.{Err, Fault, FromSource, IsPut, IsSent, List, MemoryIs, Ok, Result, ShowsBytes, ToSink, Which, fault_line, string_bytes, ℕ, ◌≡◌}
+use Rattle.tmw_command.specs.Shared.{Fault, FromSource, IsPut, IsSent, MemoryIs, ShowsBytes, ToSink, Which, fault_line}
+use Rattle.std.specs.Prelude.{Err, List, Ok, Result, string_bytes, ℕ, ◌≡◌}
 use Rattle.clap.specs.Words.{Text}
 use Rattle.tmw_judge.specs.Answer.{JudgesWith}
 use Rattle.tmw_command.specs.RunBench.{BenchesBytes}

@@ -1,5 +1,6 @@
 -- What `drive` promises: from the bytes that its source tells to what its sink takes and the exit status.
-use Rattle.tmw_command.specs.Shared.{Err, Fault, FromSource, IsCommandRun, List, MemoryIs, Ok, Registers, Result, RunOptions, ToSink, part_by, zeros, ℕ, ◌<◌, ◌≡◌, ◌≤◌}
+use Rattle.tmw_command.specs.Shared.{Fault, FromSource, IsCommandRun, MemoryIs, Registers, RunOptions, ToSink, part_by, zeros}
+use Rattle.std.specs.Prelude.{Err, List, Ok, Result, ℕ, ◌<◌, ◌≡◌, ◌≤◌}
 use Rattle.tmw_defs.specs.Verdict.{IsVerdict}
 use Rattle.tmw_defs.specs.declared.verdict.Verdict.TheVariants.{Malformed}
 use Rattle.tmw_counts.specs.Summary.{IsSummary}

@@ -1,6 +1,5 @@
 -- What the definitions and contracts of this crate take from the libraries and from the crates below.
 pub use Rattle.std.specs.Bool.{MatchBool}
-pub use Rattle.std.specs.Prelude.{Bool, Err, IfErr, IfOk, IsTrue, List, None, Ok, OnOk, Result, Some, [], codes, cond, length, map, not, string_bytes, true, ℕ, ◌&&◌, ◌++◌, ◌<◌, ◌||◌, ◌∷◌, ◌≡◌, ◌≤◌, ◌⊎◌}
 pub use Rattle.serde_json.specs.View.{items_of, view}
 pub use Rattle.tmw_args.specs.declared.bench_options.BenchOptions.{BenchOptions}
 pub use Rattle.tmw_args.specs.declared.run_options.RunOptions.{RunOptions}

@@ -1,5 +1,5 @@
 -- The line that tells which program this is.
-use Rattle.tmw_command.specs.Shared.{List, codes, ℕ}
+use Rattle.std.specs.Prelude.{List, codes, ℕ}
 
 -- its name and version, and what it judges by, with a line feed
 abbrev pub version_line : List ℕ

@@ -1,4 +1,5 @@
-ghost use Rattle.tmw_command.specs.Shared.{IsPut, IsSent, map, memory_is, string_bytes};
+ghost use Rattle.tmw_command.specs.Shared.{IsPut, IsSent, memory_is};
+ghost use Rattle.std.specs.Prelude.{map, string_bytes};
 ghost use Rattle.std.specs.Result.{result_map_both};
 ghost use Rattle.tmw_command.specs.RunCommand.{AnswersRefusal, RunsCommand, RunsOrder, by_which, streams};
 

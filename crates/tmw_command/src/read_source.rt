@@ -1,5 +1,6 @@
 //! A workload, read from its text.
-ghost use Rattle.tmw_command.specs.Shared.{List, Tells, failures_after_answer, ℕ, ◌≡◌};
+ghost use Rattle.tmw_command.specs.Shared.{Tells, failures_after_answer};
+ghost use Rattle.std.specs.Prelude.{List, ℕ, ◌≡◌};
 ghost use Rattle.tmw_command.specs.ReadSource.{AnswersText};
 
 use std::alloc::Global;

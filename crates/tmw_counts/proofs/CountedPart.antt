@@ -1,5 +1,5 @@
 -- The part of a history that is counted beside its verdict, with one event more.
-use Rattle.tmw_counts.proofs.Shared.{AreFine, Bool, Event, IsFalse, IsFine, IsFirst, IsFirst-push, IsMalformed, IsTooMany, IsTooWide, IsTrue, IsVerdict, IsViolated, List, Rules, [], ap, arith, both_ways, cases_Bool, counted_by, false, if◌then◌else◌, inl, inr, is_open, is_well_formed, length, length-push, part_by, refl, subst, sym, take, take-push, take_all, take_all-push, true, verdict-one, ℕ, ◌++◌, ◌+◌, ◌∙◌, ◌∷◌, ◌≡◌, ◌≤◌, rules}
+use Rattle.tmw_counts.proofs.Shared.{AreFine, Bool, Event, IsFalse, IsFine, IsFirst, IsFirst-push, IsMalformed, IsTooMany, IsTooWide, IsTrue, IsVerdict, IsViolated, List, Rules, [], ap, arith, both_ways, cases_Bool, counted_by, false, if◌then◌else◌, inl, inr, is_open, is_well_formed, length, length-push, part_by, refl, rules, subst, sym, take, take-push, take_all, take_all-push, true, verdict-one, ℕ, ◌++◌, ◌+◌, ◌∙◌, ◌∷◌, ◌≡◌, ◌≤◌}
 use Rattle.tmw_defs.specs.declared.verdict.Verdict.{Verdict}
 use Rattle.tmw_defs.specs.declared.verdict.Verdict.TheVariants.{OpaqueSoFar, StrictSoFar, Violated, Undecided, Malformed}
 use Rattle.tmw_defs.specs.declared.verdict.Why.TheVariants.{Transactions, States}

@@ -1,5 +1,5 @@
 -- Counting the members of a list that pass a test.
-use Rattle.tmw_counts.proofs.Shared.{Bool, List, [], ap, arith, cases_Bool, count_by, false, inl, inr, length, list_any, not, one_if, refl, true, ◌&&◌, ◌++◌, ◌+◌, ◌<◌, ◌||◌, ◌∷◌, ◌≡◌, ◌≤◌, rules}
+use Rattle.tmw_counts.proofs.Shared.{Bool, List, [], ap, arith, cases_Bool, count_by, false, inl, inr, length, list_any, not, one_if, refl, rules, true, ◌&&◌, ◌++◌, ◌+◌, ◌<◌, ◌||◌, ◌∷◌, ◌≡◌, ◌≤◌}
 use Rattle.std.proofs.lemmas.List.Sums.{sum_by-cons}
 
 pub count-cons : {A : Type 0} (p : A → Bool) (x : A) (xs : List A) → count_by p (x ∷ xs) ≡ one_if (p x) + count_by p xs

@@ -1,5 +1,6 @@
 -- Which part of a history is counted beside its verdict: the events up to the one that the verdict names.
-use Rattle.tmw_counts.specs.Shared.{Bool, Event, List, false, length, take, true, ℕ, ◌-◌}
+use Rattle.std.specs.Prelude.{ℕ, ◌-◌, Bool, true, false, List, length, take}
+use Rattle.tmw_events.specs.declared.event.Event.{Event}
 use Rattle.tmw_defs.specs.declared.verdict.Verdict.{Verdict}
 use Rattle.tmw_defs.specs.declared.verdict.Verdict.TheVariants.{OpaqueSoFar, StrictSoFar, Violated, Undecided, Malformed}
 

@@ -1,7 +1,9 @@
 -- Which history a counter stands for, and how one event more changes it.
-use Rattle.tmw_counts.specs.Shared.{Bool, Event, HasCounts, List, Option, Some, count_by, false, if◌then◌else◌, length, max, min, not, overlaps_any, take, true, ℕ, ◌&&◌, ◌+◌, ◌-◌, ◌==◌, ◌^◌, ◌≡◌}
+use Rattle.std.specs.Prelude.{◌≡◌, ◌==◌, ◌&&◌, ◌+◌, ◌-◌, ◌^◌, ℕ, Bool, true, false, not, List, Option, Some, length, take, count_by, min, max, if◌then◌else◌}
+use Rattle.tmw_events.specs.declared.event.Event.{Event}
 use Rattle.tmw_counts.specs.Threads.{HasThreads}
 use Rattle.tmw_counts.specs.declared.counter.Counter.{Counter}
+use Rattle.tmw_defs.specs.Counts.{HasCounts, overlaps_any}
 use Rattle.tmw_defs.specs.declared.counts.Counts.{Counts}
 use Rattle.tmw_defs.specs.History.{is_ended, transactions}
 use Rattle.tmw_defs.specs.LastCut.{IsLastCut}

@@ -1,6 +1,8 @@
 -- What is told of a history beside its verdict.
-use Rattle.tmw_counts.specs.Shared.{Event, HasCounts, List, none_overlapped, ◌≡◌}
+use Rattle.std.specs.Prelude.{◌≡◌, List}
 use Rattle.tmw_counts.specs.declared.summary.Summary.{Summary}
+use Rattle.tmw_defs.specs.Counts.{HasCounts, none_overlapped}
+use Rattle.tmw_events.specs.declared.event.Event.{Event}
 
 -- The counts are the history's, and it is told whether no two of its transactions overlapped, although there are two threads.
 pub record IsSummary (history : List Event) (summary : Summary) : Type 0 where

@@ -1,6 +1,8 @@
 -- Of which threads a history has events: of none, of one, or of more.
-use Rattle.tmw_counts.specs.Shared.{Event, List, None, Option, Some, [], has_two_threads, ◌∷◌, ◌≡◌}
+use Rattle.std.specs.Prelude.{◌≡◌, List, [], ◌∷◌, Option, Some, None}
 use Rattle.tmw_counts.specs.declared.threads.Threads.{Threads}
+use Rattle.tmw_defs.specs.Counts.{has_two_threads}
+use Rattle.tmw_events.specs.declared.event.Event.{Event}
 use Rattle.tmw_events.specs.declared.ix.Ix.{Ix}
 
 -- the thread of a history's first event

@@ -1,4 +1,4 @@
-ghost use Rattle.tmw_counts.specs.Shared.{◌≡◌};
+ghost use Rattle.std.specs.Prelude.{◌≡◌};
 ghost use Rattle.tmw_counts.specs.CountedPart.{counted_by, is_open};
 
 use tmw_defs::Verdict;

@@ -1,6 +1,7 @@
-ghost use Rattle.tmw_counts.specs.Shared.{Event, IfErr, IfOk, List, OnErr, [], length, ℕ, ◌++◌, ◌-◌, ◌<◌, ◌^◌, ◌∷◌, ◌≡◌};
+ghost use Rattle.std.specs.Prelude.{◌≡◌, ◌<◌, ◌-◌, ◌^◌, ℕ, List, [], ◌∷◌, ◌++◌, length, IfOk, IfErr, OnErr};
 ghost use Rattle.tmw_counts.specs.Counter.{AreCounted, CountsSo, IsStep, aborts, commits, meets};
 ghost use Rattle.tmw_counts.specs.Summary.{IsSummary};
+ghost use Rattle.tmw_events.specs.declared.event.Event.{Event};
 ghost use Rattle.tmw_wellformed.specs.Faults.{Refuses};
 
 use crate::summary::Summary;

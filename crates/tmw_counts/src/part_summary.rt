@@ -1,4 +1,4 @@
-ghost use Rattle.tmw_counts.specs.Shared.{length, ◌-◌, ◌<◌, ◌^◌, ◌≡◌};
+ghost use Rattle.std.specs.Prelude.{◌≡◌, ◌<◌, ◌-◌, ◌^◌, length};
 ghost use Rattle.tmw_counts.specs.CountedPart.{part_by};
 ghost use Rattle.tmw_counts.specs.Summary.{IsSummary};
 ghost use Rattle.tmw_defs.specs.Verdict.{IsVerdict, Rules};

@@ -1,5 +1,7 @@
-ghost use Rattle.tmw_counts.specs.Shared.{Event, List, [], has_two_threads, ◌++◌, ◌∷◌, ◌≡◌};
+ghost use Rattle.std.specs.Prelude.{◌≡◌, List, [], ◌∷◌, ◌++◌};
 ghost use Rattle.tmw_counts.specs.Threads.{HasThreads};
+ghost use Rattle.tmw_defs.specs.Counts.{has_two_threads};
+ghost use Rattle.tmw_events.specs.declared.event.Event.{Event};
 
 use tmw_events::Ix;
 

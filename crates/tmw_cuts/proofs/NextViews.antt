@@ -1,5 +1,6 @@
 -- What an event more makes of the views of a history's transactions, by its turn.
-use Rattle.tmw_cuts.proofs.Shared.{Answer, Ask, Begin, Bool, End, Found, Ix, Kind, List, Move, None, Op, Option, Some, View, [], change, false, if◌then◌else◌, is_over, new_view, next_call, operation, status_after, true, ℕ, ◌++◌, ◌∷◌}
+use Rattle.tmw_cuts.proofs.Shared.{Answer, Ask, Begin, Bool, End, Found, Ix, Kind, List, Move, None, Op, Option, Some, View, [], change, false, if◌then◌else◌, is_over, new_view, operation, status_after, true, ℕ, ◌++◌, ◌∷◌}
+use Rattle.tmw_wellformed.proofs.NextCall.{next_call}
 
 -- The pending call of what is found of a thread.
 abbrev pub call_in : Found → Option Kind

@@ -34,7 +34,6 @@ pub use Rattle.tmw_wellformed.proofs.TextSteps.{call_of-push, goes_on}
 pub use Rattle.tmw_wellformed.proofs.TrackerSteps.{is_well_formed-push, refuses-from}
 pub use Rattle.tmw_wellformed.specs.Faults.{Refuses, asks, lacks_register}
 pub use Rattle.tmw_wellformed.specs.PendingCalls.{call_of, live_of, pending_call}
-pub use Rattle.tmw_wellformed.proofs.NextCall.{next_call}
 pub use Rattle.tmw_wellformed.specs.declared.malformed.Malformed.{Malformed}
 pub use Rattle.tmw_wellformed.specs.declared.malformed.Malformed.TheVariants.{Idle, Register}
 pub use Rattle.tmw_cuts.specs.Effects.{IsEffectOf, SumsUp}

@@ -1,5 +1,6 @@
 -- What an effect tells of operations, from any state of eight registers.
-use Rattle.tmw_cuts.specs.Shared.{Bool, List, Op, State, after_writes, length, reads_hold, ◌&&◌, ◌==◌, ◌≡◌}
+use Rattle.tmw_cuts.specs.Shared.{Op, State, after_writes, reads_hold}
+use Rattle.std.specs.Prelude.{Bool, List, length, ◌&&◌, ◌==◌, ◌≡◌}
 use Rattle.std.specs.Coded.{Π_prop, ×_prop, Coded-set, coded_bool, coded_list, coded_ℕ}
 use Rattle.tmw_cuts.specs.declared.effect.Effect.{Effect}
 use Rattle.tmw_cuts.specs.RegisterMask.{IsMaskOf, chosen, have, put}

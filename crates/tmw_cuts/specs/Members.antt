@@ -1,5 +1,6 @@
 -- The states of a set, in rising order: register 0 is compared first.
-use Rattle.tmw_cuts.specs.Shared.{Contains, List, State, vec_capacity, ℕ, ◌↔◌, ◌≡◌, ◌≤◌, ◌⊎◌}
+use Rattle.tmw_cuts.specs.Shared.{Contains, State}
+use Rattle.std.specs.Prelude.{List, vec_capacity, ℕ, ◌↔◌, ◌≡◌, ◌≤◌, ◌⊎◌}
 use Rattle.tmw_cuts.specs.declared.states.States.{States}
 
 abbrev pub members : States → List State

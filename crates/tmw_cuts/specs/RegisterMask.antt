@@ -1,5 +1,6 @@
 -- Some of the registers: as a mask, or as two lists, of which the first says which they are, and the second has their values.
-use Rattle.tmw_cuts.specs.Shared.{Bool, List, State, [], bit_at, if◌then◌else◌, map, not, range_with_len, true, ℕ, ◌&&◌, ◌==◌, ◌||◌, ◌∷◌, ◌≡◌}
+use Rattle.tmw_cuts.specs.Shared.{State, bit_at, range_with_len}
+use Rattle.std.specs.Prelude.{Bool, List, [], if◌then◌else◌, map, not, true, ℕ, ◌&&◌, ◌==◌, ◌||◌, ◌∷◌, ◌≡◌}
 
 -- Bit r of the mask is 1 exactly where the test holds of r: the mask is of these registers, and has no other bit.
 abbrev pub IsMaskOf : (ℕ → Bool) → ℕ → Type 0

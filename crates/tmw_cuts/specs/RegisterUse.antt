@@ -1,5 +1,6 @@
 -- What operations do to a register.
-use Rattle.tmw_cuts.specs.Shared.{Add, Bool, List, Op, Option, Read, Some, Write, [], false, if◌then◌else◌, not, ℕ, ◌%◌, ◌&&◌, ◌+◌, ◌==◌, ◌^◌, ◌||◌, ◌∷◌}
+use Rattle.tmw_cuts.specs.Shared.{Add, Op, Read, Write}
+use Rattle.std.specs.Prelude.{Bool, List, Option, Some, [], false, if◌then◌else◌, not, ℕ, ◌%◌, ◌&&◌, ◌+◌, ◌==◌, ◌^◌, ◌||◌, ◌∷◌}
 
 -- One of the operations writes or adds to the register.
 abbrev pub writes : ℕ → List Op → Bool

@@ -1,7 +1,6 @@
 -- What the definitions and contracts of this crate take from the libraries and from the crates below.
 pub use Rattle.std.specs.Int.{bit_at}
 pub use Rattle.std.specs.List.{Contains, range_with_len}
-pub use Rattle.std.specs.Prelude.{Bool, Err, IfErr, IfOk, IsFalse, IsTrue, List, MatchOption, None, Ok, OnErr, OnOk, Option, Result, Some, [], false, get_or, if◌then◌else◌, length, map, not, option_map, slice_get, slice_index, slice_index_or, slice_set, suc, take, true, vec_capacity, zero, ℕ, ◌%◌, ◌&&◌, ◌*◌, ◌++◌, ◌+◌, ◌<◌, ◌==◌, ◌^◌, ◌||◌, ◌↔◌, ◌∷◌, ◌≡◌, ◌≤◌, ◌⊎◌}
 pub use Rattle.tmw_defs.specs.History.{Txn, answers, is_ended, is_over, is_well_formed, operation, operations, status_after, status_of, transactions}
 pub use Rattle.tmw_defs.specs.Opaque.{State, after_writes, precedes, reads_hold, zeros}
 pub use Rattle.tmw_defs.specs.declared.op.Op.{Op}

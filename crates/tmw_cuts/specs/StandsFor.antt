@@ -1,5 +1,6 @@
 -- Which events a window stands for: it shows their transactions, in the order of their first events.
-use Rattle.tmw_cuts.specs.Shared.{IsTrue, Kind, List, Ok, Option, Txn, [], false, is_well_formed, lacks_register, length, map, operations, option_map, precedes, slice_index_or, status_of, take, transactions, ℕ, ◌*◌, ◌+◌, ◌<◌, ◌∷◌, ◌≡◌}
+use Rattle.tmw_cuts.specs.Shared.{Kind, Txn, is_well_formed, lacks_register, operations, precedes, status_of, transactions}
+use Rattle.std.specs.Prelude.{IsTrue, List, Ok, Option, [], false, length, map, option_map, slice_index_or, take, ℕ, ◌*◌, ◌+◌, ◌<◌, ◌∷◌, ◌≡◌}
 use Rattle.tmw_events.specs.declared.event.Event.{Event}
 use Rattle.tmw_cuts.specs.declared.turn.Move.{Move}
 use Rattle.tmw_cuts.specs.declared.turn.Move.TheVariants.{Begin}

@@ -1,5 +1,6 @@
 -- What a turn tells of a thread: the place of its open transaction and its pending call.
-use Rattle.tmw_cuts.specs.Shared.{Bool, Err, Ix, Kind, List, None, Ok, Op, Option, Result, Some, Txn, [], answers, asks, if◌then◌else◌, is_ended, not, operation, option_map, slice_index_or, slice_set, suc, zero, ℕ, ◌&&◌, ◌==◌, ◌∷◌, ◌≡◌}
+use Rattle.tmw_cuts.specs.Shared.{Ix, Kind, Op, Txn, answers, asks, is_ended, operation}
+use Rattle.std.specs.Prelude.{Bool, Err, List, None, Ok, Option, Result, Some, [], if◌then◌else◌, not, option_map, slice_index_or, slice_set, suc, zero, ℕ, ◌&&◌, ◌==◌, ◌∷◌, ◌≡◌}
 use Rattle.tmw_events.specs.declared.event.Kind.TheVariants.{A, R, W, T, X, N}
 use Rattle.tmw_events.specs.EventOfWords.{ix_of}
 use Rattle.tmw_wellformed.specs.declared.malformed.Malformed.{Malformed}

@@ -1,5 +1,6 @@
 -- What a window shows of a transaction.
-use Rattle.tmw_cuts.specs.Shared.{Bool, Kind, List, Op, Some, [], false, is_over, status_after, true, ℕ, ◌*◌, ◌++◌, ◌+◌, ◌∷◌}
+use Rattle.tmw_cuts.specs.Shared.{Kind, Op, is_over, status_after}
+use Rattle.std.specs.Prelude.{Bool, List, Some, [], false, true, ℕ, ◌*◌, ◌++◌, ◌+◌, ◌∷◌}
 use Rattle.tmw_defs.specs.declared.status.Status.{Status}
 use Rattle.tmw_cuts.specs.declared.effect.Effect.{Effect}
 use Rattle.tmw_cuts.specs.declared.txn.Txn.{Txn}

@@ -1,4 +1,5 @@
-ghost use Rattle.tmw_cuts.specs.Shared.{Add, List, None, Op, Read, State, Write, [], after_writes, bit_at, reads_hold, slice_index, ◌++◌, ◌<◌, ◌==◌, ◌∷◌, ◌≡◌};
+ghost use Rattle.tmw_cuts.specs.Shared.{Add, Op, Read, State, Write, after_writes, bit_at, reads_hold};
+ghost use Rattle.std.specs.Prelude.{List, None, [], slice_index, ◌++◌, ◌<◌, ◌==◌, ◌∷◌, ◌≡◌};
 ghost use Rattle.tmw_cuts.specs.RegisterMask.{IsMaskOf, chosen, have};
 ghost use Rattle.tmw_cuts.specs.Replays.{Replays};
 ghost use Rattle.tmw_cuts.specs.RegisterUse.{writes, needs};

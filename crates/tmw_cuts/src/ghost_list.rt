@@ -1,4 +1,4 @@
-ghost use Rattle.tmw_cuts.specs.Shared.{List, [], ◌++◌, ◌≡◌};
+ghost use Rattle.std.specs.Prelude.{List, [], ◌++◌, ◌≡◌};
 ghost use Rattle.std.specs.Borrow.{ftrue};
 ghost use Rattle.std.specs.Option.{option_to_list};
 

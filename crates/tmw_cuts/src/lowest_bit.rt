@@ -1,4 +1,5 @@
-ghost use Rattle.tmw_cuts.specs.Shared.{bit_at, ℕ, ◌<◌, ◌≡◌};
+ghost use Rattle.tmw_cuts.specs.Shared.{bit_at};
+ghost use Rattle.std.specs.Prelude.{ℕ, ◌<◌, ◌≡◌};
 
 /// Returns the lowest place of the mask.
 #[inline(always)]

@@ -1,4 +1,5 @@
-ghost use Rattle.tmw_cuts.specs.Shared.{MatchOption, Some, [], operation, status_after, ◌∷◌, ◌≡◌};
+ghost use Rattle.tmw_cuts.specs.Shared.{operation, status_after};
+ghost use Rattle.std.specs.Prelude.{MatchOption, Some, [], ◌∷◌, ◌≡◌};
 
 use tmw_defs::{Op, Status};
 use tmw_events::Kind;

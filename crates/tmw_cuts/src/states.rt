@@ -1,4 +1,5 @@
-ghost use Rattle.tmw_cuts.specs.Shared.{Contains, IfOk, IsTrue, OnErr, OnOk, [], get_or, length, slice_get, zeros, ℕ, ◌+◌, ◌<◌, ◌↔◌, ◌∷◌, ◌≡◌, ◌≤◌};
+ghost use Rattle.tmw_cuts.specs.Shared.{Contains, zeros};
+ghost use Rattle.std.specs.Prelude.{IfOk, IsTrue, OnErr, OnOk, [], get_or, length, slice_get, ℕ, ◌+◌, ◌<◌, ◌↔◌, ◌∷◌, ◌≡◌, ◌≤◌};
 ghost use Rattle.std.specs.List.Sorted.{IsStrictlySortedBy};
 ghost use Rattle.std.specs.Cmp.Lexicographic.{slice_cmp};
 ghost use Rattle.std.specs.Ordering.{nat_cmp};

@@ -1,5 +1,6 @@
 //! Where a thread is between its events, and what its next event is.
-ghost use Rattle.tmw_cuts.specs.Shared.{IsFalse, IsTrue, Ix, Kind, None, Option, Some, asks, ◌≡◌};
+ghost use Rattle.tmw_cuts.specs.Shared.{Ix, Kind, asks};
+ghost use Rattle.std.specs.Prelude.{IsFalse, IsTrue, None, Option, Some, ◌≡◌};
 ghost use Rattle.tmw_cuts.specs.declared.turn.Move.TheVariants.{Begin};
 ghost use Rattle.tmw_cuts.specs.StandsFor.{begun_by};
 ghost use Rattle.tmw_cuts.specs.Turns.{Turns, after_call, end_at, kept_in, kept_of};

@@ -1,4 +1,5 @@
-ghost use Rattle.tmw_cuts.specs.Shared.{IsTrue, State, [], after_writes, length, reads_hold, ◌++◌, ◌∷◌, ◌≡◌};
+ghost use Rattle.tmw_cuts.specs.Shared.{State, after_writes, reads_hold};
+ghost use Rattle.std.specs.Prelude.{IsTrue, [], length, ◌++◌, ◌∷◌, ◌≡◌};
 ghost use Rattle.tmw_cuts.specs.Effects.{IsEffectOf, IsEffectOf-prop, leaves_none};
 ghost use Rattle.tmw_cuts.specs.RegisterMask.{IsMaskOf};
 ghost use Rattle.tmw_cuts.specs.Replays.{Replays};

@@ -1,4 +1,5 @@
-ghost use Rattle.tmw_cuts.specs.Shared.{IfErr, IfOk, IsTrue, List, OnErr, OnOk, Some, [], lacks_register, length, map, slice_get, take, ℕ, ◌%◌, ◌*◌, ◌++◌, ◌+◌, ◌<◌, ◌^◌, ◌∷◌, ◌≡◌, ◌≤◌};
+ghost use Rattle.tmw_cuts.specs.Shared.{lacks_register};
+ghost use Rattle.std.specs.Prelude.{IfErr, IfOk, IsTrue, List, OnErr, OnOk, Some, [], length, map, slice_get, take, ℕ, ◌%◌, ◌*◌, ◌++◌, ◌+◌, ◌<◌, ◌^◌, ◌∷◌, ◌≡◌, ◌≤◌};
 ghost use Rattle.tmw_cuts.specs.Turns.{change};
 ghost use Rattle.tmw_cuts.specs.Views.{view, with_op, with_status};
 

@@ -1,6 +1,10 @@
 -- What a history has shown beside its verdict: how many transactions it has and how they ended, how many overlap another, its cuts
 -- and its widest window.
-use Rattle.tmw_defs.specs.Shared.{Bool, Event, Kind, List, Option, Some, X, [], count_by, false, length, list_any, map, not, slice_get, true, ℕ, ◌&&◌, ◌-◌, ◌<◌, ◌==◌, ◌↔◌, ◌∷◌, ◌≡◌}
+use Rattle.std.specs.Prelude.{◌≡◌, ◌==◌, ◌&&◌, ◌-◌, ◌<◌, ◌↔◌, ℕ, Bool, true, false, not, List, [], ◌∷◌, length, map, count_by, slice_get, Option, Some}
+use Rattle.std.specs.List.{list_any}
+use Rattle.tmw_events.specs.declared.event.Event.{Event}
+use Rattle.tmw_events.specs.declared.event.Kind.{Kind}
+use Rattle.tmw_events.specs.declared.event.Kind.TheVariants.{X}
 use Rattle.tmw_defs.specs.declared.counts.Counts.{Counts}
 use Rattle.tmw_defs.specs.declared.status.Status.{Status}
 use Rattle.tmw_defs.specs.declared.status.Status.TheVariants.{Committed, Aborted}

@@ -1,6 +1,8 @@
 -- The two criteria side by side. They differ in which transactions a serial order has: for opacity all, for strict serializability
 -- those that the completion holds.
-use Rattle.tmw_defs.specs.Shared.{Bool, Event, Kind, List, ℕ, ◌≡◌}
+use Rattle.std.specs.Prelude.{◌≡◌, ℕ, Bool, List}
+use Rattle.tmw_events.specs.declared.event.Event.{Event}
+use Rattle.tmw_events.specs.declared.event.Kind.{Kind}
 use Rattle.tmw_defs.specs.declared.criterion.Criterion.{Criterion}
 use Rattle.tmw_defs.specs.declared.criterion.Criterion.TheVariants.{Opacity, Strict}
 use Rattle.tmw_defs.specs.declared.verdict.Verdict.{Verdict}

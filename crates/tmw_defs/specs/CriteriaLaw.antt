@@ -1,5 +1,6 @@
 -- The law of the two criteria: what opacity asks, strict serializability asks too; and what a verdict by it says.
-use Rattle.tmw_defs.specs.Shared.{Event, List, length, take, ℕ, ◌↔◌, ◌≡◌, ◌≤◌}
+use Rattle.std.specs.Prelude.{◌≡◌, ◌≤◌, ◌↔◌, ℕ, List, length, take}
+use Rattle.tmw_events.specs.declared.event.Event.{Event}
 use Rattle.tmw_defs.specs.declared.criterion.Criterion.TheVariants.{Strict}
 use Rattle.tmw_defs.specs.declared.verdict.Verdict.TheVariants.{StrictSoFar}
 use Rattle.tmw_defs.specs.Opaque.{State, IsOpaque}

@@ -1,5 +1,7 @@
 -- Cuts: at a length at which each transaction has ended, the past is summed up by the states in which it may have ended.
-use Rattle.tmw_defs.specs.Shared.{Bool, Event, IsTrue, List, list_all, ℕ, ◌++◌, ◌↔◌}
+use Rattle.std.specs.Prelude.{◌↔◌, ◌++◌, ℕ, Bool, List, IsTrue}
+use Rattle.std.specs.List.{list_all}
+use Rattle.tmw_events.specs.declared.event.Event.{Event}
 use Rattle.tmw_defs.specs.declared.criterion.Criterion.{Criterion}
 use Rattle.tmw_defs.specs.Criteria.{IsFinalBy, EndsBy, outcomes_by}
 use Rattle.tmw_defs.specs.History.{is_ended, transactions, is_well_formed}

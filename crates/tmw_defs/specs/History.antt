@@ -1,6 +1,10 @@
 -- Histories of a transactional memory: the transactions of each thread, their texts, operations and status,
 -- and when a history is well-formed (Guerraoui and Kapalka 2008, section 4, over registers with read, write and add).
-use Rattle.tmw_defs.specs.Shared.{A, Bool, C, Event, K, Kind, List, N, Option, R, Some, T, V, W, X, [], false, if◌then◌else◌, length, list_all, nat_lt, not, slice_get, true, ℕ, ◌&&◌, ◌++◌, ◌+◌, ◌-◌, ◌==◌, ◌∷◌}
+use Rattle.std.specs.Prelude.{◌==◌, ◌&&◌, ◌+◌, ◌-◌, ◌++◌, ℕ, Bool, true, false, not, nat_lt, List, [], ◌∷◌, length, slice_get, Option, Some, if◌then◌else◌}
+use Rattle.std.specs.List.{list_all}
+use Rattle.tmw_events.specs.declared.event.Event.{Event}
+use Rattle.tmw_events.specs.declared.event.Kind.{Kind}
+use Rattle.tmw_events.specs.declared.event.Kind.TheVariants.{R, V, W, K, T, C, X, A, N}
 use Rattle.tmw_defs.specs.declared.op.Op.{Op}
 use Rattle.tmw_defs.specs.declared.op.Op.TheVariants.{Read, Write, Add}
 use Rattle.tmw_defs.specs.declared.status.Status.{Status}

@@ -1,5 +1,6 @@
 -- What may be kept of a history in which nothing is wrong: its outcomes at its last cut, in place of the past.
-use Rattle.tmw_defs.specs.Shared.{Event, List, take, ℕ, ◌<◌, ◌↔◌}
+use Rattle.std.specs.Prelude.{◌↔◌, ◌<◌, ℕ, List, take}
+use Rattle.tmw_events.specs.declared.event.Event.{Event}
 use Rattle.tmw_defs.specs.Criteria.{outcomes_by}
 use Rattle.tmw_defs.specs.Opaque.{State}
 use Rattle.tmw_defs.specs.Verdict.{Rules, AreFine}

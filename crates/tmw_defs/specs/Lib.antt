@@ -10,7 +10,6 @@ pub mod Outcomes
 pub mod Part
 pub mod QuietEvents
 pub mod QuietLaw
-mod Shared
 pub mod Strict
 pub mod ThreadTransactions
 pub mod Verdict

@@ -1,6 +1,8 @@
 -- Opacity (Guerraoui and Kapalka 2008, section 5), from any start state: the registers are the shared objects, and a
 -- history is asked to be final-state opaque at each of its prefixes, since final-state opacity is not closed under them.
-use Rattle.tmw_defs.specs.Shared.{Bool, Event, IsTrue, List, Some, [], if◌then◌else◌, length, list_all, nat_lt, not, remove, replicate, slice_get, slice_index, slice_set, take, true, ℕ, ◌%◌, ◌&&◌, ◌+◌, ◌==◌, ◌^◌, ◌∷◌, ◌≡◌, ◌≤◌}
+use Rattle.std.specs.Prelude.{◌≡◌, ◌==◌, ◌&&◌, ◌+◌, ◌%◌, ◌^◌, ◌≤◌, ℕ, Bool, true, not, nat_lt, List, [], ◌∷◌, length, take, replicate, remove, slice_get, slice_index, slice_set, Some, IsTrue, if◌then◌else◌}
+use Rattle.std.specs.List.{list_all}
+use Rattle.tmw_events.specs.declared.event.Event.{Event}
 use Rattle.tmw_defs.specs.declared.op.Op.{Op}
 use Rattle.tmw_defs.specs.declared.op.Op.TheVariants.{Read, Write, Add}
 use Rattle.tmw_defs.specs.declared.status.Status.{Status}

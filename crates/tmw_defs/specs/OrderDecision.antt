@@ -1,5 +1,6 @@
 -- Whether transactions have a legal serial order, by trying each as the next one. That this decides it is proved in proofs/DecisionProof.
-use Rattle.tmw_defs.specs.Shared.{Bool, List, None, Option, Some, [], false, length, list_all, not, remove, slice_get, suc, true, zero, ℕ, ◌&&◌, ◌||◌, ◌∷◌}
+use Rattle.std.specs.Prelude.{◌&&◌, ◌||◌, ℕ, zero, suc, Bool, true, false, not, List, [], ◌∷◌, length, remove, slice_get, Option, Some, None}
+use Rattle.std.specs.List.{list_all}
 use Rattle.tmw_defs.specs.History.{Txn, operations}
 use Rattle.tmw_defs.specs.Opaque.{State, Placed, precedes, may_be, reads_hold, after}
 

@@ -1,5 +1,5 @@
 -- The states in which transactions may end, over all their legal serial orders and completions.
-use Rattle.tmw_defs.specs.Shared.{All, AllPairs, List, [], length, ℕ, ◌<◌, ◌∷◌, ◌≡◌, ◌≢◌}
+use Rattle.std.specs.Prelude.{◌≡◌, ◌≢◌, ◌<◌, ℕ, List, [], ◌∷◌, length, All, AllPairs}
 use Rattle.tmw_defs.specs.History.{Txn}
 use Rattle.tmw_defs.specs.Opaque.{State, Placed, Explains, after}
 

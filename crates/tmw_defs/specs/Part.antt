@@ -1,5 +1,6 @@
 -- Parts of a history's transactions: what is left of them when some are taken out, and some operations of others.
-use Rattle.tmw_defs.specs.Shared.{Bool, IsTrue, List, [], false, list_all, map, not, true, ℕ, ◌%◌, ◌&&◌, ◌+◌, ◌==◌, ◌^◌, ◌∷◌, ◌≡◌, ◌⊎◌}
+use Rattle.std.specs.Prelude.{◌≡◌, ◌==◌, ◌&&◌, ◌+◌, ◌%◌, ◌^◌, ◌⊎◌, ℕ, Bool, true, false, not, List, [], ◌∷◌, map, IsTrue}
+use Rattle.std.specs.List.{list_all}
 use Rattle.tmw_defs.specs.declared.criterion.Criterion.{Criterion}
 use Rattle.tmw_defs.specs.declared.op.Op.{Op}
 use Rattle.tmw_defs.specs.declared.op.Op.TheVariants.{Read, Write, Add}

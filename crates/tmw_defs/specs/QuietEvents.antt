@@ -1,5 +1,8 @@
 -- Quiet events: those after which a history that was final-state opaque, or final-state strict, still is.
-use Rattle.tmw_defs.specs.Shared.{A, Bool, C, Kind, List, V, false, list_any, not, true, ℕ, ◌&&◌, ◌==◌}
+use Rattle.std.specs.Prelude.{◌==◌, ◌&&◌, ℕ, Bool, true, false, not, List}
+use Rattle.std.specs.List.{list_any}
+use Rattle.tmw_events.specs.declared.event.Kind.{Kind}
+use Rattle.tmw_events.specs.declared.event.Kind.TheVariants.{V, C, A}
 use Rattle.tmw_defs.specs.declared.status.Status.{Status}
 use Rattle.tmw_defs.specs.declared.status.Status.TheVariants.{Pending}
 use Rattle.tmw_defs.specs.History.{Txn, status_of}

@@ -1,5 +1,6 @@
 -- The law of quiet events, for each criterion.
-use Rattle.tmw_defs.specs.Shared.{Event, IsTrue, List, [], ℕ, ◌++◌, ◌∷◌}
+use Rattle.std.specs.Prelude.{◌++◌, ℕ, List, [], ◌∷◌, IsTrue}
+use Rattle.tmw_events.specs.declared.event.Event.{Event}
 use Rattle.tmw_defs.specs.declared.criterion.Criterion.{Criterion}
 use Rattle.tmw_defs.specs.Criteria.{IsFinalBy, is_quiet_by}
 use Rattle.tmw_defs.specs.History.{transactions, is_well_formed}

@@ -1,6 +1,8 @@
 -- Strict serializability (Papadimitriou 1979), from any start state: as opacity, but a serial order has the transactions that the
 -- completion holds, and no others, so that nothing is asked of what others read.
-use Rattle.tmw_defs.specs.Shared.{Event, IsTrue, List, [], false, length, list_all, take, true, ℕ, ◌∷◌, ◌≡◌, ◌≤◌, ◌⊎◌}
+use Rattle.std.specs.Prelude.{◌≡◌, ◌≤◌, ◌⊎◌, ℕ, true, false, List, [], ◌∷◌, length, take, IsTrue}
+use Rattle.std.specs.List.{list_all}
+use Rattle.tmw_events.specs.declared.event.Event.{Event}
 use Rattle.tmw_defs.specs.History.{Txn, status_of, transactions, is_well_formed}
 use Rattle.tmw_defs.specs.Opaque.{State, Placed, may_hold, Explains}
 

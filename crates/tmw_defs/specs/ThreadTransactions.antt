@@ -1,5 +1,7 @@
 -- How a thread's transactions lie in a history: they are its events in order, cut after each commit and each abort event.
-use Rattle.tmw_defs.specs.Shared.{Bool, Event, IsTrue, Kind, List, Some, [], filter, flat_map, length, map, not, slice_get, take, true, ℕ, ◌&&◌, ◌++◌, ◌+◌, ◌-◌, ◌==◌, ◌∷◌, ◌≡◌}
+use Rattle.std.specs.Prelude.{◌≡◌, ◌==◌, ◌&&◌, ◌+◌, ◌-◌, ◌++◌, ℕ, Bool, true, not, List, [], ◌∷◌, length, map, filter, flat_map, take, slice_get, Some, IsTrue}
+use Rattle.tmw_events.specs.declared.event.Event.{Event}
+use Rattle.tmw_events.specs.declared.event.Kind.{Kind}
 use Rattle.tmw_defs.specs.History.{Txn, ends, is_ended, transactions}
 
 -- What the thread called and was answered, in the order of the history.

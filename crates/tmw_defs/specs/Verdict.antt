@@ -1,6 +1,7 @@
 -- The verdict on a history, by all its prefixes: opaque so far, or strict so far where that is the criterion, or what is wrong with
 -- the shortest prefix at which anything is.
-use Rattle.tmw_defs.specs.Shared.{Event, IsFalse, IsTrue, List, length, take, ℕ, ◌<◌, ◌≡◌, ◌≤◌}
+use Rattle.std.specs.Prelude.{◌≡◌, ◌<◌, ◌≤◌, ℕ, List, length, take, IsTrue, IsFalse}
+use Rattle.tmw_events.specs.declared.event.Event.{Event}
 use Rattle.tmw_defs.specs.declared.criterion.Criterion.{Criterion}
 use Rattle.tmw_defs.specs.declared.criterion.Criterion.TheVariants.{Opacity, Strict}
 use Rattle.tmw_defs.specs.declared.verdict.Verdict.{Verdict}

@@ -1,5 +1,6 @@
 -- Windows: the parts of a history between neighbouring cuts, and after the last.
-use Rattle.tmw_defs.specs.Shared.{Event, IsTrue, List, drop, length, take, ℕ, ◌<◌, ◌≡◌, ◌≤◌, ◌⊎◌}
+use Rattle.std.specs.Prelude.{◌≡◌, ◌⊎◌, ◌<◌, ◌≤◌, ℕ, List, length, take, drop, IsTrue}
+use Rattle.tmw_events.specs.declared.event.Event.{Event}
 use Rattle.tmw_defs.specs.History.{transactions}
 use Rattle.tmw_defs.specs.Cuts.{is_cut}
 

@@ -1,4 +1,4 @@
-ghost use Rattle.tmw_defs.specs.Shared.{◌≡◌};
+ghost use Rattle.std.specs.Prelude.{◌≡◌};
 
 use crate::verdict::Verdict;
 

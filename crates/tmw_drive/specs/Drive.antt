@@ -1,5 +1,6 @@
 -- One thread makes the calls of all scripts: what it records, and how far each script has come.
-use Rattle.tmw_drive.specs.Shared.{All, AllStand, Answer, Call, Event, Kind, List, [], get_or, kinds_of, length, true, ℕ, ◌++◌, ◌<◌, ◌∷◌, ◌≡◌, ◌⊎◌}
+use Rattle.tmw_drive.specs.Shared.{AllStand, Answer, Call, Event, Kind, kinds_of}
+use Rattle.std.specs.Prelude.{All, List, [], get_or, length, true, ℕ, ◌++◌, ◌<◌, ◌∷◌, ◌≡◌, ◌⊎◌}
 use Rattle.tmw_drive.specs.declared.ending.Ending.{Ending}
 use Rattle.tmw_drive.specs.declared.ending.Ending.TheVariants.{Done, Left, Stopped}
 use Rattle.tmw_runs.specs.Runs.{IsWholeRun, IsBeginning}

@@ -1,5 +1,5 @@
 -- A transaction that its memory has not seen.
-use Rattle.tmw_drive.specs.Shared.{[], false, ◌≡◌}
+use Rattle.std.specs.Prelude.{[], false, ◌≡◌}
 use Rattle.tmw_tm.specs.declared.tx.Tx.{Tx}
 
 pub record IsFresh (tx : Tx) : Type 0 where

@@ -1,5 +1,6 @@
 -- How a thread stands to its script, of which it makes one call after another.
-use Rattle.tmw_drive.specs.Shared.{Answer, Call, Event, IsTrue, Kind, List, MatchBool, None, Option, Some, StandsSoFar, [], are_transactions, drop, ends, get_or, kinds_of, length, map, ℕ, ◌+◌, ◌<◌, ◌==◌, ◌∷◌, ◌≡◌}
+use Rattle.tmw_drive.specs.Shared.{Answer, Call, Event, Kind, StandsSoFar, are_transactions, ends, kinds_of}
+use Rattle.std.specs.Prelude.{IsTrue, List, MatchBool, None, Option, Some, [], drop, get_or, length, map, ℕ, ◌+◌, ◌<◌, ◌==◌, ◌∷◌, ◌≡◌}
 use Rattle.std.specs.Global.{Vec}
 use Rattle.tmw_drive.specs.Drive.{script_at}
 use Rattle.tmw_drive.specs.FreshTx.{IsFresh}

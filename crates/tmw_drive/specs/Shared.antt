@@ -1,5 +1,4 @@
 -- What the definitions and contracts of this crate take from the libraries and from the crates below.
-pub use Rattle.std.specs.Prelude.{All, IfErr, IfOk, IsTrue, List, MatchBool, None, OnOk, OnSome, Option, Some, [], drop, false, get_or, length, map, true, ℕ, ◌++◌, ◌+◌, ◌<◌, ◌==◌, ◌^◌, ◌↔◌, ◌∷◌, ◌≡◌, ◌≢◌, ◌≤◌, ◌⊎◌}
 pub use Rattle.tmw_defs.specs.History.{answers, ends}
 pub use Rattle.tmw_defs.specs.ThreadTransactions.{kinds_of}
 pub use Rattle.tmw_events.specs.declared.event.Event.{Event}

@@ -1,5 +1,6 @@
 //! A call is made of the memory, and what is recorded of its answer.
-ghost use Rattle.tmw_drive.specs.Shared.{A, Gives, IsTrue, Stands, answers, did_answer, ends, ◌≡◌};
+ghost use Rattle.tmw_drive.specs.Shared.{A, Gives, Stands, answers, did_answer, ends};
+ghost use Rattle.std.specs.Prelude.{IsTrue, ◌≡◌};
 ghost use Rattle.tmw_drive.specs.FreshTx.{IsFresh};
 ghost use Rattle.tmw_tm.specs.Answers.Call.{Begin};
 ghost use Rattle.tmw_tm.specs.declared.answer.Did.TheVariants.{Abort};

@@ -1,4 +1,5 @@
-ghost use Rattle.tmw_drive.specs.Shared.{IfErr, IfOk, length, scripts_of, ℕ, ◌<◌, ◌^◌, ◌↔◌, ◌≡◌, ◌≢◌, ◌≤◌};
+ghost use Rattle.tmw_drive.specs.Shared.{scripts_of};
+ghost use Rattle.std.specs.Prelude.{IfErr, IfOk, length, ℕ, ◌<◌, ◌^◌, ◌↔◌, ◌≡◌, ◌≢◌, ◌≤◌};
 ghost use Rattle.tmw_defs.specs.Opaque.{zeros};
 ghost use Rattle.tmw_defs.specs.Verdict.{IsVerdict};
 ghost use Rattle.tmw_defs.specs.declared.verdict.Verdict.TheVariants.{Malformed};

@@ -1,4 +1,4 @@
-ghost use Rattle.tmw_drive.specs.Shared.{◌≡◌};
+ghost use Rattle.std.specs.Prelude.{◌≡◌};
 ghost use Rattle.tmw_drive.specs.declared.fault.DriveFault.TheVariants.{Memory};
 
 use std::alloc::AllocError;

@@ -1,5 +1,6 @@
 //! The threads of a workload in turn, as its order has it.
-ghost use Rattle.tmw_drive.specs.Shared.{All, IfOk, OnOk, kinds_of, length, scripts_of, ◌<◌, ◌≡◌, ◌≤◌};
+ghost use Rattle.tmw_drive.specs.Shared.{kinds_of, scripts_of};
+ghost use Rattle.std.specs.Prelude.{All, IfOk, OnOk, length, ◌<◌, ◌≡◌, ◌≤◌};
 ghost use Rattle.tmw_drive.specs.Drive.{script_at, DoesEntry, Drives};
 ghost use Rattle.tmw_drive.specs.Player.{calls_of, AllEnd, AllNew, AllPlay, Plays};
 

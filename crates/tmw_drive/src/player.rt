@@ -1,4 +1,5 @@
-ghost use Rattle.tmw_drive.specs.Shared.{A, IsTrue, OnSome, Stands, answers, ends, false, ◌+◌, ◌<◌, ◌==◌, ◌^◌, ◌≡◌};
+ghost use Rattle.tmw_drive.specs.Shared.{A, Stands, answers, ends};
+ghost use Rattle.std.specs.Prelude.{IsTrue, OnSome, false, ◌+◌, ◌<◌, ◌==◌, ◌^◌, ◌≡◌};
 
 use crate::ask::{ask, ends};
 use crate::ending::Ending;

@@ -1,5 +1,6 @@
 -- Parts of bytes round the first of a byte: what stands before it has none, and that fixes the parts.
-use Rattle.tmw_lines.proofs.Shared.{IsFree, List, [], and_from, and_parts, ap, arith, cases_Bool, drop, eqb-true, inl, inr, is_next, length, not, position_or_len, refl, suc, take, true, ℕ, ◌++◌, ◌+◌, ◌<◌, ◌==◌, ◌^◌, ◌∷◌, ◌≡◌}
+use Rattle.tmw_lines.proofs.Shared.{IsFree, List, [], ap, arith, drop, inl, inr, is_next, length, not, position_or_len, refl, suc, take, true, ℕ, ◌++◌, ◌+◌, ◌<◌, ◌==◌, ◌^◌, ◌∷◌, ◌≡◌}
+use Rattle.std.proofs.lemmas.Bool.{and_from, and_parts, cases_Bool, eqb-true}
 use Rattle.std.specs.Fmt.{decimal}
 use Rattle.std.specs.Str.Parse.{AllDigits}
 use Rattle.std.proofs.lemmas.Fmt.{decimal_is_IsNumeral}

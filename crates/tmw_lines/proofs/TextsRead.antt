@@ -1,5 +1,5 @@
 -- Reading a whole text: its header, and then the items of all other lines.
-use Rattle.tmw_lines.proofs.Shared.{AreGiven, AreLines, AreReadFor, BadHeader, BadLine, Cut, EndsSoon, Err, FromSource, Grammar, HasFirstLineFault, HasRead, HasTextFault, Io, Lines, List, Memory, Ok, ReadsItems, Result, Taking, Tells, Tells-more, TextFault, TooLong, [], ap, bytes_of, lines_text, subst, ℕ, ◌++◌, ◌∙◌, ◌∷◌, ◌≡◌, arith}
+use Rattle.tmw_lines.proofs.Shared.{AreGiven, AreLines, AreReadFor, BadHeader, BadLine, Cut, EndsSoon, Err, FromSource, Grammar, HasFirstLineFault, HasRead, HasTextFault, Io, Lines, List, Memory, Ok, ReadsItems, Result, Taking, Tells, Tells-more, TextFault, TooLong, [], ap, arith, bytes_of, lines_text, subst, ℕ, ◌++◌, ◌∙◌, ◌∷◌, ◌≡◌}
 use Rattle.tmw_lines.proofs.LinesRead.{text_fault-behind}
 
 -- a fault of the first line is the text's

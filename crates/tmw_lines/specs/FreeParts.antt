@@ -1,5 +1,6 @@
 -- Parts of bytes that a certain byte ends.
-use Rattle.tmw_lines.specs.Shared.{Bool, List, [], list_all, not, true, ℕ, ◌==◌, ◌∷◌, ◌≡◌}
+use Rattle.std.specs.Prelude.{◌≡◌, ◌==◌, ℕ, Bool, true, not, List, [], ◌∷◌}
+use Rattle.std.specs.List.{list_all}
 
 -- none of these bytes is `stop`
 abbrev pub IsFree : ℕ → List ℕ → Type 0

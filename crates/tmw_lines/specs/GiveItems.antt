@@ -1,5 +1,5 @@
 -- What is read where lines are read on to the text's end, and what a taker was given of it.
-use Rattle.tmw_lines.specs.Shared.{Err, FromSource, List, Ok, Result, Tells, [], ℕ, ◌++◌, ◌∷◌}
+use Rattle.std.specs.Prelude.{ℕ, Result, Ok, Err, List, [], ◌∷◌, ◌++◌}
 use Rattle.tmw_lines.specs.Grammar.{Grammar}
 use Rattle.tmw_lines.specs.ReadItems.{EndsBehind, FailsHolding}
 use Rattle.tmw_lines.specs.Lines.{HasRead}
@@ -7,6 +7,8 @@ use Rattle.tmw_lines.specs.Taker.{Taking, TakesButLast}
 use Rattle.tmw_lines.specs.declared.lines.Lines.{Lines}
 use Rattle.tmw_lines.specs.declared.text_fault.TextFault.{TextFault}
 use Rattle.tmw_lines.specs.declared.text_fault.TextFault.TheVariants.{Memory}
+use Rattle.tmw_streams.specs.Streams.{FromSource}
+use Rattle.tmw_streams.specs.Transfers.{Tells}
 
 -- whatever had been read before, the bytes up to the end are its text and that of these items
 abbrev pub ReadsToEnd : {F H E : Type 0} → Grammar F H E → Type 0 → Lines F → List E → List ℕ → Type 0

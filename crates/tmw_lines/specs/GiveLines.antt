@@ -1,5 +1,5 @@
 -- What a taker is given of the lines that bytes begin with, one line after another.
-use Rattle.tmw_lines.specs.Shared.{Bool, List, [], false, length, true, ℕ, ◌++◌, ◌+◌, ◌^◌, ◌∷◌, ◌≡◌, ◌≤◌}
+use Rattle.std.specs.Prelude.{◌≡◌, ℕ, ◌+◌, ◌≤◌, ◌^◌, Bool, true, false, List, [], ◌∷◌, ◌++◌, length}
 use Rattle.tmw_lines.specs.GiveResult.{AreFirst}
 use Rattle.tmw_lines.specs.Grammar.{Grammar}
 use Rattle.tmw_lines.specs.Taker.{Taking, TakesButLast}

@@ -1,5 +1,5 @@
 -- What a taker is given of the lines that bytes begin with.
-use Rattle.tmw_lines.specs.Shared.{All, List, [], drop, length, ℕ, ◌++◌, ◌+◌, ◌∷◌, ◌≡◌, ◌≤◌}
+use Rattle.std.specs.Prelude.{◌≡◌, ℕ, ◌+◌, ◌≤◌, List, [], ◌∷◌, ◌++◌, length, drop, All}
 use Rattle.tmw_lines.specs.Grammar.{Grammar, items_text}
 use Rattle.tmw_lines.specs.NextLine.{IsItemLine}
 use Rattle.tmw_lines.specs.Lines.{HasRead}

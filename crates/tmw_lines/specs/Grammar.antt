@@ -1,5 +1,6 @@
 -- The lines of a text: a header's line first, and then a line for each item.
-use Rattle.tmw_lines.specs.Shared.{All, List, flat_map, length, ℕ, ◌++◌, ◌^◌, ◌≡◌, ◌≤◌}
+use Rattle.std.specs.Prelude.{◌≡◌, ℕ, ◌≤◌, ◌^◌, List, ◌++◌, length, All}
+use Rattle.std.specs.List.{flat_map}
 use Rattle.tmw_lines.specs.FreeParts.{IsFree}
 use Rattle.tmw_lines.specs.LineFeeds.{line}
 

@@ -10,6 +10,5 @@ pub mod Lines
 pub mod LongLine
 pub mod NextLine
 pub mod ReadItems
-mod Shared
 pub mod Taker
 pub mod TextFault

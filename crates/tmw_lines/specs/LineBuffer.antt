@@ -1,5 +1,5 @@
 -- The bytes that a reader holds.
-use Rattle.tmw_lines.specs.Shared.{List, drop, take, ℕ, ◌-◌}
+use Rattle.std.specs.Prelude.{ℕ, ◌-◌, List, take, drop}
 use Rattle.tmw_lines.specs.declared.line_buffer.LineBuffer.{LineBuffer}
 
 -- what was read and is still to be used, in order

@@ -1,5 +1,6 @@
 -- Lines as bytes.
-use Rattle.tmw_lines.specs.Shared.{List, [], drop, position_or_len, suc, take, zero, ℕ, ◌++◌, ◌+◌, ◌==◌, ◌∷◌, ◌≡◌}
+use Rattle.std.specs.Prelude.{◌≡◌, ◌==◌, ◌+◌, ℕ, zero, suc, List, [], ◌∷◌, ◌++◌, take, drop}
+use Rattle.std.specs.List.{position_or_len}
 
 -- a text and the line feed that ends it
 abbrev pub line : List ℕ → List ℕ

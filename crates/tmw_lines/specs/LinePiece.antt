@@ -1,6 +1,7 @@
 -- What is read of a line, and what then stands at the front.
-use Rattle.tmw_lines.specs.Shared.{List, drop, length, one_more, take, ℕ, ◌+◌, ◌∷◌, ◌≡◌, ◌≤◌}
+use Rattle.std.specs.Prelude.{◌≡◌, ℕ, ◌+◌, ◌≤◌, List, ◌∷◌, length, take, drop}
 use Rattle.tmw_lines.specs.FreeParts.{IsFree}
+use Rattle.tmw_streams.specs.Transfers.{one_more}
 use Rattle.tmw_lines.specs.declared.line_piece.LinePiece.{LinePiece}
 use Rattle.tmw_lines.specs.declared.line_piece.LinePiece.TheVariants.{Line, End, Long, Failed}
 

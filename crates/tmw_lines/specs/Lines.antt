@@ -1,5 +1,5 @@
 -- What a reader of lines has read, and what each of its calls gives.
-use Rattle.tmw_lines.specs.Shared.{Err, FromSource, List, None, Ok, Option, Result, Some, Tells, [], length, ℕ, ◌++◌, ◌∷◌, ◌≡◌, ◌≤◌}
+use Rattle.std.specs.Prelude.{◌≡◌, ℕ, ◌≤◌, Option, Some, None, Result, Ok, Err, List, [], ◌∷◌, ◌++◌, length}
 use Rattle.tmw_lines.specs.Grammar.{Grammar, lines_text, AreLines}
 use Rattle.tmw_lines.specs.LineBuffer.{bytes_of}
 use Rattle.tmw_lines.specs.NextLine.{HasLineFault}
@@ -9,6 +9,8 @@ use Rattle.tmw_lines.specs.declared.lines.Lines.{Lines}
 use Rattle.tmw_lines.specs.declared.lines.ReaderState.{ReaderState}
 use Rattle.tmw_lines.specs.declared.lines.ReaderState.TheVariants.{New, Reading, Over, Failed}
 use Rattle.tmw_lines.specs.declared.text_fault.TextFault.{TextFault}
+use Rattle.tmw_streams.specs.Streams.{FromSource}
+use Rattle.tmw_streams.specs.Transfers.{Tells}
 
 -- how far it has come
 abbrev pub state_of : {F : Type 0} → Lines F → ReaderState

@@ -1,6 +1,8 @@
 -- The rest of a line that is longer than can be held.
-use Rattle.tmw_lines.specs.Shared.{FromSource, List, Tells, one_more, ℕ, ◌++◌, ◌∷◌, ◌≡◌}
+use Rattle.std.specs.Prelude.{◌≡◌, ℕ, List, ◌∷◌, ◌++◌}
 use Rattle.tmw_lines.specs.FreeParts.{IsFree}
+use Rattle.tmw_streams.specs.Streams.{FromSource}
+use Rattle.tmw_streams.specs.Transfers.{Tells, one_more}
 use Rattle.tmw_lines.specs.declared.long_line.LineEnd.{LineEnd}
 use Rattle.tmw_lines.specs.declared.long_line.LineEnd.TheVariants.{Feed, End, Failed}
 

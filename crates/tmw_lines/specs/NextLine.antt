@@ -1,10 +1,12 @@
 -- What one line of a text gives: a header, an item, the end, or a fault.
-use Rattle.tmw_lines.specs.Shared.{Err, FromSource, List, None, Ok, Option, Result, Some, Tells, [], ℕ, ◌++◌, ◌+◌, ◌<◌, ◌^◌, ◌≡◌, ◌≢◌}
+use Rattle.std.specs.Prelude.{◌≡◌, ◌≢◌, ℕ, ◌+◌, ◌<◌, ◌^◌, Option, Some, None, Result, Ok, Err, List, [], ◌++◌}
 use Rattle.tmw_lines.specs.Grammar.{Grammar}
 use Rattle.tmw_lines.specs.LineFeeds.{line, HoldsFront}
 use Rattle.tmw_lines.specs.TextFault.{IsUnbroken, IsBadLine, HasFirstLineFault}
 use Rattle.tmw_lines.specs.declared.text_fault.TextFault.{TextFault}
 use Rattle.tmw_lines.specs.declared.text_fault.TextFault.TheVariants.{BadHeader, BadLine, Cut, Memory, Io, TooLong}
+use Rattle.tmw_streams.specs.Streams.{FromSource}
+use Rattle.tmw_streams.specs.Transfers.{Tells}
 
 -- the bytes begin with this item's line, and these are left
 pub record IsItemLine {F H E : Type 0} (grammar : Grammar F H E) (format : F) (item : E) (bytes left : List ℕ) : Type 0 where

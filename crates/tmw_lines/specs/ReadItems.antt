@@ -1,5 +1,5 @@
 -- What is read where lines are read on to the text's end, and how much of it is held.
-use Rattle.tmw_lines.specs.Shared.{Err, FromSource, List, Ok, Result, Tells, [], length, ℕ, ◌++◌, ◌∷◌, ◌≡◌}
+use Rattle.std.specs.Prelude.{◌≡◌, ℕ, Result, Ok, Err, List, [], ◌∷◌, ◌++◌, length}
 use Rattle.tmw_lines.specs.Grammar.{Grammar, lines_text, AreLines}
 use Rattle.tmw_lines.specs.NextLine.{HasLineFault}
 use Rattle.tmw_lines.specs.Lines.{HasRead, format_by, unread_bytes}
@@ -7,6 +7,8 @@ use Rattle.tmw_lines.specs.LineFeeds.{HoldsFront}
 use Rattle.tmw_lines.specs.declared.lines.Lines.{Lines}
 use Rattle.tmw_lines.specs.declared.text_fault.TextFault.{TextFault}
 use Rattle.tmw_lines.specs.declared.text_fault.TextFault.TheVariants.{Memory}
+use Rattle.tmw_streams.specs.Streams.{FromSource}
+use Rattle.tmw_streams.specs.Transfers.{Tells}
 
 -- it has given a header and perhaps items, and answered no fault and not the end
 pub record HasBegunToRead {F H E : Type 0} (grammar : Grammar F H E) (lines : Lines F) : Type 0 where

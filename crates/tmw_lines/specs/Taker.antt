@@ -1,5 +1,5 @@
 -- What contracts say of a taker, in one record.
-use Rattle.tmw_lines.specs.Shared.{List, ℕ}
+use Rattle.std.specs.Prelude.{ℕ, List}
 
 -- Of takers of a type: by taking these items, in this order, one comes from the first state to the second, or by being refused
 -- memory for this item, and a state allows that so many items were taken before. One that needs no bound on them allows each number.

@@ -1,10 +1,11 @@
 -- Which fault a text of lines has. Lines are judged in order, and the first fault counts.
-use Rattle.tmw_lines.specs.Shared.{Err, List, Ok, Result, [], length, one_more, ℕ, ◌++◌, ◌+◌, ◌<◌, ◌^◌, ◌≡◌, ◌≢◌, ◌≤◌, ◌⊎◌}
+use Rattle.std.specs.Prelude.{◌≡◌, ◌≢◌, ℕ, ◌+◌, ◌<◌, ◌≤◌, ◌^◌, ◌⊎◌, Result, Ok, Err, List, [], ◌++◌, length}
 use Rattle.tmw_lines.specs.Grammar.{Grammar, lines_text, AreLines, IsNoHeader, IsNoItem}
 use Rattle.tmw_lines.specs.FreeParts.{IsFree}
 use Rattle.tmw_lines.specs.LineFeeds.{line}
 use Rattle.tmw_lines.specs.declared.text_fault.TextFault.{TextFault}
 use Rattle.tmw_lines.specs.declared.text_fault.TextFault.TheVariants.{BadHeader, BadLine, Cut, Memory, Io, TooLong}
+use Rattle.tmw_streams.specs.Transfers.{one_more}
 
 -- no line feed is among these bytes
 abbrev pub IsUnbroken : List ℕ → Type 0

@@ -1,4 +1,4 @@
-ghost use Rattle.tmw_lines.specs.Shared.{IfNone, IfSome, drop, take, ◌++◌, ◌+◌, ◌∷◌, ◌≡◌};
+ghost use Rattle.std.specs.Prelude.{◌≡◌, ◌+◌, ◌∷◌, ◌++◌, take, drop, IfSome, IfNone};
 ghost use Rattle.tmw_lines.specs.LineBuffer.{bytes_of};
 ghost use Rattle.tmw_lines.specs.NextLine.{ReadsHeader};
 ghost use Rattle.tmw_lines.specs.LineFeeds.{line};

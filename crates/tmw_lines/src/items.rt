@@ -1,4 +1,4 @@
-ghost use Rattle.tmw_lines.specs.Shared.{IfErr, OnOk, length, vec_capacity, ◌≡◌, ◌≢◌, ◌≤◌};
+ghost use Rattle.std.specs.Prelude.{◌≡◌, ◌≢◌, ◌≤◌, length, vec_capacity, IfErr, OnOk};
 ghost use Rattle.tmw_lines.specs.GiveItems.{GivesAll};
 ghost use Rattle.tmw_lines.specs.ReadItems.{HasBegunToRead, ReadsItems};
 ghost use Rattle.tmw_lines.specs.Lines.{IsOver, HasFailed, items_given};

@@ -1,4 +1,5 @@
-ghost use Rattle.tmw_lines.specs.Shared.{FailsToRead, IfOk, List, OnErr, OnOk, Tells, [], drop, length, take, ℕ, ◌++◌, ◌+◌, ◌-◌, ◌<◌, ◌≡◌, ◌≤◌};
+ghost use Rattle.std.specs.Prelude.{◌≡◌, ℕ, ◌+◌, ◌-◌, ◌<◌, ◌≤◌, List, [], ◌++◌, length, take, drop, IfOk, OnOk, OnErr};
+ghost use Rattle.tmw_streams.specs.Transfers.{Tells, FailsToRead};
 
 use tmw_streams::{IoFault, Source};
 

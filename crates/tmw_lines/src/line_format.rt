@@ -1,4 +1,4 @@
-ghost use Rattle.tmw_lines.specs.Shared.{IfNone, IfSome, List, length, ℕ, ◌<◌, ◌^◌, ◌≡◌, ◌≤◌};
+ghost use Rattle.std.specs.Prelude.{◌≡◌, ℕ, ◌<◌, ◌≤◌, ◌^◌, List, length, IfSome, IfNone};
 ghost use Rattle.tmw_lines.specs.GiveResult.{IsGiven};
 ghost use Rattle.tmw_lines.specs.Grammar.{Grammar, IsNaming, IsNoHeader, IsNoItem};
 

@@ -1,4 +1,5 @@
-ghost use Rattle.tmw_lines.specs.Shared.{position_or_len, ◌==◌, ◌≡◌};
+ghost use Rattle.std.specs.Prelude.{◌≡◌, ◌==◌};
+ghost use Rattle.std.specs.List.{position_or_len};
 
 /// Returns how many bytes come before the first that is `stop`, or how many there are if none is.
 pub fn length_before(bytes: &[u8], stop: u8) -> usize

@@ -1,5 +1,6 @@
-ghost use Rattle.tmw_lines.specs.Shared.{Reads, drop, length, ◌+◌, ◌<◌, ◌∷◌, ◌≡◌, ◌≤◌};
+ghost use Rattle.std.specs.Prelude.{◌≡◌, ◌+◌, ◌<◌, ◌≤◌, ◌∷◌, length, drop};
 ghost use Rattle.tmw_lines.specs.LineBuffer.{bytes_of};
+ghost use Rattle.tmw_streams.specs.Transfers.{Reads};
 ghost use Rattle.tmw_lines.specs.LinePiece.{IsSeen, IsPiece, UnlessFailed, piece_failures};
 
 use crate::line_buffer::{LineBuffer, MOST_HELD};

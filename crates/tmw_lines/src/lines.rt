@@ -1,6 +1,7 @@
-ghost use Rattle.tmw_lines.specs.Shared.{Err, IfErr, IfOk, List, None, Ok, OnErr, OnOk, OnSome, Tells, [], ℕ, ◌+◌, ◌<◌, ◌^◌, ◌≡◌, ◌≤◌, ◌⊎◌};
+ghost use Rattle.std.specs.Prelude.{◌≡◌, ◌⊎◌, ℕ, ◌+◌, ◌<◌, ◌≤◌, ◌^◌, List, [], IfOk, IfErr, OnOk, OnErr, OnSome, Ok, Err, None};
 ghost use Rattle.tmw_lines.specs.TextFault.{HasFirstLineFault, reading_failures};
 ghost use Rattle.tmw_lines.specs.declared.text_fault.TextFault.{TextFault};
+ghost use Rattle.tmw_streams.specs.Transfers.{Tells};
 
 use crate::first_line::first_line;
 use crate::give_lines::give_lines;

@@ -1,4 +1,4 @@
-ghost use Rattle.tmw_lines.specs.Shared.{◌≡◌};
+ghost use Rattle.std.specs.Prelude.{◌≡◌};
 ghost use Rattle.tmw_lines.specs.LongLine.{Skips, line_end_failures};
 
 use crate::line_buffer::LineBuffer;

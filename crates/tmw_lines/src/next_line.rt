@@ -1,4 +1,4 @@
-ghost use Rattle.tmw_lines.specs.Shared.{IfNone, IfOk, IfSome, None, OnSome, drop, length, take, ◌+◌, ◌<◌, ◌^◌, ◌∷◌, ◌≡◌, ◌≤◌};
+ghost use Rattle.std.specs.Prelude.{◌≡◌, ◌<◌, ◌≤◌, ◌+◌, ◌^◌, ◌∷◌, None, length, take, drop, IfSome, IfNone, IfOk, OnSome};
 ghost use Rattle.tmw_lines.specs.LineBuffer.{bytes_of};
 ghost use Rattle.tmw_lines.specs.NextLine.{ReadsLine, IsItemLine};
 ghost use Rattle.tmw_lines.specs.TextFault.{IsUnbroken, IsBadLine, reading_failures};

@@ -1,4 +1,4 @@
-ghost use Rattle.tmw_lines.specs.Shared.{List, OnErr, OnOk, [], ℕ, ◌++◌, ◌+◌, ◌<◌, ◌^◌, ◌∷◌};
+ghost use Rattle.std.specs.Prelude.{ℕ, ◌+◌, ◌<◌, ◌^◌, List, [], ◌∷◌, ◌++◌, OnOk, OnErr};
 ghost use Rattle.tmw_lines.specs.Taker.{Taking};
 
 use std::alloc::AllocError;

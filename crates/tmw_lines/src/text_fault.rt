@@ -1,4 +1,4 @@
-ghost use Rattle.tmw_lines.specs.Shared.{◌≡◌};
+ghost use Rattle.std.specs.Prelude.{◌≡◌};
 ghost use Rattle.tmw_lines.specs.declared.text_fault.TextFault.TheVariants.{Memory};
 
 use std::alloc::{AllocError, AllocFailed};

@@ -1,4 +1,4 @@
-ghost use Rattle.tmw_lines.specs.Shared.{length, vec_capacity, ◌++◌, ◌≡◌, ◌≤◌};
+ghost use Rattle.std.specs.Prelude.{◌≡◌, ◌≤◌, ◌++◌, length, vec_capacity};
 ghost use Rattle.std.proofs.Common.{◌∙◌, ap, append_assoc, arith, rules};
 
 use crate::taker::Taker;

@@ -1,6 +1,7 @@
-ghost use Rattle.tmw_lines.specs.Shared.{IfErr, IfOk, List, OnOk, Tells, ℕ, ◌≡◌};
+ghost use Rattle.std.specs.Prelude.{◌≡◌, ℕ, List, IfOk, IfErr, OnOk};
 ghost use Rattle.tmw_lines.specs.Grammar.{lines_text, AreLines};
 ghost use Rattle.tmw_lines.specs.TextFault.{HasTextFault, reading_failures};
+ghost use Rattle.tmw_streams.specs.Transfers.{Tells};
 
 use crate::items::read_items;
 use crate::line_format::LineFormat;

@@ -5,10 +5,10 @@ pub use Rattle.std.proofs.lemmas.List.{append-nil, drop-append-le, drop_all, tak
 pub use Rattle.std.specs.List.{Contains}
 pub use Rattle.std.specs.Prelude.{is_some, remove, slice_get}
 pub use Rattle.tmw_cuts.proofs.FirstMembers.{contains_here}
+pub use Rattle.tmw_cuts.proofs.NextViews.{is_end}
 pub use Rattle.tmw_cuts.proofs.OneEventMore.{formed-next, found-begun, grows, length-views_of, moves, uncut-next}
 pub use Rattle.tmw_cuts.specs.Members.{members}
 pub use Rattle.tmw_cuts.specs.StandsFor.{Follows, IsNext, StandsFor, begun_by, views_of}
-pub use Rattle.tmw_cuts.proofs.NextViews.{is_end}
 pub use Rattle.tmw_cuts.specs.declared.states.States.{States}
 pub use Rattle.tmw_cuts.specs.declared.turn.Move.{Move}
 pub use Rattle.tmw_cuts.specs.declared.turn.Move.TheVariants.{Answer, Ask, Begin, End}

@@ -1,5 +1,5 @@
 -- Which bounds on windows and outcomes are out of their ranges.
-use Rattle.tmw_monitor.specs.Shared.{ℕ, ◌<◌, ◌≡◌, ◌≤◌, ◌⊎◌}
+use Rattle.std.specs.Prelude.{ℕ, ◌<◌, ◌≡◌, ◌≤◌, ◌⊎◌}
 use Rattle.tmw_monitor.specs.declared.bounds.BadBounds.{BadBounds}
 use Rattle.tmw_monitor.specs.declared.bounds.BadBounds.TheVariants.{Window, States}
 

@@ -1,5 +1,6 @@
 -- The first event that fits no run.
-use Rattle.tmw_monitor.specs.Shared.{Event, Follows, IsTrue, List, None, Option, Some, is_well_formed, length, ℕ, ◌++◌, ◌+◌, ◌∷◌, ◌≡◌}
+use Rattle.tmw_monitor.specs.Shared.{Event, Follows, is_well_formed}
+use Rattle.std.specs.Prelude.{IsTrue, List, None, Option, Some, length, ℕ, ◌++◌, ◌+◌, ◌∷◌, ◌≡◌}
 use Rattle.tmw_wellformed.specs.Faults.{Refuses}
 use Rattle.tmw_cuts.specs.declared.window.Window.{Window}
 use Rattle.tmw_monitor.specs.declared.broken_rule.BrokenRule.{BrokenRule}

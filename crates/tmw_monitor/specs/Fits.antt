@@ -1,5 +1,6 @@
 -- Which history a monitor stands for: the relation by which its calls are described.
-use Rattle.tmw_monitor.specs.Shared.{Contains, Criterion, Event, IsVerdict, List, None, Opacity, Option, Rules, Some, StandsFor, State, SumsUp, Verdict, Witnesses, [], drop, false, length, members, so_far, views, views_of, ℕ, ◌++◌, ◌∷◌, ◌≡◌}
+use Rattle.tmw_monitor.specs.Shared.{Contains, Criterion, Event, IsVerdict, Opacity, Rules, StandsFor, State, SumsUp, Verdict, Witnesses, members, so_far, views, views_of}
+use Rattle.std.specs.Prelude.{List, None, Option, Some, [], drop, false, length, ℕ, ◌++◌, ◌∷◌, ◌≡◌}
 use Rattle.tmw_events.specs.declared.registers.Registers.{Registers}
 use Rattle.tmw_monitor.specs.declared.bounds.Bounds.{Bounds}
 use Rattle.tmw_monitor.specs.declared.monitor.Monitor.{Monitor}

@@ -1,5 +1,6 @@
 -- What a monitor holds of a history, which does not grow with what lies before the last cut.
-use Rattle.tmw_monitor.specs.Shared.{Contains, Event, IsLastCut, List, Rules, State, [], drop, length, members, outcomes_by, take, turn_at, views, views_of, ℕ, ◌++◌, ◌<◌, ◌↔◌, ◌∷◌, ◌≡◌, ◌≤◌}
+use Rattle.tmw_monitor.specs.Shared.{Contains, Event, IsLastCut, Rules, State, members, outcomes_by, turn_at, views, views_of}
+use Rattle.std.specs.Prelude.{List, [], drop, length, take, ℕ, ◌++◌, ◌<◌, ◌↔◌, ◌∷◌, ◌≡◌, ◌≤◌}
 use Rattle.std.specs.Cmp.Lexicographic.{slice_cmp}
 use Rattle.std.specs.List.Sorted.{IsStrictlySortedBy}
 use Rattle.std.specs.Ordering.{nat_cmp}

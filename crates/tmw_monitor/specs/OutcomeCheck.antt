@@ -1,5 +1,6 @@
 -- What is found of the events since a history's last cut, from the set of its outcomes there.
-use Rattle.tmw_monitor.specs.Shared.{Bool, Contains, Criterion, Event, IsFalse, IsNext, IsTrue, List, None, Option, Some, StandsFor, State, Verdict, Witnesses, [], is_cut, length, members, views_of, ℕ, ◌++◌, ◌↔◌, ◌∷◌, ◌≡◌, ◌≤◌, ◌⊎◌}
+use Rattle.tmw_monitor.specs.Shared.{Contains, Criterion, Event, IsNext, StandsFor, State, Verdict, Witnesses, is_cut, members, views_of}
+use Rattle.std.specs.Prelude.{Bool, IsFalse, IsTrue, List, None, Option, Some, [], length, ℕ, ◌++◌, ◌↔◌, ◌∷◌, ◌≡◌, ◌≤◌, ◌⊎◌}
 use Rattle.tmw_defs.specs.declared.verdict.Verdict.TheVariants.{Violated, Undecided}
 use Rattle.tmw_defs.specs.declared.verdict.Why.TheVariants.{States}
 use Rattle.tmw_search.specs.EndStates.{EndsOf, HasMoreThan}

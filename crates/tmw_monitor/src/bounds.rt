@@ -1,4 +1,4 @@
-ghost use Rattle.tmw_monitor.specs.Shared.{IfErr, IfOk, ◌<◌, ◌≡◌, ◌≤◌};
+ghost use Rattle.std.specs.Prelude.{IfErr, IfOk, ◌<◌, ◌≡◌, ◌≤◌};
 ghost use Rattle.tmw_monitor.specs.BadBounds.{IsBad};
 
 use thiserror::Error;

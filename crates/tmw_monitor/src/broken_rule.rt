@@ -1,5 +1,6 @@
 //! The first event that fits no run.
-ghost use Rattle.tmw_monitor.specs.Shared.{Event, List, [], length, views, ℕ, ◌++◌, ◌+◌, ◌∷◌, ◌≡◌};
+ghost use Rattle.tmw_monitor.specs.Shared.{Event, views};
+ghost use Rattle.std.specs.Prelude.{List, [], length, ℕ, ◌++◌, ◌+◌, ◌∷◌, ◌≡◌};
 ghost use Rattle.tmw_monitor.specs.BrokenRule.{TellsFollowed};
 
 use tmw_cuts::Window;

@@ -1,4 +1,5 @@
-ghost use Rattle.tmw_monitor.specs.Shared.{HasRoom, List, ℕ};
+ghost use Rattle.tmw_monitor.specs.Shared.{HasRoom};
+ghost use Rattle.std.specs.Prelude.{List, ℕ};
 
 use tmw_cuts::{States, Window};
 use tmw_search::EndSet;

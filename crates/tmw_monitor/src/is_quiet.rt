@@ -1,4 +1,5 @@
-ghost use Rattle.tmw_monitor.specs.Shared.{IsTrue, List, Txn, is_quiet_by, ℕ};
+ghost use Rattle.tmw_monitor.specs.Shared.{Txn, is_quiet_by};
+ghost use Rattle.std.specs.Prelude.{IsTrue, List, ℕ};
 
 use tmw_defs::Criterion;
 use tmw_events::Kind;

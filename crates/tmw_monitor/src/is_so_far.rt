@@ -1,4 +1,5 @@
-ghost use Rattle.tmw_monitor.specs.Shared.{IsTrue, so_far, ◌↔◌, ◌≡◌};
+ghost use Rattle.tmw_monitor.specs.Shared.{so_far};
+ghost use Rattle.std.specs.Prelude.{IsTrue, ◌↔◌, ◌≡◌};
 
 use tmw_defs::{Criterion, Verdict};
 

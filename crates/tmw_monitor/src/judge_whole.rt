@@ -1,4 +1,5 @@
-ghost use Rattle.tmw_monitor.specs.Shared.{IfOk, IsVerdict, length, zeros, ◌^◌, ◌≤◌};
+ghost use Rattle.tmw_monitor.specs.Shared.{IsVerdict, zeros};
+ghost use Rattle.std.specs.Prelude.{IfOk, length, ◌^◌, ◌≤◌};
 ghost use Rattle.tmw_monitor.specs.Fits.{rules_for, rules_of};
 
 use crate::bounds::Bounds;

@@ -1,4 +1,5 @@
-ghost use Rattle.tmw_monitor.specs.Shared.{Event, IfOk, IsTrue, IsVerdict, List, Ok, Opacity, Rules, [], is_cut, length, members, zeros, ◌<◌, ◌^◌, ◌↔◌, ◌≡◌};
+ghost use Rattle.tmw_monitor.specs.Shared.{Event, IsVerdict, Opacity, Rules, is_cut, members, zeros};
+ghost use Rattle.std.specs.Prelude.{IfOk, IsTrue, List, Ok, [], length, ◌<◌, ◌^◌, ◌↔◌, ◌≡◌};
 
 use crate::bounds::Bounds;
 use crate::broken_rule::{BrokenRule, follow};

@@ -1,4 +1,5 @@
-ghost use Rattle.tmw_monitor.specs.Shared.{Event, List, None, Rules, [], length, ◌++◌, ◌+◌, ◌∷◌, ◌≡◌};
+ghost use Rattle.tmw_monitor.specs.Shared.{Event, Rules};
+ghost use Rattle.std.specs.Prelude.{List, None, [], length, ◌++◌, ◌+◌, ◌∷◌, ◌≡◌};
 ghost use Rattle.tmw_monitor.specs.BrokenRule.{TellsFollowed};
 ghost use Rattle.tmw_monitor.specs.Fits.{Keeps, TellsWrong};
 

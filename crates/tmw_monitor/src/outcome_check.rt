@@ -1,4 +1,4 @@
-ghost use Rattle.tmw_monitor.specs.Shared.{◌≡◌};
+ghost use Rattle.std.specs.Prelude.{◌≡◌};
 ghost use Rattle.tmw_monitor.specs.OutcomeCheck.{wrong_of};
 
 use tmw_defs::{Verdict, Why};

@@ -1,4 +1,5 @@
-ghost use Rattle.tmw_monitor.specs.Shared.{Bool, Event, IsFalse, IsTrue, List, StandsFor, Witnesses, [], is_cut, members, views_of, ℕ, ◌≡◌, ◌≤◌};
+ghost use Rattle.tmw_monitor.specs.Shared.{Event, StandsFor, Witnesses, is_cut, members, views_of};
+ghost use Rattle.std.specs.Prelude.{Bool, IsFalse, IsTrue, List, [], ℕ, ◌≡◌, ◌≤◌};
 ghost use Rattle.tmw_monitor.specs.OutcomeCheck.{Tells};
 
 use crate::history_digest::HistoryDigest;

@@ -1,4 +1,5 @@
-ghost use Rattle.tmw_monitor.specs.Shared.{Criterion, End, Event, IsFalse, IsNext, IsTrue, List, StandsFor, [], begun_by, count_of, is_cut, is_quiet_by, transactions, ℕ, ◌++◌, ◌+◌, ◌∷◌, ◌≡◌, ◌≤◌};
+ghost use Rattle.tmw_monitor.specs.Shared.{Criterion, End, Event, IsNext, StandsFor, begun_by, count_of, is_cut, is_quiet_by, transactions};
+ghost use Rattle.std.specs.Prelude.{IsFalse, IsTrue, List, [], ℕ, ◌++◌, ◌+◌, ◌∷◌, ◌≡◌, ◌≤◌};
 ghost use Rattle.tmw_monitor.specs.OutcomeCheck.{WeighsNext};
 
 use crate::history_digest::HistoryDigest;

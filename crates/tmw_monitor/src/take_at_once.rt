@@ -1,5 +1,6 @@
 //! The way that most events take: few steps, no search and no memory.
-ghost use Rattle.tmw_monitor.specs.Shared.{Answer, Begin, Criterion, End, IsFalse, IsNext, IsTrue, ◌≡◌};
+ghost use Rattle.tmw_monitor.specs.Shared.{Answer, Begin, Criterion, End, IsNext};
+ghost use Rattle.std.specs.Prelude.{IsFalse, IsTrue, ◌≡◌};
 ghost use Rattle.tmw_events.specs.declared.event.Kind.TheVariants.{V};
 ghost use Rattle.tmw_defs.specs.declared.op.Op.TheVariants.{Add};
 ghost use Rattle.tmw_monitor.specs.declared.bounds.Bounds.{Bounds};

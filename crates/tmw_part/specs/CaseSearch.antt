@@ -1,5 +1,6 @@
 -- What a search for the cases of a reason finds.
-use Rattle.tmw_part.specs.Shared.{All, Contains, IsTrue, List, None, Option, Some, [], length, ℕ, ◌++◌, ◌<◌, ◌∷◌, ◌≡◌}
+use Rattle.tmw_part.specs.Shared.{Contains}
+use Rattle.std.specs.Prelude.{All, IsTrue, List, None, Option, Some, [], length, ℕ, ◌++◌, ◌<◌, ◌∷◌, ◌≡◌}
 use Rattle.tmw_part.specs.declared.candidates.Candidates.{Candidates}
 use Rattle.tmw_part.specs.declared.reason_case.Derivation.{Derivation}
 use Rattle.tmw_part.specs.declared.reason_case.Reason.{Reason}

@@ -1,5 +1,6 @@
 -- What a search for derivations is given, and what its parts find.
-use Rattle.tmw_part.specs.Shared.{All, Bool, Contains, IsFalse, IsTrue, List, None, find, list_any, not, ℕ, ◌&&◌, ◌≡◌, ◌⊎◌}
+use Rattle.tmw_part.specs.Shared.{Contains, list_any}
+use Rattle.std.specs.Prelude.{All, Bool, IsFalse, IsTrue, List, None, find, not, ℕ, ◌&&◌, ◌≡◌, ◌⊎◌}
 use Rattle.tmw_part.specs.declared.candidates.Candidates.{Candidates}
 use Rattle.tmw_part.specs.declared.reason_case.Derivation.{Derivation}
 use Rattle.tmw_part.specs.declared.reason_step.Contradiction.{Contradiction}

@@ -1,5 +1,6 @@
 -- The steps and the contradictions that speak only of what is drawn: transactions, reads and values of what is kept of a window.
-use Rattle.tmw_part.specs.Shared.{Add, Bool, Event, List, None, Op, Option, Read, Some, Txn, Write, [], flat_map, if◌then◌else◌, left_by, list_any, map, operations, transactions, ℕ, ◌++◌, ◌==◌, ◌∷◌}
+use Rattle.tmw_part.specs.Shared.{Add, Event, Op, Read, Txn, Write, flat_map, left_by, list_any, operations, transactions}
+use Rattle.std.specs.Prelude.{Bool, List, None, Option, Some, [], if◌then◌else◌, map, ℕ, ◌++◌, ◌==◌, ◌∷◌}
 use Rattle.tmw_events.specs.declared.ix.Ix.{Ix}
 use Rattle.tmw_part.specs.declared.reason_step.ValueSource.{ValueSource}
 use Rattle.tmw_part.specs.declared.reason_step.ReasonStep.{ReasonStep}

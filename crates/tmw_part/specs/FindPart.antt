@@ -1,5 +1,6 @@
 -- What is found in a violated window: a part that is violated by itself, of which nothing more can be taken out.
-use Rattle.tmw_part.specs.Shared.{All, Bool, Contains, Criterion, Event, HasOrderBy, IsFalse, IsTrue, List, State, [], false, is_well_formed, length, members, transactions, true, ℕ, ◌<◌, ◌∷◌, ◌≡◌, ◌≢◌, ◌≤◌, ◌⊎◌}
+use Rattle.tmw_part.specs.Shared.{Contains, Criterion, Event, HasOrderBy, State, is_well_formed, members, transactions}
+use Rattle.std.specs.Prelude.{All, Bool, IsFalse, IsTrue, List, [], false, length, true, ℕ, ◌<◌, ◌∷◌, ◌≡◌, ◌≢◌, ◌≤◌, ◌⊎◌}
 use Rattle.tmw_part.specs.declared.piece.Piece.{Piece}
 use Rattle.tmw_part.specs.declared.whole_window.WholeWindow.{WholeWindow}
 use Rattle.tmw_part.specs.Marks.{all_kept, kept_of, without}

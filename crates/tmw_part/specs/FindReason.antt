@@ -1,5 +1,6 @@
 -- What is found of the reason why a window is violated: one that speaks of what is drawn, or that the steps come to no contradiction.
-use Rattle.tmw_part.specs.Shared.{All, Contains, Criterion, Event, IsFalse, IsTrue, List, None, Option, Some, State, Txn, [], length, transactions, ◌<◌, ◌∷◌, ◌≡◌, ◌≤◌, ◌⊎◌}
+use Rattle.tmw_part.specs.Shared.{Contains, Criterion, Event, State, Txn, transactions}
+use Rattle.std.specs.Prelude.{All, IsFalse, IsTrue, List, None, Option, Some, [], length, ◌<◌, ◌∷◌, ◌≡◌, ◌≤◌, ◌⊎◌}
 use Rattle.tmw_part.specs.declared.reason_case.Reason.{Reason}
 use Rattle.tmw_part.specs.declared.reason_case.Derivation.{Derivation}
 use Rattle.tmw_part.specs.declared.reason_case.ReasonCase.{ReasonCase}

@@ -1,5 +1,6 @@
 -- What is kept of a window, a mark for each event, as a part of the window's transactions that agrees with them.
-use Rattle.tmw_part.specs.Shared.{Bool, Each, Event, IsLeftOf, IsTrue, Kind, List, None, Op, Option, Some, Txn, W, [], false, if◌then◌else◌, is_unread, left_by, list_all, list_any, map, may_go_whole, not, operations, precedence, range_with_len, slice_index_or, transactions, true, zip, ℕ, ◌&&◌, ◌+◌, ◌==◌, ◌||◌, ◌∷◌, ◌≡◌}
+use Rattle.tmw_part.specs.Shared.{Each, Event, IsLeftOf, Kind, Op, Txn, W, is_unread, left_by, list_all, list_any, may_go_whole, operations, precedence, range_with_len, transactions}
+use Rattle.std.specs.Prelude.{Bool, IsTrue, List, None, Option, Some, [], false, if◌then◌else◌, map, not, slice_index_or, true, zip, ℕ, ◌&&◌, ◌+◌, ◌==◌, ◌||◌, ◌∷◌, ◌≡◌}
 use Rattle.tmw_part.specs.declared.piece.Call.{Call}
 use Rattle.tmw_part.specs.Marks.{keeps_last, kept_of, places_of}
 use Rattle.tmw_part.specs.NameInWindow.{owner_in, txn_at}

@@ -1,5 +1,6 @@
 -- Which events of a window are kept: a mark for each, in order.
-use Rattle.tmw_part.specs.Shared.{Bool, Event, List, enumerate_from, filter, length, list_any, map, not, replicate, slice_get, true, unwrap_or, zip, ℕ, ◌&&◌, ◌-◌}
+use Rattle.tmw_part.specs.Shared.{Event, enumerate_from, list_any}
+use Rattle.std.specs.Prelude.{Bool, List, filter, length, map, not, replicate, slice_get, true, unwrap_or, zip, ℕ, ◌&&◌, ◌-◌}
 use Rattle.tmw_part.specs.declared.piece.Piece.{Piece}
 use Rattle.tmw_part.specs.Pieces.{is_of}
 

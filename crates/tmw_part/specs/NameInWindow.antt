@@ -1,5 +1,6 @@
 -- Which transactions of a window are those of what is kept of it.
-use Rattle.tmw_part.specs.Shared.{Bool, Event, List, Txn, [], length, map, nat_le, position, slice_index_or, transactions, unwrap_or, ℕ, ◌&&◌, ◌==◌}
+use Rattle.tmw_part.specs.Shared.{Event, Txn, transactions}
+use Rattle.std.specs.Prelude.{Bool, List, [], length, map, nat_le, position, slice_index_or, unwrap_or, ℕ, ◌&&◌, ◌==◌}
 use Rattle.tmw_part.specs.declared.name_in_window.Name.{Name}
 use Rattle.tmw_part.specs.Marks.{kept_of, places_of}
 

@@ -1,5 +1,6 @@
 -- Who in a window wrote a value that a transaction read of a register, and what became of that write.
-use Rattle.tmw_part.specs.Shared.{Aborted, Bool, Event, Kind, List, Live, None, Op, Option, Some, Status, Txn, X, [], false, filter, if◌then◌else◌, is_answered, left_by, length, list_any, map, nat_lt, not, operation, operations, option_or, slice_get, status_of, transactions, true, unwrap_or, ℕ, ◌&&◌, ◌-◌, ◌==◌, ◌∷◌}
+use Rattle.tmw_part.specs.Shared.{Aborted, Event, Kind, Live, Op, Status, Txn, X, is_answered, left_by, list_any, operation, operations, option_or, status_of, transactions}
+use Rattle.std.specs.Prelude.{Bool, List, None, Option, Some, [], false, filter, if◌then◌else◌, length, map, nat_lt, not, slice_get, true, unwrap_or, ℕ, ◌&&◌, ◌-◌, ◌==◌, ◌∷◌}
 use Rattle.tmw_part.specs.declared.origin.Fate.{Fate}
 use Rattle.tmw_part.specs.declared.origin.Fate.TheVariants.{GivenUp, GivingUp, Unasked, Overwritten, Stays}
 use Rattle.tmw_part.specs.declared.origin.Origin.{Origin}

@@ -1,5 +1,6 @@
 -- The test of what is kept of a window, as it is computed.
-use Rattle.tmw_part.specs.Shared.{Aborted, Add, Bool, Committed, Event, Kind, List, Live, Op, Pending, Read, Status, Txn, Write, [], false, if◌then◌else◌, is_unread, list_all, map, may_go, operations, precedes, status_of, transactions, true, ℕ, ◌&&◌, ◌==◌, ◌∷◌}
+use Rattle.tmw_part.specs.Shared.{Aborted, Add, Committed, Event, Kind, Live, Op, Pending, Read, Status, Txn, Write, is_unread, list_all, may_go, operations, precedes, status_of, transactions}
+use Rattle.std.specs.Prelude.{Bool, List, [], false, if◌then◌else◌, map, true, ℕ, ◌&&◌, ◌==◌, ◌∷◌}
 use Rattle.tmw_part.specs.KeptPart.{agree, are_placed, is_same, is_whole, may_miss_all, part_of}
 use Rattle.tmw_part.specs.Marks.{keeps_last, places_of}
 use Rattle.tmw_part.specs.NameInWindow.{owner_in, txn_at}

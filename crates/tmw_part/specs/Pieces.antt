@@ -1,6 +1,7 @@
 -- The pieces of a window, each of which is taken out at once, alone or together with the reads of its values: its transactions, and their
 -- calls, each with its answer if it has one.
-use Rattle.tmw_part.specs.Shared.{Bool, Event, Kind, List, N, None, Option, R, Some, Txn, V, W, [], false, filter, find, if◌then◌else◌, is_call, list_any, map, nat_le, option_map, position, transactions, ℕ, ◌%◌, ◌&&◌, ◌++◌, ◌+◌, ◌==◌, ◌^◌, ◌∷◌}
+use Rattle.tmw_part.specs.Shared.{Event, Kind, N, R, Txn, V, W, is_call, list_any, transactions}
+use Rattle.std.specs.Prelude.{Bool, List, None, Option, Some, [], false, filter, find, if◌then◌else◌, map, nat_le, option_map, position, ℕ, ◌%◌, ◌&&◌, ◌++◌, ◌+◌, ◌==◌, ◌^◌, ◌∷◌}
 use Rattle.tmw_part.specs.declared.piece.Call.{Call}
 use Rattle.tmw_part.specs.declared.piece.Piece.{Piece}
 

@@ -1,6 +1,7 @@
 -- Steps of a reason why transactions have no serial order: when a step follows from those before it, and when they contradict each other.
 -- A transaction is told by its place in the list of all. A value comes from the transaction that left it, or from the start.
-use Rattle.tmw_part.specs.Shared.{Add, Bool, Committed, Criterion, IsTrue, List, None, Op, Option, Read, Some, State, Status, Txn, Write, [], false, if◌then◌else◌, is_some, left_by, length, list_all, list_any, may_hold, nat_lt, not, operations, option_eq, precedes, range_with_len, slice_get, slice_index, status_of, take, true, ℕ, ◌&&◌, ◌==◌, ◌||◌, ◌∷◌, ◌≡◌, ◌≤◌}
+use Rattle.tmw_part.specs.Shared.{Add, Committed, Criterion, Op, Read, State, Status, Txn, Write, left_by, list_all, list_any, may_hold, operations, option_eq, precedes, range_with_len, status_of}
+use Rattle.std.specs.Prelude.{Bool, IsTrue, List, None, Option, Some, [], false, if◌then◌else◌, is_some, length, nat_lt, not, slice_get, slice_index, take, true, ℕ, ◌&&◌, ◌==◌, ◌||◌, ◌∷◌, ◌≡◌, ◌≤◌}
 use Rattle.tmw_defs.specs.declared.criterion.Criterion.TheVariants.{Opacity, Strict}
 use Rattle.tmw_part.specs.declared.reason_step.ValueSource.{ValueSource}
 use Rattle.tmw_part.specs.declared.reason_step.ReasonStep.{ReasonStep}

@@ -1,5 +1,6 @@
 -- What the steps of a reason say of a serial order, what a reason is, and the law that its steps hold in each order.
-use Rattle.tmw_part.specs.Shared.{All, Bool, Contains, Criterion, Event, IsTrue, List, None, Option, Placed, Some, State, Txn, [], false, filter, flat_map, if◌then◌else◌, length, list_all, list_any, map, nat_lt, not, operations, option_to_list, pred, range_with_len, remove, slice_get, suc, take, transactions, true, writes, zip, ℕ, ◌&&◌, ◌++◌, ◌<◌, ◌==◌, ◌∷◌, ◌≡◌, ◌≤◌, ◌⊎◌}
+use Rattle.tmw_part.specs.Shared.{Contains, Criterion, Event, Placed, State, Txn, flat_map, list_all, list_any, operations, option_to_list, range_with_len, transactions, writes}
+use Rattle.std.specs.Prelude.{All, Bool, IsTrue, List, None, Option, Some, [], false, filter, if◌then◌else◌, length, map, nat_lt, not, pred, remove, slice_get, suc, take, true, zip, ℕ, ◌&&◌, ◌++◌, ◌<◌, ◌==◌, ◌∷◌, ◌≡◌, ◌≤◌, ◌⊎◌}
 use Rattle.tmw_defs.specs.Criteria.{ExplainsBy}
 use Rattle.tmw_part.specs.declared.reason_case.Derivation.{Derivation}
 use Rattle.tmw_part.specs.declared.reason_case.ReasonCase.{ReasonCase}

@@ -1,7 +1,6 @@
 -- What the definitions and contracts of this crate take from the libraries and from the crates below.
 pub use Rattle.std.specs.List.{Contains, enumerate_from, flat_map, list_all, list_any, range_with_len}
 pub use Rattle.std.specs.Option.{option_eq, option_or, option_to_list}
-pub use Rattle.std.specs.Prelude.{All, Bool, IfNone, IfOk, IfSome, IsFalse, IsTrue, List, MatchOption, None, OnOk, Option, Some, [], false, filter, find, if◌then◌else◌, is_some, length, map, nat_le, nat_lt, not, option_map, position, pred, remove, replicate, slice_get, slice_index, slice_index_or, suc, take, true, unwrap_or, zip, ℕ, ◌%◌, ◌&&◌, ◌++◌, ◌+◌, ◌-◌, ◌<◌, ◌==◌, ◌^◌, ◌||◌, ◌↔◌, ◌∷◌, ◌≡◌, ◌≢◌, ◌≤◌, ◌⊎◌}
 pub use Rattle.tmw_cuts.specs.Members.{members}
 pub use Rattle.tmw_cuts.specs.RegisterUse.{left_by, writes}
 pub use Rattle.tmw_defs.specs.History.{Txn, add_event, is_call, is_ended, is_well_formed, operation, operations, status_of, transactions}

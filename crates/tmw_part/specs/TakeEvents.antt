@@ -1,5 +1,6 @@
 -- Events that are taken one by one into a window, as long as they are well-formed and of at most eight transactions.
-use Rattle.tmw_part.specs.Shared.{Event, IsFalse, List, is_well_formed, length, transactions, ℕ, ◌<◌, ◌≡◌, ◌≤◌, ◌⊎◌}
+use Rattle.tmw_part.specs.Shared.{Event, is_well_formed, transactions}
+use Rattle.std.specs.Prelude.{IsFalse, List, length, ℕ, ◌<◌, ◌≡◌, ◌≤◌, ◌⊎◌}
 use Rattle.tmw_cuts.specs.declared.window.Window.{Window}
 use Rattle.tmw_cuts.specs.StandsFor.{StandsFor}
 

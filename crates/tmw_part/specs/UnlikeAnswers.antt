@@ -1,5 +1,6 @@
 -- What a transaction's answers say of a register: what it needs before its own operations, and which are unlike what those make known.
-use Rattle.tmw_part.specs.Shared.{Add, List, None, Op, Option, Read, Some, Write, [], if◌then◌else◌, ℕ, ◌%◌, ◌+◌, ◌==◌, ◌^◌, ◌∷◌}
+use Rattle.tmw_part.specs.Shared.{Add, Op, Read, Write}
+use Rattle.std.specs.Prelude.{List, None, Option, Some, [], if◌then◌else◌, ℕ, ◌%◌, ◌+◌, ◌==◌, ◌^◌, ◌∷◌}
 
 -- The value that the first operation on the register was answered: the operations need the register to hold it before them.
 abbrev pub needed_of : ℕ → List Op → Option ℕ

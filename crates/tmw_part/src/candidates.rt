@@ -1,4 +1,4 @@
-ghost use Rattle.tmw_part.specs.Shared.{IfOk};
+ghost use Rattle.std.specs.Prelude.{IfOk};
 ghost use Rattle.tmw_part.specs.DerivationSearch.{AreCandidates};
 
 use crate::drawn_ends::drawn_ends;

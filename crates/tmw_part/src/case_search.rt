@@ -1,4 +1,5 @@
-ghost use Rattle.tmw_part.specs.Shared.{All, IfOk, IsFalse, IsTrue, OnOk, [], length, option_to_list, slice_get, ◌++◌, ◌+◌, ◌<◌, ◌∷◌, ◌≡◌};
+ghost use Rattle.tmw_part.specs.Shared.{option_to_list};
+ghost use Rattle.std.specs.Prelude.{All, IfOk, IsFalse, IsTrue, OnOk, [], length, slice_get, ◌++◌, ◌+◌, ◌<◌, ◌∷◌, ◌≡◌};
 ghost use Rattle.tmw_part.specs.CaseSearch.{AreFirst, AreSaid, FindsCase, FindsCases, Grows, IsMadeCase, RefuteFrom, asked_at};
 ghost use Rattle.tmw_part.specs.DerivationSearch.{EndsNowhere};
 ghost use Rattle.tmw_part.specs.Reasons.{IsDerivationIn, is_said_for, states_at};

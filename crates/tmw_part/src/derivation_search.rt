@@ -1,4 +1,5 @@
-ghost use Rattle.tmw_part.specs.Shared.{All, Contains, IfNone, IfOk, IfSome, IsFalse, IsTrue, Some, length, map, ◌≡◌, ◌⊎◌};
+ghost use Rattle.tmw_part.specs.Shared.{Contains};
+ghost use Rattle.std.specs.Prelude.{All, IfNone, IfOk, IfSome, IsFalse, IsTrue, Some, length, map, ◌≡◌, ◌⊎◌};
 ghost use Rattle.tmw_part.specs.DerivationSearch.{AreMade, DerivesIn, EndsNowhere, IsMade, IsMadeFrom, contradicts_in};
 ghost use Rattle.tmw_part.specs.ReasonSteps.{from_else};
 ghost use Rattle.tmw_part.specs.Reasons.{RefuteEachIn, assume_each, assumes, is_one, is_split, start_of, writers_of};

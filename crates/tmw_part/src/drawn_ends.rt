@@ -1,5 +1,5 @@
 //! The contradictions that speak of what is drawn. Those that one sentence tells are first.
-ghost use Rattle.tmw_part.specs.Shared.{IfOk, OnOk, map, ◌++◌, ◌≡◌};
+ghost use Rattle.std.specs.Prelude.{IfOk, OnOk, map, ◌++◌, ◌≡◌};
 ghost use Rattle.tmw_part.specs.declared.reason_step.Contradiction.TheVariants.{Cycle};
 ghost use Rattle.tmw_part.specs.DrawnSteps.{drawn_ends, ends_at, ends_of};
 

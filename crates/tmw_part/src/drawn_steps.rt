@@ -1,5 +1,6 @@
 //! The steps that speak of what is drawn. Those that follow from orders alone are tried first, so that a cycle is found as soon as it closes.
-ghost use Rattle.tmw_part.specs.Shared.{IfOk, OnOk, Some, flat_map, list_any, map, ◌++◌, ◌==◌, ◌≡◌};
+ghost use Rattle.tmw_part.specs.Shared.{flat_map, list_any};
+ghost use Rattle.std.specs.Prelude.{IfOk, OnOk, Some, map, ◌++◌, ◌==◌, ◌≡◌};
 ghost use Rattle.tmw_part.specs.DrawnSteps.{answered, drawn_sources, drawn_steps, real_times, source_steps, sources_at, sources_of, steps_with, throughs, throughs_to, with_register};
 ghost use Rattle.tmw_part.specs.ReasonSteps.{from_else};
 

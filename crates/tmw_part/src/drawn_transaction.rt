@@ -1,4 +1,4 @@
-ghost use Rattle.tmw_part.specs.Shared.{IfOk, map, ◌≡◌};
+ghost use Rattle.std.specs.Prelude.{IfOk, map, ◌≡◌};
 ghost use Rattle.tmw_part.specs.DrawnSteps.{drawn_in};
 
 use crate::name_in_window::owner_in;

@@ -1,4 +1,5 @@
-ghost use Rattle.tmw_part.specs.Shared.{is_answered, is_unread, list_all, may_go, not, operations, ◌≡◌};
+ghost use Rattle.tmw_part.specs.Shared.{is_answered, is_unread, list_all, may_go, operations};
+ghost use Rattle.std.specs.Prelude.{not, ◌≡◌};
 ghost use Rattle.tmw_part.specs.KeptPart.{agree, agrees};
 ghost use Rattle.tmw_part.specs.PartTest.{are_ops_left, is_left_of, is_same_op};
 

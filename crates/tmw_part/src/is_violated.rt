@@ -1,4 +1,5 @@
-ghost use Rattle.tmw_part.specs.Shared.{Event, IfNone, IfOk, IfSome, IsFalse, IsTrue, List, [], ℕ, ◌++◌, ◌∷◌};
+ghost use Rattle.tmw_part.specs.Shared.{Event};
+ghost use Rattle.std.specs.Prelude.{IfNone, IfOk, IfSome, IsFalse, IsTrue, List, [], ℕ, ◌++◌, ◌∷◌};
 ghost use Rattle.tmw_part.specs.FindPart.{TellsIn};
 ghost use Rattle.tmw_part.specs.TakeEvents.{AreTaken, AreUnfit};
 

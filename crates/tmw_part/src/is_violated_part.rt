@@ -1,4 +1,5 @@
-ghost use Rattle.tmw_part.specs.Shared.{IfOk, IsFalse, IsTrue, length, transactions, ◌≡◌, ◌≤◌};
+ghost use Rattle.tmw_part.specs.Shared.{transactions};
+ghost use Rattle.std.specs.Prelude.{IfOk, IsFalse, IsTrue, length, ◌≡◌, ◌≤◌};
 ghost use Rattle.tmw_part.specs.FindPart.{FailsIn, IsPartIn};
 ghost use Rattle.tmw_part.specs.Marks.{kept_of};
 ghost use Rattle.tmw_part.specs.PartTest.{keeps_part};

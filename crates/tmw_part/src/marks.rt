@@ -1,5 +1,6 @@
 //! Which events of a window are kept: a mark for each, in order.
-ghost use Rattle.tmw_part.specs.Shared.{IfOk, list_all, slice_index_or, true, ◌≡◌};
+ghost use Rattle.tmw_part.specs.Shared.{list_all};
+ghost use Rattle.std.specs.Prelude.{IfOk, slice_index_or, true, ◌≡◌};
 ghost use Rattle.tmw_part.specs.Marks.{is_of_any, keeps_last, kept_of, places_of, without};
 ghost use Rattle.tmw_part.specs.KeptPart.{is_whole, may_miss, may_miss_all};
 

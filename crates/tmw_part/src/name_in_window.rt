@@ -1,4 +1,5 @@
-ghost use Rattle.tmw_part.specs.Shared.{IfOk, position, slice_index_or, transactions, ◌≡◌};
+ghost use Rattle.tmw_part.specs.Shared.{transactions};
+ghost use Rattle.std.specs.Prelude.{IfOk, position, slice_index_or, ◌≡◌};
 ghost use Rattle.tmw_part.specs.NameInWindow.{lies_in, name_in, names_of, owner, owner_in};
 
 use crate::marks::{kept_of, places_of};

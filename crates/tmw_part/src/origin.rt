@@ -1,4 +1,4 @@
-ghost use Rattle.tmw_part.specs.Shared.{IfOk, IfSome, MatchOption, None, [], filter, length, ◌<◌, ◌==◌, ◌∷◌, ◌≡◌};
+ghost use Rattle.std.specs.Prelude.{IfOk, IfSome, MatchOption, None, [], filter, length, ◌<◌, ◌==◌, ◌∷◌, ◌≡◌};
 ghost use Rattle.tmw_part.specs.Origins.{answered_at, caller, fate_by, is_as_expected, latest, made, origin_at, origin_of, origins, own_calls, puts_before, stays};
 
 use crate::is_left_of::is_answered;

@@ -1,4 +1,5 @@
-ghost use Rattle.tmw_part.specs.Shared.{All, IfNone, IfOk, IfSome, IsFalse, IsTrue, length, members, transactions, ◌<◌, ◌≡◌, ◌≤◌};
+ghost use Rattle.tmw_part.specs.Shared.{members, transactions};
+ghost use Rattle.std.specs.Prelude.{All, IfNone, IfOk, IfSome, IsFalse, IsTrue, length, ◌<◌, ◌≡◌, ◌≤◌};
 ghost use Rattle.tmw_part.specs.FindPart.{AreNeededIn, FindsPart, IsMinimalIn, IsNeededIn, IsPartIn};
 ghost use Rattle.tmw_part.specs.Marks.{kept_of};
 ghost use Rattle.tmw_part.specs.Pieces.{pieces};

@@ -1,4 +1,5 @@
-ghost use Rattle.tmw_part.specs.Shared.{IfOk, is_unread, list_all, map, ◌≡◌};
+ghost use Rattle.tmw_part.specs.Shared.{is_unread, list_all};
+ghost use Rattle.std.specs.Prelude.{IfOk, map, ◌≡◌};
 ghost use Rattle.tmw_part.specs.NameInWindow.{owner_in};
 ghost use Rattle.tmw_part.specs.KeptPart.{are_placed, is_among, without_number};
 ghost use Rattle.tmw_part.specs.PartTest.{is_order_kept, is_part_at, is_row_kept, is_stay};

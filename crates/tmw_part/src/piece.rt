@@ -1,4 +1,5 @@
-ghost use Rattle.tmw_part.specs.Shared.{IfOk, IfSome, find, is_call, length, map, option_map, position, ◌+◌, ◌<◌, ◌==◌, ◌^◌, ◌≡◌};
+ghost use Rattle.tmw_part.specs.Shared.{is_call};
+ghost use Rattle.std.specs.Prelude.{IfOk, IfSome, find, length, map, option_map, position, ◌+◌, ◌<◌, ◌==◌, ◌^◌, ◌≡◌};
 ghost use Rattle.tmw_part.specs.Pieces.{call_of, calls, is_of, is_within, pieces, whole_of};
 
 use crate::transaction::{Transaction, transactions};

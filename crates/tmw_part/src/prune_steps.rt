@@ -1,4 +1,4 @@
-ghost use Rattle.tmw_part.specs.Shared.{IfOk, IsFalse, IsTrue, length, remove, ◌<◌, ◌↔◌, ◌≡◌};
+ghost use Rattle.std.specs.Prelude.{IfOk, IsFalse, IsTrue, length, remove, ◌<◌, ◌↔◌, ◌≡◌};
 ghost use Rattle.tmw_part.specs.Reasons.{AssumesNeededIn, IsContradictedIn, IsNeededEachIn};
 ghost use Rattle.tmw_part.specs.DerivationSearch.{AreAmong, DerivesIn};
 

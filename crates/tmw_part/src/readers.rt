@@ -1,4 +1,4 @@
-ghost use Rattle.tmw_part.specs.Shared.{IfOk, ◌≡◌};
+ghost use Rattle.std.specs.Prelude.{IfOk, ◌≡◌};
 ghost use Rattle.tmw_part.specs.Pieces.{is_put, puts, readers, reads_put, with_readers};
 
 use crate::piece::{Call, Piece, calls};

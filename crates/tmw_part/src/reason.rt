@@ -1,4 +1,4 @@
-ghost use Rattle.tmw_part.specs.Shared.{IfOk};
+ghost use Rattle.std.specs.Prelude.{IfOk};
 ghost use Rattle.tmw_part.specs.DrawnSteps.{drawn_of};
 ghost use Rattle.tmw_part.specs.FindReason.{FindsAmong, FindsReason};
 ghost use Rattle.tmw_part.specs.Reasons.{ReasonLaw, ReasonTells};

@@ -1,4 +1,5 @@
-ghost use Rattle.tmw_part.specs.Shared.{None, left_by, operations, ◌≡◌};
+ghost use Rattle.tmw_part.specs.Shared.{left_by, operations};
+ghost use Rattle.std.specs.Prelude.{None, ◌≡◌};
 ghost use Rattle.tmw_part.specs.ReasonSteps.{needs};
 ghost use Rattle.tmw_part.specs.UnlikeAnswers.{answer_of, first_unlike, known_after, needed_of};
 

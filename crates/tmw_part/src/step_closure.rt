@@ -1,4 +1,5 @@
-ghost use Rattle.tmw_part.specs.Shared.{All, Contains, IfOk, find, length, list_any, ◌≡◌};
+ghost use Rattle.tmw_part.specs.Shared.{Contains, list_any};
+ghost use Rattle.std.specs.Prelude.{All, IfOk, find, length, ◌≡◌};
 ghost use Rattle.tmw_part.specs.ReasonSteps.{contradicts};
 ghost use Rattle.tmw_part.specs.DerivationSearch.{Closes, is_news};
 

@@ -1,4 +1,5 @@
-ghost use Rattle.tmw_part.specs.Shared.{list_any, ◌≡◌};
+ghost use Rattle.tmw_part.specs.Shared.{list_any};
+ghost use Rattle.std.specs.Prelude.{◌≡◌};
 ghost use Rattle.tmw_part.specs.ReasonSteps.{begins_before, ends_before, excludes, gives, is_before, orders, supplies, tells};
 
 use crate::reason_step::{ReasonStep, ValueSource};

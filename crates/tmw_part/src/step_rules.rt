@@ -1,4 +1,5 @@
-ghost use Rattle.tmw_part.specs.Shared.{Some, length, list_all, list_any, not, precedes, range_with_len, slice_index, ◌&&◌, ◌<◌, ◌==◌, ◌≡◌};
+ghost use Rattle.tmw_part.specs.Shared.{list_all, list_any, precedes, range_with_len};
+ghost use Rattle.std.specs.Prelude.{Some, length, not, slice_index, ◌&&◌, ◌<◌, ◌==◌, ◌≡◌};
 ghost use Rattle.tmw_part.specs.ReasonSteps.{comes_not_else, contradicts, follows, has_place, has_writer, is_asked, is_before, is_held, is_known_rival, is_left_by_none, is_only, is_overwritten, is_rival, may_come_from, stands_between};
 ghost use Rattle.tmw_part.specs.NameInWindow.{txn_at};
 

@@ -1,4 +1,5 @@
-ghost use Rattle.tmw_part.specs.Shared.{IfOk, OnOk, add_event, is_ended, operations, position, precedes, status_of, transactions, ◌≡◌};
+ghost use Rattle.tmw_part.specs.Shared.{add_event, is_ended, operations, precedes, status_of, transactions};
+ghost use Rattle.std.specs.Prelude.{IfOk, OnOk, position, ◌≡◌};
 ghost use Rattle.std.specs.Iterator.{YieldsFirst, item_count};
 ghost use Rattle.tmw_defs.proofs.OneMore.{joins};
 

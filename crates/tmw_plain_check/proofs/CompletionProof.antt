@@ -1,5 +1,5 @@
 -- The search through completions is sound and complete: it answers true exactly where the transactions have a strict order.
-use Rattle.tmw_plain_check.proofs.Shared.{AreHeld, HasOrder, HasStrictOrder, IsTrue, List, State, Txn, [], and_from, and_parts, ap, append-nil, append_assoc, false, goes_with, has_completion, inl, inr, is_explained-complete, is_explained-sound, may_hold, or_cases, or_left, or_right, refl, status_of, sym, true, ◌&&◌, ◌++◌, ◌∙◌, ◌∷◌, ◌≡◌, arith}
+use Rattle.tmw_plain_check.proofs.Shared.{AreHeld, HasOrder, HasStrictOrder, IsTrue, List, State, Txn, [], and_from, and_parts, ap, append-nil, append_assoc, arith, false, goes_with, has_completion, inl, inr, is_explained-complete, is_explained-sound, may_hold, or_cases, or_left, or_right, refl, status_of, sym, true, ◌&&◌, ◌++◌, ◌∙◌, ◌∷◌, ◌≡◌}
 use Rattle.tmw_plain_check.proofs.StrictOrders.{strict-held}
 
 -- what is held behind members has, with them, a legal serial order

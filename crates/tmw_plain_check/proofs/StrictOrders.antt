@@ -1,5 +1,6 @@
 -- Transactions that have a legal serial order have one of what a completion of them holds: those that it leaves out change nothing.
-use Rattle.tmw_plain_check.proofs.Shared.{AreHeld, Explains, HasOrder, HasStrictOrder, IsTrue, List, Placed, Some, State, Txn, [], after, and_from, and_parts, ap, cases_Bool, false, inl, inr, list_all, may_hold, not, precedes, refl, remove, slice_get, status_of, subst, suc, sym, true, zero, ℕ, ◌∙◌, ◌∷◌, ◌≡◌, arith}
+use Rattle.tmw_plain_check.proofs.Shared.{AreHeld, Explains, HasOrder, HasStrictOrder, IsTrue, List, Placed, Some, State, Txn, [], after, and_from, and_parts, ap, arith, cases_Bool, false, inl, inr, may_hold, not, precedes, refl, remove, slice_get, status_of, subst, suc, sym, true, zero, ℕ, ◌∙◌, ◌∷◌, ◌≡◌}
+use Rattle.std.specs.List.{list_all}
 use Rattle.tmw_defs.proofs.Completions.{list_all-held}
 use Rattle.tmw_defs.proofs.Removals.{list_all-places}
 

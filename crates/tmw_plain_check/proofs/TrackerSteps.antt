@@ -1,5 +1,5 @@
 -- One event of a list more, for a tracker.
-use Rattle.tmw_plain_check.proofs.Shared.{Event, IfErr, IfOk, IsFalse, List, Result, Tracks, [], false, get_or, is_err, is_well_formed, length, take, take_more, true, ℕ, ◌++◌, ◌+◌, ◌<◌, ◌∷◌, ◌≡◌, arith}
+use Rattle.tmw_plain_check.proofs.Shared.{Event, IfErr, IfOk, IsFalse, List, Result, Tracks, [], arith, false, get_or, is_err, is_well_formed, length, take, take_more, true, ℕ, ◌++◌, ◌+◌, ◌<◌, ◌∷◌, ◌≡◌}
 use Rattle.tmw_wellformed.specs.declared.malformed.Malformed.{Malformed}
 use Rattle.tmw_wellformed.specs.declared.tracker.Tracker.{Tracker}
 use Rattle.tmw_wellformed.specs.Faults.{Refuses}

@@ -1,6 +1,9 @@
 -- Whether what some completion of transactions holds has a legal serial order, by trying each choice of what it holds. That this
 -- decides strict serializability is proved in proofs/CompletionProof.
-use Rattle.tmw_plain_check.specs.Shared.{Bool, List, State, Txn, [], false, is_explained, may_hold, status_of, true, ◌&&◌, ◌++◌, ◌||◌, ◌∷◌}
+use Rattle.std.specs.Prelude.{◌&&◌, ◌||◌, ◌++◌, Bool, true, false, List, [], ◌∷◌}
+use Rattle.tmw_defs.specs.OrderDecision.{is_explained}
+use Rattle.tmw_defs.specs.History.{Txn, status_of}
+use Rattle.tmw_defs.specs.Opaque.{State, may_hold}
 
 -- Whether some completion of these members, and of what it may hold of the transactions behind, has a legal serial order.
 abbrev pub goes_with : State → List Txn → List Txn → Bool

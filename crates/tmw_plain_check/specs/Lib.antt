@@ -1,4 +1,3 @@
 pub mod Completions
 pub mod PlainTransaction
-mod Shared
 pub mod Verdict

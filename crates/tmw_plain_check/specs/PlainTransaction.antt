@@ -1,6 +1,7 @@
 -- What the search's values show: of its transactions those of the definitions.
-use Rattle.tmw_plain_check.specs.Shared.{Bool, List, Txn, is_ended, map, not, ℕ, ◌&&◌, ◌==◌}
+use Rattle.std.specs.Prelude.{◌==◌, ◌&&◌, ℕ, Bool, not, List, map}
 use Rattle.std.specs.Borrow.{Bor}
+use Rattle.tmw_defs.specs.History.{Txn, is_ended}
 use Rattle.tmw_plain_check.specs.declared.plain_transaction.PlainTransaction.{PlainTransaction}
 
 abbrev pub txn_of : PlainTransaction → Txn

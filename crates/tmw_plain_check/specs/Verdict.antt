@@ -1,13 +1,15 @@
 -- What the plain check answers: it tells of the shortest prefix that is at fault, and which fault that is.
-use Rattle.tmw_plain_check.specs.Shared.{Bool, Err, IsFalse, IsTrue, List, Ok, Placed, Result, State, Txn, false, is_well_formed, length, take, transactions, true, ℕ, ◌<◌, ◌≡◌, ◌≤◌}
+use Rattle.std.specs.Prelude.{◌≡◌, ◌<◌, ◌≤◌, ℕ, Bool, true, false, List, length, take, Result, Ok, Err, IsTrue, IsFalse}
 use Rattle.tmw_events.specs.declared.event.Event.{Event}
 use Rattle.tmw_defs.specs.declared.criterion.Criterion.{Criterion}
+use Rattle.tmw_defs.specs.declared.criterion.Criterion.TheVariants as by
 use Rattle.tmw_defs.specs.Criteria.{ExplainsBy, IsFinalBy}
+use Rattle.tmw_defs.specs.History.{Txn, transactions, is_well_formed}
+use Rattle.tmw_defs.specs.Opaque.{State, Placed}
 use Rattle.tmw_plain_check.specs.declared.whole_verdict.Whole.{Whole}
 use Rattle.tmw_plain_check.specs.declared.whole_verdict.Whole.TheVariants.{Opaque, Strict, Violated}
 use Rattle.tmw_plain_check.specs.declared.whole_verdict.WholeFault.{WholeFault}
 use Rattle.tmw_plain_check.specs.declared.whole_verdict.WholeFault.TheVariants.{IllFormed, Ninth, Memory}
-use Rattle.tmw_defs.specs.declared.criterion.Criterion.TheVariants as by
 
 -- Nothing is at fault: the history is final-state opaque, or final-state strict where that is the criterion, and has at most eight
 -- transactions.

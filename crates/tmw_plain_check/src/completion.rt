@@ -1,4 +1,4 @@
-ghost use Rattle.tmw_plain_check.specs.Shared.{IfOk, [], ◌++◌, ◌∷◌, ◌≡◌};
+ghost use Rattle.std.specs.Prelude.{◌≡◌, ◌∷◌, ◌++◌, [], IfOk};
 ghost use Rattle.tmw_plain_check.specs.Completions.{goes_with, has_completion};
 ghost use Rattle.tmw_plain_check.specs.PlainTransaction.{txn_of, txns_of, shown};
 

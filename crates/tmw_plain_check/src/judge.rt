@@ -1,4 +1,4 @@
-ghost use Rattle.tmw_plain_check.specs.Shared.{zeros};
+ghost use Rattle.tmw_defs.specs.Opaque.{zeros};
 ghost use Rattle.tmw_plain_check.specs.Verdict.{Judges, JudgesBy, Weighs};
 
 use crate::completion::has_completion;

@@ -1,5 +1,6 @@
 //! What the text of a transaction says. The check has its own functions for it, so that no mistake of the judge can be theirs too.
-ghost use Rattle.tmw_plain_check.specs.Shared.{MatchOption, Some, [], is_ended, operation, status_after, status_of, ◌∷◌, ◌≡◌};
+ghost use Rattle.std.specs.Prelude.{◌≡◌, [], ◌∷◌, Some, MatchOption};
+ghost use Rattle.tmw_defs.specs.History.{is_ended, operation, status_after, status_of};
 
 use tmw_defs::{Op, Status};
 use tmw_events::Kind;

@@ -1,4 +1,6 @@
-ghost use Rattle.tmw_plain_check.specs.Shared.{IfOk, false, has_order, is_explained, is_free, length, may_come, may_hold, precedes, remove, true, ◌&&◌, ◌-◌, ◌<◌, ◌||◌, ◌≡◌};
+ghost use Rattle.std.specs.Prelude.{◌≡◌, ◌-◌, ◌<◌, ◌&&◌, ◌||◌, true, false, IfOk, length, remove};
+ghost use Rattle.tmw_defs.specs.Opaque.{precedes, may_hold};
+ghost use Rattle.tmw_defs.specs.OrderDecision.{is_free, may_come, has_order, is_explained};
 ghost use Rattle.tmw_plain_check.specs.PlainTransaction.{txn_of, txns_of, shown};
 
 use crate::operation_and_status::{is_ended, status_of};

@@ -1,4 +1,5 @@
-ghost use Rattle.tmw_plain_check.specs.Shared.{IfOk, OnOk, add_event, position, transactions, ◌≡◌};
+ghost use Rattle.std.specs.Prelude.{◌≡◌, IfOk, OnOk, position};
+ghost use Rattle.tmw_defs.specs.History.{add_event, transactions};
 ghost use Rattle.tmw_plain_check.specs.PlainTransaction.{txns_of, joins};
 
 use crate::operation_and_status::is_ended;

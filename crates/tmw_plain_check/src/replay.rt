@@ -1,4 +1,5 @@
-ghost use Rattle.tmw_plain_check.specs.Shared.{[], operations, ◌∷◌};
+ghost use Rattle.std.specs.Prelude.{[], ◌∷◌};
+ghost use Rattle.tmw_defs.specs.History.{operations};
 ghost use Rattle.tmw_cuts.specs.Replays.{Replays};
 
 use crate::operation_and_status::operation;

@@ -1,7 +1,8 @@
 -- What two ends of a ring know when they meet, and what they know afterwards.
 use mathlib.Core.Option.{some}
 use lib.ListN.{get_elem?}
-use Rattle.tmw_ring.specs.Shared.{Answered, Event, Gone, IsRunTo, List, Me, Step, [], length, map, reader_actor, writer_actor, ℕ, ◌++◌, ◌∷◌, ◌≡◌, ◌≤◌}
+use Rattle.tmw_ring.specs.Shared.{Answered, Event, Gone, IsRunTo, Me, Step, reader_actor, writer_actor}
+use Rattle.std.specs.Prelude.{List, [], length, map, ℕ, ◌++◌, ◌∷◌, ◌≡◌, ◌≤◌}
 use Rattle.tmw_ring.specs.RingEnds.{WriterIs, ReaderIs}
 use Rattle.tmw_ring.specs.SeatPart.{Parts, made_from, size_of}
 use Rattle.tmw_ring.specs.Rule.{Knows}

@@ -1,5 +1,6 @@
 -- How the call for a new ring is answered.
-use Rattle.tmw_ring.specs.Shared.{All, HasNumbers, List, [], get_or, length, ℕ, ◌<◌, ◌≡◌}
+use Rattle.tmw_ring.specs.Shared.{HasNumbers}
+use Rattle.std.specs.Prelude.{All, List, [], get_or, length, ℕ, ◌<◌, ◌≡◌}
 use Rattle.tmw_ring.specs.RingEnds.{RingIs, WriterIs, ReaderIs, WriterOf, ReaderOf}
 
 -- The writer of this number has claimed nothing and seen nothing, and no step was made.

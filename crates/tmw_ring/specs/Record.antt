@@ -1,5 +1,6 @@
 -- How the call to record an event is answered.
-use Rattle.tmw_ring.specs.Shared.{Answered, Claim, Fill, Front, HasMade, IsFalse, IsTrue, Ix, Kind, List, Publish, Tail, [], is_full, is_spent, writer_actor, ℕ, ◌++◌, ◌+◌, ◌<◌, ◌^◌, ◌∷◌, ◌≡◌, ◌≤◌}
+use Rattle.tmw_ring.specs.Shared.{Answered, Claim, Fill, Front, HasMade, Ix, Kind, Publish, Tail, is_full, is_spent, writer_actor}
+use Rattle.std.specs.Prelude.{IsFalse, IsTrue, List, [], ℕ, ◌++◌, ◌+◌, ◌<◌, ◌^◌, ◌∷◌, ◌≡◌, ◌≤◌}
 use Rattle.tmw_ring.specs.RingEnds.{WriterIs}
 use Rattle.tmw_ring.specs.declared.seat_part.Made.{Made}
 use Rattle.tmw_ring.specs.declared.refused.Refused.{Refused}

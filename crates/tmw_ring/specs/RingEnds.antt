@@ -1,5 +1,6 @@
 -- What callers see of a ring, of its writers and of its reader.
-use Rattle.tmw_ring.specs.Shared.{Answered, Event, Ix, List, RingSize, TableId, ℕ, ◌≡◌}
+use Rattle.tmw_ring.specs.Shared.{Answered, Event, Ix, RingSize, TableId}
+use Rattle.std.specs.Prelude.{List, ℕ, ◌≡◌}
 use Rattle.tmw_ring.specs.declared.seat_part.Made.{Made}
 
 pub record RingIs : Type 0 where

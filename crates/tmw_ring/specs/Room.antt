@@ -1,5 +1,6 @@
 -- What a writer learns that looks whether several records find room, and how long that holds good.
-use Rattle.tmw_ring.specs.Shared.{Answered, HasMade, HasRoomFor, IsFalse, IsTrue, Kind, List, Me, [], is_full, is_spent, last_tail, writer_actor, ℕ, ◌++◌, ◌+◌, ◌≡◌, ◌≤◌}
+use Rattle.tmw_ring.specs.Shared.{Answered, HasMade, HasRoomFor, Kind, Me, is_full, is_spent, last_tail, writer_actor}
+use Rattle.std.specs.Prelude.{IsFalse, IsTrue, List, [], ℕ, ◌++◌, ◌+◌, ◌≡◌, ◌≤◌}
 use Rattle.tmw_ring_defs.specs.RoomLaw.{places_freed}
 use Rattle.tmw_ring.specs.RingEnds.{WriterIs}
 use Rattle.tmw_ring.specs.Meet.{FindsTail}

@@ -1,7 +1,8 @@
 -- The rule of a ring's table: its words and the parts of all its seats show one sound ring, and one run that led to it.
 use mathlib.Core.Option.{some}
 use lib.ListN.{get_elem?}
-use Rattle.tmw_ring.specs.Shared.{All, Answered, Claimed, Cleared, Core, Event, FitsKind, Gone, Idle, IsHeader, List, Looked, RingSize, Runs, Some, State, WriterPhase, [], new_core, slice_get, ℕ, ◌<◌, ◌≡◌, ◌≤◌}
+use Rattle.tmw_ring.specs.Shared.{Answered, Claimed, Cleared, Core, Event, FitsKind, Gone, Idle, IsHeader, Looked, RingSize, Runs, State, WriterPhase, new_core}
+use Rattle.std.specs.Prelude.{All, List, Some, [], slice_get, ℕ, ◌<◌, ◌≡◌, ◌≤◌}
 use Rattle.tmw_ring_defs.specs.RingSound.{IsIn, Sound}
 use Rattle.tmw_ring.specs.SeatPart.{Parts, key, run_of, made_from}
 use Rattle.tmw_ring.specs.TableWords.{words_of}

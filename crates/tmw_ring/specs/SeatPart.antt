@@ -1,5 +1,6 @@
 -- What the ring's actors know, in parts, and which part is whose.
-use Rattle.tmw_ring.specs.Shared.{Answered, Event, Idle, List, RingSize, Waiting, [], if◌then◌else◌, ix_of, reader_actor, suc, writer_actor, zero, ℕ, ◌+◌, ◌==◌, ◌∷◌}
+use Rattle.tmw_ring.specs.Shared.{Answered, Event, Idle, RingSize, Waiting, ix_of, reader_actor, writer_actor}
+use Rattle.std.specs.Prelude.{List, [], if◌then◌else◌, suc, zero, ℕ, ◌+◌, ◌==◌, ◌∷◌}
 use Rattle.tmw_ring.specs.declared.seat_part.Made.{Made}
 use Rattle.tmw_ring.specs.declared.seat_part.Part.{Part}
 use Rattle.tmw_ring.specs.declared.seat_part.Part.TheVariants.{Writes, Reads}

@@ -1,5 +1,6 @@
 -- What a seat of a ring's table knows, as its writer or its reader, and how what it knows is cut in two.
-use Rattle.tmw_ring.specs.Shared.{Idle, Ix, Me, RingSize, TableId, Waiting, [], length, ℕ, ◌^◌, ◌∷◌, ◌≡◌}
+use Rattle.tmw_ring.specs.Shared.{Idle, Ix, Me, RingSize, TableId, Waiting}
+use Rattle.std.specs.Prelude.{[], length, ℕ, ◌^◌, ◌∷◌, ◌≡◌}
 use Rattle.std.proofs.Common.{refl}
 use Rattle.std.proofs.lemmas.Bool.{leb-true}
 use Rattle.tmw_ring.specs.RingEnds.{WriterIs, ReaderIs}

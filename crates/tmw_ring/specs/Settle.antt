@@ -1,5 +1,6 @@
 -- What is left of a ring when all its ends have come back.
-use Rattle.tmw_ring.specs.Shared.{All, Answered, Event, FitsKind, Gone, Idle, IsRunTo, List, [], get_or, header_of, length, pack, reader_actor, slice_index, suc, unpacked, writer_actor, zero, ℕ, ◌++◌, ◌+◌, ◌<◌, ◌^◌, ◌∷◌, ◌≡◌, ◌≤◌}
+use Rattle.tmw_ring.specs.Shared.{Answered, Event, FitsKind, Gone, Idle, IsRunTo, header_of, pack, reader_actor, unpacked, writer_actor}
+use Rattle.std.specs.Prelude.{All, List, [], get_or, length, slice_index, suc, zero, ℕ, ◌++◌, ◌+◌, ◌<◌, ◌^◌, ◌∷◌, ◌≡◌, ◌≤◌}
 use Rattle.std.specs.Mem.Slots.{slots_items, slots_len, IsFull}
 use Rattle.atomic_table.specs.declared.owned.Closed.{Closed}
 use Rattle.tmw_ring.specs.RingEnds.{WriterIs, ReaderIs}

@@ -1,5 +1,4 @@
 -- What the definitions and contracts of this crate take from the libraries and from the crates below.
-pub use Rattle.std.specs.Prelude.{All, IfErr, IfNone, IfOk, IfSome, IsFalse, IsTrue, List, OnOk, Some, [], false, get_or, if◌then◌else◌, length, map, slice_get, slice_index, slice_set, suc, true, zero, ℕ, ◌%◌, ◌*◌, ◌++◌, ◌+◌, ◌-◌, ◌/◌, ◌<◌, ◌==◌, ◌^◌, ◌∷◌, ◌≡◌, ◌≢◌, ◌≤◌}
 pub use Rattle.atomic_table.specs.Seated.{TableId}
 pub use Rattle.atomic_table.specs.Table.{Allows, Me, State, Step}
 pub use Rattle.tmw_events.specs.EventOfWords.{AreOfEvent, ix_of, unpacked}

@@ -2,7 +2,8 @@
 -- by the actors whose parts lie in the seat that changes.
 use mathlib.Core.Option.{some}
 use lib.ListN.{get_elem?}
-use Rattle.tmw_ring.specs.Shared.{Allows, Answered, Core, Front, Gone, Ix, Kind, List, Me, NoneOf, NotReady, Peek, RingSize, Runs, Saw, State, Step, [], length, own, slice_index, slice_set, ℕ, ◌++◌, ◌+◌, ◌<◌, ◌∷◌, ◌≡◌, ◌≢◌}
+use Rattle.tmw_ring.specs.Shared.{Allows, Answered, Core, Front, Gone, Ix, Kind, Me, NoneOf, NotReady, Peek, RingSize, Runs, Saw, State, Step, own}
+use Rattle.std.specs.Prelude.{List, [], length, slice_index, slice_set, ℕ, ◌++◌, ◌+◌, ◌<◌, ◌∷◌, ◌≡◌, ◌≢◌}
 use Rattle.tmw_ring_defs.specs.RingSteps.{cell_at}
 use Rattle.tmw_ring.specs.SeatPart.{Parts, key, run_of}
 use Rattle.tmw_ring.specs.Rule.{Shown}

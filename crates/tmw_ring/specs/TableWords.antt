@@ -2,7 +2,8 @@
 -- reader does stand in lines of memory of their own, so that neither waits for the other's line. Nor, of sixteen, do cells that follow
 -- one another share a line, so that threads that record at once wait less for each other's. In the code `words_at`
 -- (src/cell_layout.rt) says where a cell's words stand, and `join` and `split` of tmw_events make a first word and take it apart.
-use Rattle.tmw_ring.specs.Shared.{Core, List, [], get_or, length, stamped, suc, zero, ℕ, ◌%◌, ◌*◌, ◌+◌, ◌/◌, ◌∷◌}
+use Rattle.tmw_ring.specs.Shared.{Core, stamped}
+use Rattle.std.specs.Prelude.{List, [], get_or, length, suc, zero, ℕ, ◌%◌, ◌*◌, ◌+◌, ◌/◌, ◌∷◌}
 use Rattle.tmw_ring_defs.specs.RingCells.{empty_cell}
 use Rattle.tmw_ring_defs.specs.declared.ring_cell.RingCell.{RingCell}
 

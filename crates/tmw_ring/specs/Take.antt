@@ -1,5 +1,6 @@
 -- What each step of the reader tells it, and what a caller is told of a taking.
-use Rattle.tmw_ring.specs.Shared.{Answered, AreOfEvent, Event, Free, HasMade, List, Me, Peek, Read, Ready, Told, Waiting, [], header_of, if◌then◌else◌, length, reader_actor, stamp_of, unpacked, ℕ, ◌++◌, ◌+◌, ◌==◌, ◌^◌, ◌∷◌, ◌≡◌, ◌≤◌}
+use Rattle.tmw_ring.specs.Shared.{Answered, AreOfEvent, Event, Free, HasMade, Me, Peek, Read, Ready, Told, Waiting, header_of, reader_actor, stamp_of, unpacked}
+use Rattle.std.specs.Prelude.{List, [], if◌then◌else◌, length, ℕ, ◌++◌, ◌+◌, ◌==◌, ◌^◌, ◌∷◌, ◌≡◌, ◌≤◌}
 use Rattle.tmw_ring_defs.specs.declared.ring_phase.ReaderPhase.{ReaderPhase}
 use Rattle.tmw_ring.specs.RingEnds.{ReaderIs}
 use Rattle.tmw_ring.specs.SeatPart.{Parts}

@@ -1,5 +1,6 @@
 -- What each step of a writer tells it: the words that it finds, and what it then knows.
-use Rattle.tmw_ring.specs.Shared.{Answered, Claim, Claimed, Cleared, Fill, Filled, Front, HasMade, Idle, Kind, List, Looked, Me, Place, Publish, Published, RingSize, Saw, Tail, WriterPhase, [], false, is_full, is_spent, room_phase, room_reply, true, writer_actor, ℕ, ◌++◌, ◌+◌, ◌<◌, ◌∷◌, ◌≡◌, ◌≤◌}
+use Rattle.tmw_ring.specs.Shared.{Answered, Claim, Claimed, Cleared, Fill, Filled, Front, HasMade, Idle, Kind, Looked, Me, Place, Publish, Published, RingSize, Saw, Tail, WriterPhase, is_full, is_spent, room_phase, room_reply, writer_actor}
+use Rattle.std.specs.Prelude.{List, [], false, true, ℕ, ◌++◌, ◌+◌, ◌<◌, ◌∷◌, ◌≡◌, ◌≤◌}
 use Rattle.tmw_ring.specs.SeatPart.{Parts}
 use Rattle.tmw_ring.specs.Record.{made_at}
 use Rattle.tmw_ring.specs.SeatParts.{writer_in, IsWriter}

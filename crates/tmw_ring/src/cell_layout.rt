@@ -1,5 +1,5 @@
 //! Where the words of a place's cell stand in a ring's table.
-ghost use Rattle.tmw_ring.specs.Shared.{◌%◌, ◌<◌, ◌≡◌, ◌≤◌};
+ghost use Rattle.std.specs.Prelude.{◌%◌, ◌<◌, ◌≡◌, ◌≤◌};
 ghost use Rattle.tmw_ring.specs.TableWords.{stamp_word, value_word};
 ghost use Rattle.tmw_ring.specs.TableWords as words;
 

@@ -1,5 +1,5 @@
 //! Two ends of a ring meet: each then knows that the other's places and its own are of one log.
-ghost use Rattle.tmw_ring.specs.Shared.{[], ◌∷◌, ◌≡◌};
+ghost use Rattle.std.specs.Prelude.{[], ◌∷◌, ◌≡◌};
 ghost use Rattle.tmw_ring.specs.RingEnds.{WriterOf, ReaderOf};
 ghost use Rattle.tmw_ring.specs.Meet.{HasFoundTail, FindsTail, SeatsHaveMet, HaveMet, WritersHaveMet};
 

@@ -1,5 +1,6 @@
 //! A new ring, with all its ends.
-ghost use Rattle.tmw_ring.specs.Shared.{IfErr, IfOk, IsNoRing, OnOk, [], length, ◌≡◌};
+ghost use Rattle.tmw_ring.specs.Shared.{IsNoRing};
+ghost use Rattle.std.specs.Prelude.{IfErr, IfOk, OnOk, [], length, ◌≡◌};
 ghost use Rattle.tmw_ring.specs.NewRing.{AreNewWriters, IsNewRing};
 ghost use Rattle.tmw_ring.specs.SeatPart.{new_parts, new_reader};
 ghost use Rattle.tmw_ring.specs.SeatParts.{IsReader};

@@ -1,6 +1,7 @@
 //! A writer records an event: it looks at front and at tail, claims a place, fills in the value and publishes the
 //! place.
-ghost use Rattle.tmw_ring.specs.Shared.{Claimed, Cleared, FitsKind, Idle, IfErr, IfOk, IsHeader, Looked, false, kind_value, packed_header, true, ◌<◌, ◌^◌, ◌≡◌};
+ghost use Rattle.tmw_ring.specs.Shared.{Claimed, Cleared, FitsKind, Idle, IsHeader, Looked, kind_value, packed_header};
+ghost use Rattle.std.specs.Prelude.{IfErr, IfOk, false, true, ◌<◌, ◌^◌, ◌≡◌};
 ghost use Rattle.tmw_ring.specs.RingEnds.{WriterOf};
 ghost use Rattle.tmw_ring.specs.Record.{HasRecorded, IsRefusal};
 ghost use Rattle.tmw_ring.specs.SeatParts.{writer_at, writer_in};

@@ -1,5 +1,5 @@
 //! A ring, and the ends by which threads use it.
-ghost use Rattle.tmw_ring.specs.Shared.{◌≡◌};
+ghost use Rattle.std.specs.Prelude.{◌≡◌};
 
 use crate::rule::{RingSeat, RingTable};
 use std::marker::Model;

@@ -1,5 +1,5 @@
 //! Whether there is room for several records.
-ghost use Rattle.tmw_ring.specs.Shared.{IfErr, IfOk};
+ghost use Rattle.std.specs.Prelude.{IfErr, IfOk};
 ghost use Rattle.tmw_ring.specs.RingEnds.{WriterOf};
 ghost use Rattle.tmw_ring.specs.Room.{FindsFront, HasFoundFront, HasFoundRoom, LacksRoom, RoomStaysLaw};
 

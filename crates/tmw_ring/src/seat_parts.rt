@@ -1,5 +1,5 @@
 //! How the parts of a seat are split off, and joined with another's.
-ghost use Rattle.tmw_ring.specs.Shared.{[], ◌++◌};
+ghost use Rattle.std.specs.Prelude.{[], ◌++◌};
 ghost use Rattle.tmw_ring.specs.SeatParts.{second_alone, without_second};
 
 use crate::seat_part::Part;

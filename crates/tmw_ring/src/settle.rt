@@ -1,5 +1,5 @@
 //! The end of a running ring, at which all its ends come back.
-ghost use Rattle.tmw_ring.specs.Shared.{All, length, map, ◌++◌, ◌≡◌};
+ghost use Rattle.std.specs.Prelude.{All, length, map, ◌++◌, ◌≡◌};
 ghost use Rattle.tmw_ring.specs.RingEnds.{ReaderOf, WriterOf};
 ghost use Rattle.tmw_ring.specs.Settle.{AreInOrder, IsSettled, part_of};
 

@@ -1,5 +1,5 @@
 //! What a ring leaves, from which the events that nobody took are taken in order.
-ghost use Rattle.tmw_ring.specs.Shared.{IfNone, IfSome, [], ◌∷◌, ◌≡◌};
+ghost use Rattle.std.specs.Prelude.{IfNone, IfSome, [], ◌∷◌, ◌≡◌};
 
 use crate::cell_layout::words_at;
 use atomic_table::Closed;

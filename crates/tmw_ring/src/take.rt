@@ -1,5 +1,5 @@
 //! Taking the next event, in three steps of the reader.
-ghost use Rattle.tmw_ring.specs.Shared.{IfNone, IfSome, ◌-◌, ◌<◌, ◌^◌, ◌≡◌};
+ghost use Rattle.std.specs.Prelude.{IfNone, IfSome, ◌-◌, ◌<◌, ◌^◌, ◌≡◌};
 ghost use Rattle.tmw_ring.specs.RingEnds.{ReaderOf};
 ghost use Rattle.tmw_ring.specs.SeatParts.{IsWaitingReader};
 ghost use Rattle.tmw_ring.specs.Take.{IsReadyReader, IsToldReader, StampSeen, ValueRead, PlaceFreed, HasTaken, HasFoundNone};

@@ -1,5 +1,5 @@
 -- Each step of a sound ring is answered as the sequential log would answer it, where what its writers announced is known.
-use Rattle.tmw_ring_defs.proofs.Shared.{Announced, Asks, Bool, Claim, Claimed, Cleared, Core, Fill, Free, Front, HasRead, Idle, IsIn, Ix, Kind, Looked, None, Peek, Publish, Read, ReaderPhase, Ready, Sequential, Some, Sound, Step, Stepped, Stop, Tail, Told, Waiting, WriterPhase, announced_by, announces, ap, appended, by_writer, claim_step, core_step, false, fill_step, free_step, front_step, is_full, is_spent, length-append, packed_header, peek_step, publish_step, read_step, refl, room_phase, room_reply, sequential_of, sym, tail_step, true, unpacked, unpacked-pack, with_phase, ℕ, ◌∙◌, ◌≡◌, arith}
+use Rattle.tmw_ring_defs.proofs.Shared.{Announced, Asks, Bool, Claim, Claimed, Cleared, Core, Fill, Free, Front, HasRead, Idle, IsIn, Ix, Kind, Looked, None, Peek, Publish, Read, ReaderPhase, Ready, Sequential, Some, Sound, Step, Stepped, Stop, Tail, Told, Waiting, WriterPhase, announced_by, announces, ap, appended, arith, by_writer, claim_step, core_step, false, fill_step, free_step, front_step, is_full, is_spent, length-append, packed_header, peek_step, publish_step, read_step, refl, room_phase, room_reply, sequential_of, sym, tail_step, true, unpacked, unpacked-pack, with_phase, ℕ, ◌∙◌, ◌≡◌}
 use Rattle.tmw_ring_defs.proofs.RingPhases.{phase_cases}
 
 -- A writer that has looked or is cleared has this kind to record.

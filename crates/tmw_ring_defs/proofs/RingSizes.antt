@@ -1,5 +1,5 @@
 -- A step keeps the ring's size.
-use Rattle.tmw_ring_defs.proofs.Shared.{Core, List, Machine, None, Some, Step, Stepped, [], after, core_step, machine_step, refl, ◌∷◌, ◌≡◌, arith}
+use Rattle.tmw_ring_defs.proofs.Shared.{Core, List, Machine, None, Some, Step, Stepped, [], after, arith, core_step, machine_step, refl, ◌∷◌, ◌≡◌}
 
 -- a step that is answered leaves the size as it was
 abbrev pub SameSize : Core → Stepped → Type 0

@@ -1,6 +1,6 @@
 -- Whose steps a run has: each is the reader's or one of the ring's writers', and who makes the last step knows the whole run.
-use Rattle.tmw_ring_defs.proofs.Shared.{Answered, Bool, Core, Gone, Ix, List, NoneOf, Reply, RingSize, Runs, Some, Sound, Step, StepLaw, Stepped, WriterPhase, [], actor_of, ap, append_assoc, arith, by_writer, core_step, eq-eqb, false, if◌then◌else◌, inl, inr, length, length_push, new_core, own, refl, slice_get_within, subst, true, ℕ, ◌++◌, ◌+◌, ◌<◌, ◌==◌, ◌∙◌, ◌∷◌, ◌≡◌, ◌≢◌, ◌≤◌, ◌⊎◌}
 use native.Mathlib.Decide.{ℕ_discrete}
+use Rattle.tmw_ring_defs.proofs.Shared.{Answered, Bool, Core, Gone, Ix, List, NoneOf, Reply, RingSize, Runs, Some, Sound, Step, StepLaw, Stepped, WriterPhase, [], actor_of, ap, append_assoc, arith, by_writer, core_step, eq-eqb, false, if◌then◌else◌, inl, inr, length, length_push, new_core, own, refl, slice_get_within, subst, true, ℕ, ◌++◌, ◌+◌, ◌<◌, ◌==◌, ◌∙◌, ◌∷◌, ◌≡◌, ◌≢◌, ◌≤◌, ◌⊎◌}
 use Rattle.tmw_ring_defs.proofs.RingSizes.{SameSize, core_step-size}
 use Rattle.tmw_ring_defs.proofs.RunsProof.{own-append, runs-cut, runs-sound}
 

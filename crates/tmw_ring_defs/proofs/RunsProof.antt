@@ -1,5 +1,5 @@
 -- Runs join end to end, lead to one state each, and are told apart by whose steps they have.
-use Rattle.tmw_ring_defs.proofs.Shared.{Answered, Core, Gone, HasMade, IsIn, Ix, List, NoneOf, RingSize, Runs, Sound, StepLaw, Stepped, WriterPhase, [], actor_of, ap, append-nil, append_assoc, by_writer, eq-eqb, ne_eqb, option_and_then, own, refl, some_pair_parts, subst, sym, ℕ, ◌++◌, ◌∙◌, ◌∷◌, ◌≡◌, ◌≢◌, arith}
+use Rattle.tmw_ring_defs.proofs.Shared.{Answered, Core, Gone, HasMade, IsIn, Ix, List, NoneOf, RingSize, Runs, Sound, StepLaw, Stepped, WriterPhase, [], actor_of, ap, append-nil, append_assoc, arith, by_writer, eq-eqb, ne_eqb, option_and_then, own, refl, some_pair_parts, subst, sym, ℕ, ◌++◌, ◌∙◌, ◌∷◌, ◌≡◌, ◌≢◌}
 
 -- The own steps of two runs in a row are those of the first and then those of the second.
 pub own-append : (actor : ℕ) (past rest : List Answered) → own actor (past ++ rest) ≡ own actor past ++ own actor rest

@@ -8,4 +8,3 @@ pub mod RingSteps
 pub mod Room
 pub mod RoomLaw
 pub mod Runs
-mod Shared

@@ -1,5 +1,8 @@
 -- The sequential log, a list and a count, and that the answers of a ring are its answers.
-use Rattle.tmw_ring_defs.specs.Shared.{Event, Ix, Kind, List, Some, [], if◌then◌else◌, length, map, slice_get, take, ℕ, ◌++◌, ◌+◌, ◌<◌, ◌==◌, ◌∷◌, ◌≡◌}
+use Rattle.std.specs.Prelude.{◌≡◌, ◌==◌, ◌+◌, ◌++◌, ◌<◌, ℕ, List, [], ◌∷◌, length, map, take, Some, slice_get, if◌then◌else◌}
+use Rattle.tmw_events.specs.declared.event.Event.{Event}
+use Rattle.tmw_events.specs.declared.event.Kind.{Kind}
+use Rattle.tmw_events.specs.declared.ix.Ix.{Ix}
 use Rattle.tmw_ring_defs.specs.RingCore.{Core, new_core}
 use Rattle.tmw_ring_defs.specs.RingMachine.{Machine, new_machine, after, replies}
 use Rattle.tmw_ring_defs.specs.RingSound.{Sound, Spares}

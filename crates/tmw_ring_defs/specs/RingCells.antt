@@ -1,5 +1,8 @@
 -- The words of a ring's cells, and the cell that a place uses: what is stored there, and when it shows an event.
-use Rattle.tmw_ring_defs.specs.Shared.{Event, Kind, List, get_or, kind_value, packed_header, slice_set, ℕ, ◌%◌, ◌+◌, ◌≡◌}
+use Rattle.std.specs.Prelude.{◌≡◌, ◌+◌, ◌%◌, ℕ, List, get_or, slice_set}
+use Rattle.tmw_events.specs.EventWords.{packed_header, kind_value}
+use Rattle.tmw_events.specs.declared.event.Event.{Event}
+use Rattle.tmw_events.specs.declared.event.Kind.{Kind}
 use Rattle.tmw_ring_defs.specs.declared.ring_cell.RingCell.{RingCell}
 
 -- a cell whose words are 0

@@ -1,6 +1,7 @@
 -- The state of a ring in which threads record events: its words, how far its writers and its reader have come, the log of the
 -- events for which a place was claimed, and the events that were taken.
-use Rattle.tmw_ring_defs.specs.Shared.{Event, List, [], replicate, ℕ}
+use Rattle.std.specs.Prelude.{ℕ, List, [], replicate}
+use Rattle.tmw_events.specs.declared.event.Event.{Event}
 use Rattle.tmw_ring_defs.specs.RingCells.{empty_cell}
 use Rattle.tmw_ring_defs.specs.declared.ring_cell.RingCell.{RingCell}
 use Rattle.tmw_ring_defs.specs.declared.ring_phase.ReaderPhase.{ReaderPhase}

@@ -1,5 +1,6 @@
 -- A ring whose writers may stop: runs of steps, in whatever order its actors make them.
-use Rattle.tmw_ring_defs.specs.Shared.{Bool, Ix, List, None, Option, Some, [], false, get_or, if◌then◌else◌, replicate, slice_set, true, ◌∷◌}
+use Rattle.std.specs.Prelude.{Bool, true, false, List, [], ◌∷◌, Option, Some, None, get_or, replicate, slice_set, if◌then◌else◌}
+use Rattle.tmw_events.specs.declared.ix.Ix.{Ix}
 use Rattle.tmw_ring_defs.specs.RingCore.{Core, new_core}
 use Rattle.tmw_ring_defs.specs.RingSteps.{Stepped, core_step}
 use Rattle.tmw_ring_defs.specs.declared.ring_size.RingSize.{RingSize}

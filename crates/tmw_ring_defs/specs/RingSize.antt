@@ -1,5 +1,5 @@
 -- Which numbers of cells, of writers and of places a ring may have.
-use Rattle.tmw_ring_defs.specs.Shared.{ℕ, ◌^◌, ◌≡◌, ◌≤◌}
+use Rattle.std.specs.Prelude.{◌≡◌, ◌≤◌, ◌^◌, ℕ}
 use Rattle.tmw_ring_defs.specs.declared.ring_fault.RingFault.{RingFault}
 use Rattle.tmw_ring_defs.specs.declared.ring_fault.RingFault.TheVariants.{BadSize, BadLimit, Memory}
 use Rattle.tmw_ring_defs.specs.declared.ring_size.RingSize.{RingSize}

@@ -1,5 +1,8 @@
 -- When a ring's state is sound, and that each step keeps it so.
-use Rattle.tmw_ring_defs.specs.Shared.{All, Bool, Event, Kind, List, Some, [], kind_value, length, packed_header, slice_get, take, true, ℕ, ◌+◌, ◌<◌, ◌∷◌, ◌≡◌, ◌≢◌, ◌≤◌, ◌⊎◌}
+use Rattle.std.specs.Prelude.{◌≡◌, ◌≢◌, ◌⊎◌, ◌+◌, ◌≤◌, ◌<◌, ℕ, Bool, true, List, [], ◌∷◌, length, take, Some, slice_get, All}
+use Rattle.tmw_events.specs.EventWords.{packed_header, kind_value}
+use Rattle.tmw_events.specs.declared.event.Event.{Event}
+use Rattle.tmw_events.specs.declared.event.Kind.{Kind}
 use Rattle.tmw_ring_defs.specs.RingCore.{Core}
 use Rattle.tmw_ring_defs.specs.RingCells.{Shows}
 use Rattle.tmw_ring_defs.specs.RingSteps.{cell_at, core_step}

@@ -1,8 +1,10 @@
 -- The steps of a ring. Each is one load, one store or one addition to one of its words, made by a writer or by the reader, and
 -- what the actor then knows.
-use Rattle.tmw_ring_defs.specs.Shared.{Ix, Kind, None, Option, Some, [], false, if◌then◌else◌, slice_get, slice_set, true, ℕ, ◌++◌, ◌+◌, ◌==◌, ◌∷◌}
+use Rattle.std.specs.Prelude.{◌==◌, ◌+◌, ◌++◌, ℕ, true, false, [], ◌∷◌, Option, Some, None, slice_get, slice_set, if◌then◌else◌}
 use Rattle.std.specs.Option.{option_and_then}
 use Rattle.tmw_events.specs.EventOfWords.{unpacked}
+use Rattle.tmw_events.specs.declared.event.Kind.{Kind}
+use Rattle.tmw_events.specs.declared.ix.Ix.{Ix}
 use Rattle.tmw_ring_defs.specs.RingCore.{Core}
 use Rattle.tmw_ring_defs.specs.RingCells.{cell_of, set_cell, filled, published}
 use Rattle.tmw_ring_defs.specs.Room.{is_spent, is_full, room_phase, room_reply}
@@ -12,9 +14,9 @@ use Rattle.tmw_ring_defs.specs.declared.ring_phase.ReaderPhase.TheVariants.{Wait
 use Rattle.tmw_ring_defs.specs.declared.ring_phase.WriterPhase.{WriterPhase}
 use Rattle.tmw_ring_defs.specs.declared.ring_phase.WriterPhase.TheVariants.{Idle, Looked, Cleared, Claimed}
 use Rattle.tmw_ring_defs.specs.declared.ring_step.Reply.{Reply}
+use Rattle.tmw_ring_defs.specs.declared.ring_step.Reply.TheVariants.{Saw, Place, Filled, Published, Ready as IsReady, NotReady, Word, Taken}
 use Rattle.tmw_ring_defs.specs.declared.ring_step.Step.{Step}
 use Rattle.tmw_ring_defs.specs.declared.ring_step.Step.TheVariants.{Front, Tail, Claim, Fill, Publish, Peek, Read, Free, Stop}
-use Rattle.tmw_ring_defs.specs.declared.ring_step.Reply.TheVariants.{Saw, Place, Filled, Published, Ready as IsReady, NotReady, Word, Taken}
 
 -- What a step answers and the state after it; `None` where it is not its actor's next.
 abbrev pub Stepped : Type 0

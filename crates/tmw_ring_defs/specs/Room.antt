@@ -1,5 +1,6 @@
 -- Whether a ring has room for one more event of each writer, and what a look at tail leads to.
-use Rattle.tmw_ring_defs.specs.Shared.{Bool, IsFalse, Kind, false, nat_lt, true, ℕ, ◌+◌, ◌-◌}
+use Rattle.std.specs.Prelude.{◌+◌, ◌-◌, ℕ, Bool, true, false, IsFalse, nat_lt}
+use Rattle.tmw_events.specs.declared.event.Kind.{Kind}
 use Rattle.tmw_ring_defs.specs.declared.ring_phase.WriterPhase.{WriterPhase}
 use Rattle.tmw_ring_defs.specs.declared.ring_phase.WriterPhase.TheVariants.{Idle, Cleared}
 use Rattle.tmw_ring_defs.specs.declared.ring_size.RingSize.{RingSize}

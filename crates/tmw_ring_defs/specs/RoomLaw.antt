@@ -1,5 +1,6 @@
 -- How long it holds good that several records find room.
-use Rattle.tmw_ring_defs.specs.Shared.{Ix, List, [], ℕ, ◌++◌, ◌+◌, ◌<◌, ◌∷◌, ◌≡◌, ◌≢◌, ◌≤◌}
+use Rattle.std.specs.Prelude.{◌≡◌, ◌≢◌, ◌+◌, ◌++◌, ◌≤◌, ◌<◌, ℕ, List, [], ◌∷◌}
+use Rattle.tmw_events.specs.declared.ix.Ix.{Ix}
 use Rattle.tmw_ring_defs.specs.Room.{HasRoomFor}
 use Rattle.tmw_ring_defs.specs.Runs.{IsRun, own, writer_actor}
 use Rattle.tmw_ring_defs.specs.declared.ring_size.RingSize.{RingSize}

@@ -1,5 +1,7 @@
 -- Runs of a ring: the steps that its actors make one after another, each with its reply.
-use Rattle.tmw_ring_defs.specs.Shared.{Event, Ix, List, Some, [], if◌then◌else◌, ℕ, ◌++◌, ◌+◌, ◌==◌, ◌∷◌, ◌≡◌}
+use Rattle.std.specs.Prelude.{◌≡◌, ◌==◌, ◌+◌, ◌++◌, ℕ, List, [], ◌∷◌, Some, if◌then◌else◌}
+use Rattle.tmw_events.specs.declared.event.Event.{Event}
+use Rattle.tmw_events.specs.declared.ix.Ix.{Ix}
 use Rattle.tmw_ring_defs.specs.RingCore.{Core, new_core}
 use Rattle.tmw_ring_defs.specs.RingSteps.{core_step}
 use Rattle.tmw_ring_defs.specs.declared.ring_size.RingSize.{RingSize}

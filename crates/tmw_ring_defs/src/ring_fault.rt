@@ -1,4 +1,4 @@
-ghost use Rattle.tmw_ring_defs.specs.Shared.{◌≡◌};
+ghost use Rattle.std.specs.Prelude.{◌≡◌};
 ghost use Rattle.tmw_ring_defs.specs.declared.ring_fault.RingFault.TheVariants.{Memory};
 
 use std::alloc::{AllocError, AllocFailed};

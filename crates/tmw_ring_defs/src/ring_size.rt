@@ -1,4 +1,4 @@
-ghost use Rattle.tmw_ring_defs.specs.Shared.{◌^◌, ◌≤◌};
+ghost use Rattle.std.specs.Prelude.{◌≤◌, ◌^◌};
 
 use crate::ring_fault::RingFault;
 

@@ -1,7 +1,9 @@
 -- How the call for a new ring is answered.
-use Rattle.tmw_ring_steps.specs.Shared.{Err, Ok, Result, RingSize, new_machine, ℕ, ◌≡◌}
+use Rattle.std.specs.Prelude.{◌≡◌, ℕ, Result, Ok, Err}
+use Rattle.tmw_ring_defs.specs.RingMachine.{new_machine}
 use Rattle.tmw_ring_defs.specs.RingSize.{HasNumbers, IsNoRing}
 use Rattle.tmw_ring_defs.specs.declared.ring_fault.RingFault.{RingFault}
+use Rattle.tmw_ring_defs.specs.declared.ring_size.RingSize.{RingSize}
 use Rattle.tmw_ring_steps.specs.SimulatedRing.{SimulatedRing}
 
 -- It is a new machine of the size of these numbers, or each fault comes exactly where it should.

@@ -1,6 +1,6 @@
 -- The machine that a state stands for.
-use Rattle.tmw_ring_steps.specs.Shared.{Machine}
 use Rattle.tmw_ring_defs.specs.RingCore.{Core}
+use Rattle.tmw_ring_defs.specs.RingMachine.{Machine}
 use Rattle.tmw_ring_steps.specs.declared.ring_state.RingState.{RingState}
 
 abbrev pub core_of : RingState → Core

@@ -1,6 +1,8 @@
 -- What a run of steps is: it goes on as one log, and where memory is refused it ends early.
-use Rattle.tmw_ring_steps.specs.Shared.{List, Machine, RingSize, after, length, new_machine, replies, take, ℕ, ◌++◌, ◌+◌, ◌≡◌, ◌≤◌}
+use Rattle.std.specs.Prelude.{◌≡◌, ◌+◌, ◌++◌, ◌≤◌, ℕ, List, length, take}
 use Rattle.tmw_ring_defs.specs.OneLog.{IsOneLog}
+use Rattle.tmw_ring_defs.specs.RingMachine.{Machine, new_machine, after, replies}
+use Rattle.tmw_ring_defs.specs.declared.ring_size.RingSize.{RingSize}
 use Rattle.tmw_ring_defs.specs.declared.ring_step.Step.{Step}
 use Rattle.tmw_ring_steps.specs.SimulatedRing.{SimulatedRing}
 

@@ -1,4 +1,7 @@
-ghost use Rattle.tmw_ring_steps.specs.Shared.{IfOk, OnErr, Sound, answered, core_step, ◌≡◌};
+ghost use Rattle.std.specs.Prelude.{◌≡◌, IfOk, OnErr};
+ghost use Rattle.tmw_ring_defs.specs.RingMachine.{answered};
+ghost use Rattle.tmw_ring_defs.specs.RingSound.{Sound};
+ghost use Rattle.tmw_ring_defs.specs.RingSteps.{core_step};
 ghost use Rattle.tmw_ring_steps.specs.RingState.{core_of, machine_of};
 
 use crate::ring_state::RingState;

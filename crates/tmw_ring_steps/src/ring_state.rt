@@ -1,5 +1,8 @@
-ghost use Rattle.tmw_ring_steps.specs.Shared.{IfOk, Sound, cell_at, has_stopped, length, new_machine, slice_get, with_cell, with_phase, writer_of, ◌%◌, ◌<◌, ◌≡◌};
+ghost use Rattle.std.specs.Prelude.{◌≡◌, ◌<◌, ◌%◌, length, slice_get, IfOk};
 ghost use Rattle.tmw_ring_defs.specs.RingCells.{set_cell};
+ghost use Rattle.tmw_ring_defs.specs.RingMachine.{new_machine, writer_of, has_stopped};
+ghost use Rattle.tmw_ring_defs.specs.RingSound.{Sound};
+ghost use Rattle.tmw_ring_defs.specs.RingSteps.{cell_at, with_cell, with_phase};
 ghost use Rattle.tmw_ring_steps.specs.RingState.{core_of, machine_of};
 
 use std::alloc::{AllocError, Global};

@@ -1,4 +1,6 @@
-ghost use Rattle.tmw_ring_steps.specs.Shared.{IfOk, OnErr, OnOk, Sound, Spares, after, length, machine_step, replies, ◌+◌, ◌<◌, ◌^◌, ◌≡◌};
+ghost use Rattle.std.specs.Prelude.{◌≡◌, ◌+◌, ◌<◌, ◌^◌, length, IfOk, OnOk, OnErr};
+ghost use Rattle.tmw_ring_defs.specs.RingMachine.{machine_step, after, replies};
+ghost use Rattle.tmw_ring_defs.specs.RingSound.{Sound, Spares};
 ghost use Rattle.tmw_ring_steps.specs.NewSim.{IsNewSim};
 ghost use Rattle.tmw_ring_steps.specs.Runs.{GoesOnAsOneLog, RanFirst};
 

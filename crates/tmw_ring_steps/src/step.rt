@@ -1,4 +1,6 @@
-ghost use Rattle.tmw_ring_steps.specs.Shared.{IfOk, OnErr, Sound, machine_step, ◌≡◌};
+ghost use Rattle.std.specs.Prelude.{◌≡◌, IfOk, OnErr};
+ghost use Rattle.tmw_ring_defs.specs.RingMachine.{machine_step};
+ghost use Rattle.tmw_ring_defs.specs.RingSound.{Sound};
 ghost use Rattle.tmw_ring_steps.specs.RingState.{core_of, machine_of};
 
 use crate::ring_state::RingState;

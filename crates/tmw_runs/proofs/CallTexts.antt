@@ -1,8 +1,5 @@
 -- Lists of calls, and texts of calls that are answered in turn.
-use Rattle.std.specs.List.{list_all}
-use Rattle.std.specs.Prelude.{Bool, List, [], true, ℕ, ◌&&◌, ◌∷◌}
-use Rattle.tmw_defs.specs.History.{answers, is_call}
-use Rattle.tmw_events.specs.declared.event.Kind.{Kind}
+use Rattle.tmw_runs.proofs.Shared.{Bool, Kind, List, [], answers, is_call, list_all, true, ℕ, ◌&&◌, ◌∷◌}
 
 -- Each call is followed by an answer that fits it; the last may be without one. Transactions follow one another.
 abbrev pub is_turns : ℕ → List Kind → Bool

@@ -1,5 +1,6 @@
 -- The calls of scripts: those of transactions are calls, and what is left of calls are calls.
-use Rattle.tmw_runs.proofs.Shared.{A, IsTrue, Kind, List, [], and_from, and_parts, answers, are_calls, are_transactions, arith, is_call, is_operation, is_request, is_transaction, list_all, refl, ℕ, ◌∷◌}
+use Rattle.tmw_runs.proofs.Shared.{A, IsTrue, Kind, List, [], and_from, and_parts, answers, are_transactions, arith, is_call, is_operation, is_request, is_transaction, list_all, refl, ℕ, ◌∷◌}
+use Rattle.tmw_runs.proofs.CallTexts.{are_calls}
 
 -- a call may be answered by an abort event
 pub answers_abort : (registers : ℕ) (call : Kind) → IsTrue (is_call registers call) → IsTrue (answers call A)

@@ -1,5 +1,6 @@
 -- What is recorded by turns begins a run: there is a text that completes it.
-use Rattle.tmw_runs.proofs.Shared.{A, BeginsScript, Follows, FormedLaw, IsByTurns, IsTrue, IsWholeText, Kind, List, OverLaw, StepLaw, [], and_parts, answers, ap, append-nil, append_assoc, are_calls, arith, drop, drop_more, get_or, is_call, length, list_all, refl, rules, subst, suc, sym, zero, ℕ, ◌++◌, ◌+◌, ◌<◌, ◌∙◌, ◌∷◌, ◌≡◌}
+use Rattle.tmw_runs.proofs.Shared.{A, BeginsScript, Follows, FormedLaw, IsByTurns, IsTrue, IsWholeText, Kind, List, OverLaw, StepLaw, [], and_parts, answers, ap, append-nil, append_assoc, arith, drop, drop_more, get_or, is_call, length, list_all, refl, rules, subst, suc, sym, zero, ℕ, ◌++◌, ◌+◌, ◌<◌, ◌∙◌, ◌∷◌, ◌≡◌}
+use Rattle.tmw_runs.proofs.CallTexts.{are_calls}
 use Rattle.std.proofs.lemmas.List.Folds.{list_all-append}
 use Rattle.tmw_runs.proofs.Calls.{answers_abort, are_calls-transactions}
 use Rattle.tmw_runs.proofs.LongerRuns.{whole_run-more}

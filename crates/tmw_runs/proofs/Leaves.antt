@@ -1,5 +1,6 @@
 -- What a script leaves, step by step, and what a thread's events are to the script by what it leaves.
-use Rattle.tmw_runs.proofs.Shared.{A, IsBeginning, IsTrue, IsWholeRun, IsWholeText, Kind, List, [], answers, ap, append-nil, append_assoc, are_calls, arith, false, is_abort, refl, subst, sym, true, ℕ, ◌++◌, ◌∷◌, ◌≡◌}
+use Rattle.tmw_runs.proofs.Shared.{A, IsBeginning, IsTrue, IsWholeRun, IsWholeText, Kind, List, [], answers, ap, append-nil, append_assoc, arith, false, is_abort, refl, subst, sym, true, ℕ, ◌++◌, ◌∷◌, ◌≡◌}
+use Rattle.tmw_runs.proofs.CallTexts.{are_calls}
 use Rattle.tmw_runs.specs.ScriptRest.{Leaves}
 use Rattle.tmw_runs.proofs.Calls.{answers_abort, are_calls_first, are_calls_later}
 use Rattle.tmw_runs.proofs.WholeRuns.{runs_law}

@@ -11,8 +11,6 @@ pub use Rattle.tmw_events.specs.declared.event.Kind.TheVariants.{A, C, K, R, T, 
 pub use Rattle.tmw_tm.specs.Answers.{Answer, Call}
 pub use Rattle.tmw_runs.specs.AnswersStand.{AllStand, Stands, StandsSoFar}
 pub use Rattle.tmw_runs.specs.ByTurns.{Follows, IsByTurns, IsPlaced, LeavesCalls}
-pub use Rattle.tmw_runs.proofs.CallTexts.{is_turns}
 pub use Rattle.tmw_runs.specs.Laws.{FormedLaw, OverLaw, PlacedLaw, RunsLaw, StepLaw}
 pub use Rattle.tmw_runs.specs.Runs.{BeginsScript, IsBeginning, IsWholeRun, IsWholeText, is_abort}
 pub use Rattle.tmw_runs.specs.Scripts.{are_transactions, is_operation, is_request, is_transaction}
-pub use Rattle.tmw_runs.proofs.CallTexts.{are_calls}

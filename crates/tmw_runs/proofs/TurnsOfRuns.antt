@@ -1,5 +1,6 @@
 -- The events of a thread that carries a script out are calls and answers in turn.
-use Rattle.tmw_runs.proofs.Shared.{IsBeginning, IsTrue, IsWholeRun, IsWholeText, Kind, List, MatchBool-at_false, MatchBool-at_true, [], and_from, and_parts, answers, ap, are_calls, arith, cases_Bool, inl, inr, is_abort, is_call, is_turns, list_all, refl, subst, sym, ℕ, ◌&&◌, ◌++◌, ◌∙◌, ◌∷◌}
+use Rattle.tmw_runs.proofs.Shared.{IsBeginning, IsTrue, IsWholeRun, IsWholeText, Kind, List, MatchBool-at_false, MatchBool-at_true, [], and_from, and_parts, answers, ap, arith, cases_Bool, inl, inr, is_abort, is_call, list_all, refl, subst, sym, ℕ, ◌&&◌, ◌++◌, ◌∙◌, ◌∷◌}
+use Rattle.tmw_runs.proofs.CallTexts.{are_calls, is_turns}
 
 -- the front of turns is turns
 pub is_turns_front : (registers : ℕ) (front back : List Kind) → IsTrue (is_turns registers (front ++ back))

@@ -1,5 +1,6 @@
 -- A history is well-formed where the events of each thread are calls and answers in turn.
-use Rattle.tmw_runs.proofs.Shared.{All, AreTransactions, Bool, Event, IsTrue, Kind, List, Txn, [], and_from, and_parts, answers, ap, arith, cases_Bool, drop, ended_but_last, ends, eq-eqb, inl, inr, is_call, is_ended, is_text, is_turns, is_well_formed, joined_texts, kinds_of, list_all, map-append, ne_eqb, not, of_thread, open_but_last, refl, sym, take, take-append-drop, transactions, true, ℕ, ◌&&◌, ◌++◌, ◌<◌, ◌==◌, ◌∙◌, ◌∷◌, ◌≡◌, ◌≤◌}
+use Rattle.tmw_runs.proofs.Shared.{All, AreTransactions, Bool, Event, IsTrue, Kind, List, Txn, [], and_from, and_parts, answers, ap, arith, cases_Bool, drop, ended_but_last, ends, eq-eqb, inl, inr, is_call, is_ended, is_text, is_well_formed, joined_texts, kinds_of, list_all, map-append, ne_eqb, not, of_thread, open_but_last, refl, sym, take, take-append-drop, transactions, true, ℕ, ◌&&◌, ◌++◌, ◌<◌, ◌==◌, ◌∙◌, ◌∷◌, ◌≡◌, ◌≤◌}
+use Rattle.tmw_runs.proofs.CallTexts.{is_turns}
 use Rattle.std.proofs.lemmas.List.Elements.{All-head, All-tail, filter-append}
 use Rattle.tmw_defs.proofs.TextsProof.{texts_law, is_ended-cons}
 use Rattle.tmw_runs.proofs.TurnsOfRuns.{is_turns_front}

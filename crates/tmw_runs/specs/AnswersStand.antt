@@ -1,5 +1,6 @@
 -- The answers that a thread records stand for those that the memory gives.
-use Rattle.tmw_runs.specs.Shared.{A, Bool, C, IsTrue, K, Kind, List, N, R, T, V, W, X, [], ends, true, ◌++◌, ◌∷◌, ◌≡◌, ◌⊎◌}
+use Rattle.tmw_runs.specs.Shared.{A, C, K, Kind, N, R, T, V, W, X, ends}
+use Rattle.std.specs.Prelude.{Bool, IsTrue, List, [], true, ◌++◌, ◌∷◌, ◌≡◌, ◌⊎◌}
 use Rattle.tmw_tm.specs.Answers.{Call, Answer}
 use Rattle.tmw_tm.specs.Answers.Call.{Begin, Read, Write, Add, Commit}
 use Rattle.tmw_tm.specs.Answers.Answer.{Value, Done, Abort}

@@ -1,5 +1,6 @@
 -- A transaction that is carried out by turns, a call or an answer at a time, by the events that are recorded of it.
-use Rattle.tmw_runs.specs.Shared.{A, IsTrue, Kind, List, [], answers, drop, get_or, length, suc, true, zero, ℕ, ◌++◌, ◌+◌, ◌<◌, ◌↔◌, ◌∷◌, ◌≡◌}
+use Rattle.tmw_runs.specs.Shared.{A, Kind, answers}
+use Rattle.std.specs.Prelude.{IsTrue, List, [], drop, get_or, length, suc, true, zero, ℕ, ◌++◌, ◌+◌, ◌<◌, ◌↔◌, ◌∷◌, ◌≡◌}
 use Rattle.tmw_runs.specs.Runs.{IsWholeRun, IsWholeText}
 use Rattle.tmw_runs.specs.Scripts.{are_transactions, is_request}
 

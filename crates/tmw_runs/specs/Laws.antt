@@ -1,6 +1,7 @@
 -- Laws of scripts and of turns: a script's end is known from its run, threads that carry out transactions record well-formed histories,
 -- and turns grow into whole runs.
-use Rattle.tmw_runs.specs.Shared.{A, IsTrue, Kind, List, [], get_or, is_call, is_well_formed, length, suc, take, true, ℕ, ◌++◌, ◌<◌, ◌∷◌, ◌≡◌}
+use Rattle.tmw_runs.specs.Shared.{A, Kind, is_call, is_well_formed}
+use Rattle.std.specs.Prelude.{IsTrue, List, [], get_or, length, suc, take, true, ℕ, ◌++◌, ◌<◌, ◌∷◌, ◌≡◌}
 use Rattle.tmw_defs.specs.ThreadTransactions.{kinds_of}
 use Rattle.tmw_events.specs.declared.event.Event.{Event}
 use Rattle.tmw_runs.specs.Runs.{IsWholeRun}

@@ -1,5 +1,6 @@
 -- The runs of a script: what a thread records that makes its calls, one after another, and is answered.
-use Rattle.tmw_runs.specs.Shared.{A, Bool, IsTrue, Kind, List, MatchBool, [], answers, false, true, ℕ, ◌++◌, ◌∷◌, ◌≡◌}
+use Rattle.tmw_runs.specs.Shared.{A, Kind, answers}
+use Rattle.std.specs.Prelude.{Bool, IsTrue, List, MatchBool, [], false, true, ℕ, ◌++◌, ◌∷◌, ◌≡◌}
 use Rattle.tmw_runs.specs.Scripts.{are_transactions}
 
 -- An abort event.

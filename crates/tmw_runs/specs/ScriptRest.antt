@@ -1,5 +1,6 @@
 -- What a script still asks for, after what a thread has recorded of it.
-use Rattle.tmw_runs.specs.Shared.{Kind, List, ◌++◌}
+use Rattle.tmw_runs.specs.Shared.{Kind}
+use Rattle.std.specs.Prelude.{List, ◌++◌}
 use Rattle.tmw_runs.specs.Runs.{IsWholeRun}
 
 -- After these events the script leaves this one: each whole run of what is left completes them to a whole run of the script.

@@ -1,5 +1,6 @@
 -- A thread's script: for each of its transactions the calls that it makes.
-use Rattle.tmw_runs.specs.Shared.{Bool, Kind, List, N, R, T, W, X, [], false, is_call, map, nat_lt, true, ℕ, ◌&&◌, ◌∷◌}
+use Rattle.tmw_runs.specs.Shared.{Kind, N, R, T, W, X}
+use Rattle.std.specs.Prelude.{Bool, List, [], false, map, nat_lt, true, ℕ, ◌&&◌, ◌∷◌}
 use Rattle.std.specs.Global.{Vec}
 use Rattle.std.specs.List.{list_all}
 

@@ -1,5 +1,6 @@
 //! Which answers a call may have.
-ghost use Rattle.tmw_runs.specs.Shared.{answers, ◌≡◌};
+ghost use Rattle.tmw_runs.specs.Shared.{answers};
+ghost use Rattle.std.specs.Prelude.{◌≡◌};
 ghost use Rattle.tmw_runs.specs.Runs.{is_abort};
 
 use tmw_events::Kind;

@@ -1,5 +1,5 @@
 //! Where a call stands among those of its transaction.
-ghost use Rattle.tmw_runs.specs.Shared.{IsFalse, IsTrue, ◌<◌};
+ghost use Rattle.std.specs.Prelude.{IsFalse, IsTrue, ◌<◌};
 ghost use Rattle.tmw_runs.specs.ByTurns.{IsPlaced};
 
 use tmw_events::Kind;

@@ -1,5 +1,6 @@
 -- What is answered of a window: its layers, and its end states from a set of states.
-use Rattle.tmw_search.specs.Shared.{Bool, Contains, Criterion, EndsBy, Event, IsStrictlySortedBy, IsTrue, List, StandsFor, State, false, length, members, nat_cmp, slice_cmp, transactions, true, ℕ, ◌<◌, ◌↔◌, ◌≡◌, ◌≤◌}
+use Rattle.tmw_search.specs.Shared.{Contains, Criterion, EndsBy, Event, IsStrictlySortedBy, StandsFor, State, members, nat_cmp, slice_cmp, transactions}
+use Rattle.std.specs.Prelude.{Bool, IsTrue, List, false, length, true, ℕ, ◌<◌, ◌↔◌, ◌≡◌, ◌≤◌}
 use Rattle.tmw_search.specs.Layers.{InLayer}
 use Rattle.tmw_cuts.specs.declared.states.States.{States}
 use Rattle.tmw_cuts.specs.declared.window.Window.{Window}

@@ -1,5 +1,6 @@
 -- The ends of a node's orders, told by the last writer of each register; and those by completions and from starts.
-use Rattle.tmw_search.specs.Shared.{Bool, Contains, Criterion, Effect, EndsBy, Event, IsTrue, List, State, length, map, slice_index, slice_set, transactions, view, views_of, ℕ, ◌<◌, ◌≡◌, ◌≤◌, ◌⊎◌}
+use Rattle.tmw_search.specs.Shared.{Contains, Criterion, Effect, EndsBy, Event, State, transactions, view, views_of}
+use Rattle.std.specs.Prelude.{Bool, IsTrue, List, length, map, slice_index, slice_set, ℕ, ◌<◌, ◌≡◌, ◌≤◌, ◌⊎◌}
 use Rattle.tmw_search.specs.declared.node.Node.{Node}
 use Rattle.tmw_search.specs.declared.source_choices.Choices.{Choices}
 use Rattle.tmw_search.specs.Precedence.{Chosen, Has}

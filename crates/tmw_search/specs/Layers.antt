@@ -1,6 +1,7 @@
 -- Layers: after k transactions were placed, which sets of k and which states can be reached. A set of the transactions of a
 -- list is a mask: bit j chooses the one at place j.
-use Rattle.tmw_search.specs.Shared.{Bool, Ends, IsTrue, List, Some, State, Txn, View, [], after_writes, bit_at, bit_or, false, if◌then◌else◌, length, may_hold, nat_cmp, on, precedes, reads_hold, slice_cmp, slice_get, then_cmp, ℕ, ◌%◌, ◌*◌, ◌/◌, ◌<◌, ◌==◌, ◌^◌, ◌∷◌, ◌≡◌}
+use Rattle.tmw_search.specs.Shared.{Ends, State, Txn, View, after_writes, bit_at, may_hold, nat_cmp, on, precedes, reads_hold, slice_cmp, then_cmp}
+use Rattle.std.specs.Prelude.{Bool, IsTrue, List, Some, [], bit_or, false, if◌then◌else◌, length, slice_get, ℕ, ◌%◌, ◌*◌, ◌/◌, ◌<◌, ◌==◌, ◌^◌, ◌∷◌, ◌≡◌}
 use Rattle.std.specs.declared.cmp.Ordering.{Ordering}
 
 -- The transactions that the mask chooses, in their order.

@@ -1,5 +1,6 @@
 -- Which orders of a node are legal, and what follows from its reads.
-use Rattle.tmw_search.specs.Shared.{Bool, Effect, IsFalse, IsTrue, List, State, [], bit_at, effect_of, false, get_or, map, slice_index, ℕ, ◌<◌, ◌↔◌, ◌≡◌, ◌≤◌, ◌⊎◌}
+use Rattle.tmw_search.specs.Shared.{Effect, State, bit_at, effect_of}
+use Rattle.std.specs.Prelude.{Bool, IsFalse, IsTrue, List, [], false, get_or, map, slice_index, ℕ, ◌<◌, ◌↔◌, ◌≡◌, ◌≤◌, ◌⊎◌}
 use Rattle.tmw_search.specs.declared.source_choices.ReadSource.{ReadSource}
 use Rattle.tmw_search.specs.declared.source_choices.ReadSource.TheVariants.{Open, Start, From}
 use Rattle.tmw_cuts.specs.declared.txn.Txn.{Txn}

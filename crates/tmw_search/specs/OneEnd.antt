@@ -1,6 +1,8 @@
 -- When transactions that have ended leave the same state in all their legal serial orders: each register has one writer, or there are
 -- no blind writes to it, so that each writer reads the version before its own and the versions form one chain.
-use Rattle.tmw_search.specs.Shared.{Bool, IsTrue, List, Op, View, count_by, false, list_all, not, true, ℕ, ◌&&◌, ◌≤◌, ◌⊎◌}
+use Rattle.tmw_search.specs.Shared.{View, count_by, list_all}
+use Rattle.std.specs.Prelude.{Bool, IsTrue, List, false, not, true, ℕ, ◌&&◌, ◌≤◌, ◌⊎◌}
+use Rattle.tmw_defs.specs.declared.op.Op.{Op}
 use Rattle.tmw_defs.specs.declared.status.Status.{Status}
 use Rattle.tmw_defs.specs.declared.status.Status.TheVariants.{Committed}
 use Rattle.tmw_cuts.specs.RegisterUse.{writes, needs}

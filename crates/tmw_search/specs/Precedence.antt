@@ -1,6 +1,7 @@
 -- Who comes before whom: bit i of the mask at j says that i comes before j, or is it. What the sources say of a ranking, and what is
 -- settled of them. What falls where a pair more is ordered, and how many reads are open.
-use Rattle.tmw_search.specs.Shared.{Bool, IsTrue, List, bit_at, count_by, false, get_or, length, slice_index, suc, true, zero, ℕ, ◌*◌, ◌+◌, ◌-◌, ◌<◌, ◌≡◌, ◌≤◌, ◌⊎◌}
+use Rattle.tmw_search.specs.Shared.{bit_at, count_by}
+use Rattle.std.specs.Prelude.{Bool, IsTrue, List, false, get_or, length, slice_index, suc, true, zero, ℕ, ◌*◌, ◌+◌, ◌-◌, ◌<◌, ◌≡◌, ◌≤◌, ◌⊎◌}
 use Rattle.tmw_search.specs.declared.consequence.Consequence.{Consequence}
 use Rattle.tmw_search.specs.declared.consequence.Consequence.TheVariants.{Never, Clear, Stuck}
 use Rattle.tmw_search.specs.declared.source_choices.Choices.{Choices}

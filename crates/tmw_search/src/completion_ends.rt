@@ -1,5 +1,6 @@
 //! The ends of a window's transactions, by each completion and from each start.
-ghost use Rattle.tmw_search.specs.Shared.{IsFalse, IsTrue, State, length, members, room_of, slice_index, ℕ, ◌<◌, ◌≡◌, ◌≤◌};
+ghost use Rattle.tmw_search.specs.Shared.{State, members, room_of};
+ghost use Rattle.std.specs.Prelude.{IsFalse, IsTrue, length, slice_index, ℕ, ◌<◌, ◌≡◌, ◌≤◌};
 ghost use Rattle.tmw_search.specs.Precedence.{IsRead, IsOrder};
 ghost use Rattle.tmw_search.specs.LastWriters.{AreEndsFrom, EndsByReading, EndsFromAll, EndsByMore, Adds};
 ghost use Rattle.tmw_search.specs.EndStates.{told};

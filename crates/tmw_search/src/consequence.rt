@@ -1,4 +1,5 @@
-ghost use Rattle.tmw_search.specs.Shared.{IsTrue, bit_at, ℕ, ◌<◌, ◌≡◌};
+ghost use Rattle.tmw_search.specs.Shared.{bit_at};
+ghost use Rattle.std.specs.Prelude.{IsTrue, ℕ, ◌<◌, ◌≡◌};
 ghost use Rattle.tmw_search.specs.Precedence.{Has, IsOrder, Narrows, Out, IsSource, FromStart, IsOut, IsSettled, IfClear, IfStuck, Passes, lives};
 
 use crate::precedence::{Masks, has, precede};

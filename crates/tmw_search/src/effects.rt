@@ -1,5 +1,5 @@
 //! What a transaction needs of the registers and leaves there, by its place.
-ghost use Rattle.tmw_search.specs.Shared.{get_or, ◌<◌, ◌≡◌};
+ghost use Rattle.std.specs.Prelude.{get_or, ◌<◌, ◌≡◌};
 ghost use Rattle.tmw_search.specs.NodeOrders.{effects, idle, need_at, left_at};
 
 use tmw_cuts::Txn;

@@ -1,4 +1,5 @@
-ghost use Rattle.tmw_search.specs.Shared.{HasRoom, IfOk, IsFalse, IsTrue, [], length, members, room_of, ◌<◌, ◌≡◌, ◌≤◌};
+ghost use Rattle.tmw_search.specs.Shared.{HasRoom, members, room_of};
+ghost use Rattle.std.specs.Prelude.{IfOk, IsFalse, IsTrue, [], length, ◌<◌, ◌≡◌, ◌≤◌};
 ghost use Rattle.tmw_search.specs.LastWriters.{Adds};
 
 use std::alloc::{AllocError, Global};

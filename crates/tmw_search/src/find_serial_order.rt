@@ -1,5 +1,6 @@
 //! Looks for a legal serial order of a window's transactions.
-ghost use Rattle.tmw_search.specs.Shared.{Contains, IfSome, MatchOption, is_some, length, members, ◌≤◌};
+ghost use Rattle.tmw_search.specs.Shared.{Contains, members};
+ghost use Rattle.std.specs.Prelude.{IfSome, MatchOption, is_some, length, ◌≤◌};
 ghost use Rattle.tmw_search.specs.EndStates.{TellsEnd};
 ghost use Rattle.tmw_search.specs.LegalOrders.{Explains, NoneExplains};
 

@@ -1,4 +1,5 @@
-ghost use Rattle.tmw_search.specs.Shared.{IsTrue, OnOk, length, map, may_hold, true, view, ◌<◌, ◌↔◌, ◌≡◌, ◌≤◌};
+ghost use Rattle.tmw_search.specs.Shared.{may_hold, view};
+ghost use Rattle.std.specs.Prelude.{IsTrue, OnOk, length, map, true, ◌<◌, ◌↔◌, ◌≡◌, ◌≤◌};
 ghost use Rattle.tmw_search.specs.LastWriters.{Adds};
 ghost use Rattle.tmw_search.specs.Layers.{MayCome, Makes, Follows};
 

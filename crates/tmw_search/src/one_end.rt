@@ -1,4 +1,5 @@
-ghost use Rattle.tmw_search.specs.Shared.{IsTrue, map, view};
+ghost use Rattle.tmw_search.specs.Shared.{view};
+ghost use Rattle.std.specs.Prelude.{IsTrue, map};
 ghost use Rattle.tmw_cuts.specs.RegisterMask.{IsMaskOf};
 ghost use Rattle.tmw_search.specs.OneEnd.{is_writer, AreForced};
 

@@ -1,4 +1,4 @@
-ghost use Rattle.tmw_search.specs.Shared.{IsTrue, ◌<◌, ◌↔◌};
+ghost use Rattle.std.specs.Prelude.{IsTrue, ◌<◌, ◌↔◌};
 ghost use Rattle.tmw_search.specs.Precedence.{Has, IsOrder, Narrows, Joins, Before};
 
 use tmw_cuts::MOST_TRANSACTIONS;

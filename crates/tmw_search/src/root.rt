@@ -1,5 +1,6 @@
 //! Where the search begins: what is known of all orders.
-ghost use Rattle.tmw_search.specs.Shared.{IsTrue, State, get_or, length, map, view, ℕ, ◌<◌, ◌↔◌, ◌≡◌, ◌≤◌};
+ghost use Rattle.tmw_search.specs.Shared.{State, view};
+ghost use Rattle.std.specs.Prelude.{IsTrue, get_or, length, map, ℕ, ◌<◌, ◌↔◌, ◌≡◌, ◌≤◌};
 ghost use Rattle.tmw_search.specs.declared.source_choices.ReadSource.TheVariants.{Open};
 ghost use Rattle.tmw_search.specs.NodeOrders.{In, effects, IsNode};
 ghost use Rattle.tmw_search.specs.Precedence.{IsOrder};

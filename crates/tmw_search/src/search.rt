@@ -1,4 +1,5 @@
-ghost use Rattle.tmw_search.specs.Shared.{IsTrue, MatchOption, None, State, get_or, slice_index, ℕ, ◌<◌, ◌↔◌, ◌≡◌, ◌⊎◌};
+ghost use Rattle.tmw_search.specs.Shared.{State};
+ghost use Rattle.std.specs.Prelude.{IsTrue, MatchOption, None, get_or, slice_index, ℕ, ◌<◌, ◌↔◌, ◌≡◌, ◌⊎◌};
 ghost use Rattle.tmw_search.specs.Precedence.{IsRead, WithinSource, source_at, opens, Has};
 ghost use Rattle.tmw_search.specs.declared.source_choices.ReadSource.{ReadSource};
 ghost use Rattle.tmw_search.specs.declared.source_choices.ReadSource.TheVariants.{From, Open};

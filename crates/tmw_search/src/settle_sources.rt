@@ -1,4 +1,4 @@
-ghost use Rattle.tmw_search.specs.Shared.{IsTrue, ◌<◌, ◌↔◌, ◌≡◌};
+ghost use Rattle.std.specs.Prelude.{IsTrue, ◌<◌, ◌↔◌, ◌≡◌};
 ghost use Rattle.tmw_search.specs.Precedence.{IsOrder, Narrows, IfClear, IfStuck, Passes, lives, Sourced, SettledSource, WithinSource, ChosenBy, Chosen, SettledBy, AllSettled, Within};
 
 use crate::consequence::{Consequence, settle_read, settle_start};

@@ -1,4 +1,5 @@
-ghost use Rattle.tmw_search.specs.Shared.{Event, HasRoom, IfOk, IfSome, List, StandsFor, room_of, ◌<◌, ◌≡◌, ◌≤◌};
+ghost use Rattle.tmw_search.specs.Shared.{Event, HasRoom, StandsFor, room_of};
+ghost use Rattle.std.specs.Prelude.{IfOk, IfSome, List, ◌<◌, ◌≡◌, ◌≤◌};
 ghost use Rattle.tmw_search.specs.EndStates.{TellsEnd, AreEnds, EndsOf, Replaces, told};
 
 use crate::completion_ends::find_ends;

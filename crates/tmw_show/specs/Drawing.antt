@@ -1,6 +1,7 @@
 -- How a window is drawn: the states from which it begins, and its events in a column for each thread. Numbers are decimal, without
 -- sign and without leading zeros.
-use Rattle.tmw_show.specs.Shared.{Bool, BrokenRule, Criterion, Event, List, Malformed, Name, None, Opacity, OpaqueSoFar, Option, Registers, Some, State, Strict, StrictSoFar, Undecided, Verdict, Violated, [], codes, decimal, false, flat_map, if◌then◌else◌, kept_of, length, line, max, option_map, replicate, take, true, values_text, ℕ, ◌*◌, ◌++◌, ◌+◌, ◌-◌, ◌==◌, ◌∷◌}
+use Rattle.tmw_show.specs.Shared.{BrokenRule, Criterion, Event, Malformed, Name, Opacity, OpaqueSoFar, Registers, State, Strict, StrictSoFar, Undecided, Verdict, Violated, decimal, flat_map, kept_of, line, values_text}
+use Rattle.std.specs.Prelude.{Bool, List, None, Option, Some, [], codes, false, if◌then◌else◌, length, max, option_map, replicate, take, true, ℕ, ◌*◌, ◌++◌, ◌+◌, ◌-◌, ◌==◌, ◌∷◌}
 use Rattle.tmw_defs.specs.declared.verdict.Why.{Why}
 use Rattle.tmw_defs.specs.declared.verdict.Why.TheVariants.{Transactions, States}
 use Rattle.tmw_wellformed.specs.declared.malformed.Malformed.TheVariants.{Register, Busy, Idle, Mismatch}

@@ -1,5 +1,6 @@
 -- Which events of a window are shown: all, or those that contradict each other, where it is asked why the window is violated.
-use Rattle.tmw_show.specs.Shared.{Bool, Criterion, Event, FindsPart, List, None, Option, Reason, Registers, Verdict, Violated, [], all_kept, codes, decimal, false, if◌then◌else◌, kept_of, length, line, members, nat_lt, true, ℕ, ◌++◌, ◌≡◌}
+use Rattle.tmw_show.specs.Shared.{Criterion, Event, FindsPart, Reason, Registers, Verdict, Violated, all_kept, decimal, kept_of, line, members}
+use Rattle.std.specs.Prelude.{Bool, List, None, Option, [], codes, false, if◌then◌else◌, length, nat_lt, true, ℕ, ◌++◌, ◌≡◌}
 use Rattle.tmw_part.specs.DrawnSteps.{drawn_of}
 use Rattle.tmw_part.specs.FindReason.{FindsReason}
 use Rattle.tmw_window.specs.declared.shown_window.ShownWindow.{ShownWindow}

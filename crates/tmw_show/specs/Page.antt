@@ -1,6 +1,7 @@
 -- The page that draws a window: a constant head, what is shown as one JSON object, and a constant tail. Of a trace the object has digits,
 -- the letters of events and blanks alone, within strings, and numbers.
-use Rattle.tmw_show.specs.Shared.{Bool, Criterion, Event, List, None, Opacity, Option, Reason, Registers, Some, State, Strict, [], codes, decimal, drop, event_text, false, flat_map, members, report_by, take, true, values_text, ℕ, ◌++◌, ◌+◌, ◌∷◌}
+use Rattle.tmw_show.specs.Shared.{Criterion, Event, Opacity, Reason, Registers, State, Strict, decimal, event_text, flat_map, members, report_by, values_text}
+use Rattle.std.specs.Prelude.{Bool, List, None, Option, Some, [], codes, drop, false, take, true, ℕ, ◌++◌, ◌+◌, ◌∷◌}
 use Rattle.tmw_show.specs.Drawing.{marked_at, wrong_text}
 use Rattle.tmw_show.specs.declared.page.constants.TheConstants.{HEAD, TAIL}
 use Rattle.tmw_show.specs.declared.needed_events.NeededEvents.{NeededEvents}

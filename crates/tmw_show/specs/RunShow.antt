@@ -1,5 +1,6 @@
 -- What `show` promises: from the bytes that its source tells to what its sink takes and the exit status.
-use Rattle.tmw_show.specs.Shared.{AnswersTextFault, AreEvents, BrokenRule, Criterion, Drawing, Err, Event, Header, IsRemarkedRun, List, Malformed, None, Ok, Option, Page, RemarksTrace, Result, ShowOptions, Some, Traces, Verdict, kept_of, members, report_by, rules_for, trace_grammar, trace_text, verdict_status, ℕ, ◌++◌, ◌+◌, ◌≡◌}
+use Rattle.tmw_show.specs.Shared.{AnswersTextFault, AreEvents, BrokenRule, Criterion, Drawing, Event, Header, IsRemarkedRun, Malformed, Page, RemarksTrace, ShowOptions, Traces, Verdict, kept_of, members, report_by, rules_for, trace_grammar, trace_text, verdict_status}
+use Rattle.std.specs.Prelude.{Err, List, None, Ok, Option, Result, Some, ℕ, ◌++◌, ◌+◌, ◌≡◌}
 use Rattle.tmw_lines.specs.TextFault.{HasTextFault}
 use Rattle.tmw_report.specs.declared.fault.Fault.{Fault}
 use Rattle.tmw_report.specs.declared.remark.Remark.{Remark}

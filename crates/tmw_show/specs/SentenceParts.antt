@@ -1,5 +1,6 @@
 -- What the sentences on a violation are made of. Values that are among some have names.
-use Rattle.tmw_show.specs.Shared.{List, None, Option, Some, ValueSource, codes, decimal, ℕ, ◌++◌}
+use Rattle.tmw_show.specs.Shared.{ValueSource, decimal}
+use Rattle.std.specs.Prelude.{List, None, Option, Some, codes, ℕ, ◌++◌}
 use Rattle.tmw_show.specs.TransactionNames.{name_text}
 use Rattle.tmw_show.specs.ValueNames.{value_text}
 

@@ -1,5 +1,6 @@
 -- The sentences that tell why a window is violated. Values that are among some have names.
-use Rattle.tmw_show.specs.Shared.{Bool, Event, List, None, Option, Reason, Some, State, ValueSource, [], codes, decimal, drop, false, flat_map, if◌then◌else◌, length, line, list_any, min, nat_lt, not, slice_index, take, true, ℕ, ◌&&◌, ◌++◌, ◌+◌, ◌==◌, ◌∷◌}
+use Rattle.tmw_show.specs.Shared.{Event, Reason, State, ValueSource, decimal, flat_map, line, list_any}
+use Rattle.std.specs.Prelude.{Bool, List, None, Option, Some, [], codes, drop, false, if◌then◌else◌, length, min, nat_lt, not, slice_index, take, true, ℕ, ◌&&◌, ◌++◌, ◌+◌, ◌==◌, ◌∷◌}
 use Rattle.tmw_events.specs.declared.ix.Ix.{Ix}
 use Rattle.tmw_part.specs.Origins.{origin_of, stays}
 use Rattle.tmw_part.specs.declared.origin.Fate.{Fate}

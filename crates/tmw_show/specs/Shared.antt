@@ -1,7 +1,6 @@
 -- What the definitions and contracts of this crate take from the libraries and from the crates below.
 pub use Rattle.std.specs.Fmt.{decimal}
 pub use Rattle.std.specs.List.{flat_map, list_any}
-pub use Rattle.std.specs.Prelude.{All, Bool, Err, IfErr, IfOk, IfSome, IsTrue, List, None, Ok, OnOk, Option, Result, Some, [], codes, drop, false, find, if◌then◌else◌, length, map, max, min, nat_lt, not, option_map, position, replicate, slice_index, string_bytes, take, true, ℕ, ◌&&◌, ◌*◌, ◌++◌, ◌+◌, ◌-◌, ◌<◌, ◌==◌, ◌^◌, ◌||◌, ◌↔◌, ◌∷◌, ◌≡◌, ◌≢◌, ◌≤◌, ◌⊎◌}
 pub use Rattle.tmw_cuts.specs.Members.{members}
 pub use Rattle.tmw_defs.specs.Opaque.{State}
 pub use Rattle.tmw_defs.specs.declared.criterion.Criterion.{Criterion}

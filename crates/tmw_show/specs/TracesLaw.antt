@@ -1,6 +1,7 @@
 -- The law of the traces that `show --trace` writes: `judge` reads each of them as a trace. What it may say of traces of the whole window
 -- tells whether the run is violated; those of a part are not final-state opaque, or not final-state strict.
-use Rattle.tmw_show.specs.Shared.{All, AreEvents, Criterion, Event, Header, IsTrue, List, Registers, ShowOptions, Traces, Verdict, Violated, [], flat_map, length, map, members, rules_for, trace_text, ℕ, ◌↔◌, ◌∷◌, ◌≡◌, ◌≢◌, ◌≤◌}
+use Rattle.tmw_show.specs.Shared.{AreEvents, Criterion, Event, Header, Registers, ShowOptions, Traces, Verdict, Violated, flat_map, members, rules_for, trace_text}
+use Rattle.std.specs.Prelude.{All, IsTrue, List, [], length, map, ℕ, ◌↔◌, ◌∷◌, ◌≡◌, ◌≢◌, ◌≤◌}
 use Rattle.tmw_trace.specs.declared.version.Version.TheVariants.{Two}
 use Rattle.tmw_defs.specs.Criteria.{IsFinalBy}
 use Rattle.tmw_defs.specs.History.{is_well_formed}

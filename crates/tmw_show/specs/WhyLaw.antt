@@ -1,5 +1,6 @@
 -- The law of `show --why`: of each violated run whose last window is not too long a part is shown of which nothing more can be taken out.
-use Rattle.tmw_show.specs.Shared.{IsMinimalPart, List, ShowOptions, length, members, true, ℕ, ◌≡◌, ◌≤◌}
+use Rattle.tmw_show.specs.Shared.{IsMinimalPart, ShowOptions, members}
+use Rattle.std.specs.Prelude.{List, length, true, ℕ, ◌≡◌, ◌≤◌}
 use Rattle.tmw_show.specs.NeededEvents.{IsViolation, marks_of}
 use Rattle.tmw_show.specs.RunShow.{IsShownOf}
 use Rattle.tmw_show.specs.declared.shown_trace.ShownTrace.{ShownTrace}

@@ -1,4 +1,5 @@
-ghost use Rattle.tmw_show.specs.Shared.{IfOk, OnOk, event_text, held_bytes, kind_text, ◌++◌, ◌≡◌};
+ghost use Rattle.tmw_show.specs.Shared.{event_text, held_bytes, kind_text};
+ghost use Rattle.std.specs.Prelude.{IfOk, OnOk, ◌++◌, ◌≡◌};
 
 use std::alloc::{AllocError, Global};
 use tmw_events::{Event, put_event};

@@ -1,4 +1,5 @@
-ghost use Rattle.tmw_show.specs.Shared.{IfOk, OnOk, length, members, ◌++◌, ◌+◌, ◌<◌, ◌^◌, ◌≡◌};
+ghost use Rattle.tmw_show.specs.Shared.{members};
+ghost use Rattle.std.specs.Prelude.{IfOk, OnOk, length, ◌++◌, ◌+◌, ◌<◌, ◌^◌, ◌≡◌};
 ghost use Rattle.tmw_show.specs.RunShow.{drawn_text, shown_events, shown_text};
 ghost use Rattle.tmw_show.specs.NeededEvents.{reason_of};
 ghost use Rattle.tmw_show.specs.Sentences.{found_text};

@@ -1,4 +1,5 @@
-ghost use Rattle.tmw_show.specs.Shared.{List, OnOk, flat_map, ℕ, ◌++◌, ◌≡◌};
+ghost use Rattle.tmw_show.specs.Shared.{flat_map};
+ghost use Rattle.std.specs.Prelude.{List, OnOk, ℕ, ◌++◌, ◌≡◌};
 ghost use Rattle.tmw_show.specs.Page.{list_json};
 
 use std::alloc::AllocError;

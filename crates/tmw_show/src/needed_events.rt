@@ -1,4 +1,4 @@
-ghost use Rattle.tmw_show.specs.Shared.{IfOk, OnOk, string_bytes, ◌++◌, ◌≡◌};
+ghost use Rattle.std.specs.Prelude.{IfOk, OnOk, string_bytes, ◌++◌, ◌≡◌};
 ghost use Rattle.tmw_show.specs.NeededEvents.{marks_of, needed_text, part_words};
 
 use std::alloc::{AllocError, Global};

@@ -1,4 +1,5 @@
-ghost use Rattle.tmw_show.specs.Shared.{OnOk, decimal, values_text, ◌++◌, ◌∷◌, ◌≡◌};
+ghost use Rattle.tmw_show.specs.Shared.{decimal, values_text};
+ghost use Rattle.std.specs.Prelude.{OnOk, ◌++◌, ◌∷◌, ◌≡◌};
 ghost use Rattle.tmw_show.specs.Drawing.{blanks};
 
 use crate::item_text::{ItemText, push_each};

@@ -1,5 +1,6 @@
 //! The sentence that tells where a value comes from that no serial order explains.
-ghost use Rattle.tmw_show.specs.Shared.{IfOk, IfSome, length, members, string_bytes, ◌+◌, ◌<◌, ◌^◌, ◌≡◌};
+ghost use Rattle.tmw_show.specs.Shared.{members};
+ghost use Rattle.std.specs.Prelude.{IfOk, IfSome, length, string_bytes, ◌+◌, ◌<◌, ◌^◌, ◌≡◌};
 ghost use Rattle.tmw_show.specs.Sentences.{coming_text, fate_text, may_count, origin_text, stands_in, start_text, told_by};
 
 use crate::transaction_names::TransactionName;

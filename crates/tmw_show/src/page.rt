@@ -1,4 +1,4 @@
-ghost use Rattle.tmw_show.specs.Shared.{IfOk, ◌≡◌};
+ghost use Rattle.std.specs.Prelude.{IfOk, ◌≡◌};
 ghost use Rattle.tmw_show.specs.Page.{page_text};
 
 mod constants;

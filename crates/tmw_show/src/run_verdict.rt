@@ -1,4 +1,4 @@
-ghost use Rattle.tmw_show.specs.Shared.{◌≡◌};
+ghost use Rattle.std.specs.Prelude.{◌≡◌};
 ghost use Rattle.tmw_show.specs.Drawing.{malformed_text, marked_at, rule_text, told_text, undecided_text, violated_text, wrong_text};
 
 use tmw_defs::{Criterion, Verdict, Why};

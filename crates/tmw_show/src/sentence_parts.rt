@@ -1,5 +1,5 @@
 //! What the sentences on a violation are made of, as they print it.
-ghost use Rattle.tmw_show.specs.Shared.{Some};
+ghost use Rattle.std.specs.Prelude.{Some};
 ghost use Rattle.tmw_show.specs.SentenceParts.{before_text, left_text, read_text, writer_text};
 
 use crate::transaction_names::TransactionName;

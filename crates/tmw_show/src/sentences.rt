@@ -1,5 +1,6 @@
 //! The sentences that tell why a window is violated. Values that are among some have names.
-ghost use Rattle.tmw_show.specs.Shared.{IfOk, OnOk, flat_map, length, members, string_bytes, ◌++◌, ◌+◌, ◌<◌, ◌^◌, ◌≡◌};
+ghost use Rattle.tmw_show.specs.Shared.{flat_map, members};
+ghost use Rattle.std.specs.Prelude.{IfOk, OnOk, length, string_bytes, ◌++◌, ◌+◌, ◌<◌, ◌^◌, ◌≡◌};
 ghost use Rattle.tmw_show.specs.Sentences.{assumption_text, case_text, changed_first_text, derivation_text, end_text, ending_text, framed, header_text, read_first_text, reason_text, source_text, state_item, step_text, steps_text, told_text};
 
 use crate::frame::Frame;

@@ -1,4 +1,5 @@
-ghost use Rattle.tmw_show.specs.Shared.{Memory, Remarks, fault_line, ◌≡◌, ◌⊎◌};
+ghost use Rattle.tmw_show.specs.Shared.{Memory, Remarks, fault_line};
+ghost use Rattle.std.specs.Prelude.{◌≡◌, ◌⊎◌};
 ghost use Rattle.tmw_report.specs.SendText.{IsPut};
 ghost use Rattle.tmw_show.specs.RunShow.{remark_by, remark_of, shown_status, shown_text};
 

@@ -1,4 +1,5 @@
-ghost use Rattle.tmw_show.specs.Shared.{IfErr, IfOk, List, Memory, RemarksFault, failures_after_answer, ℕ, ◌≡◌};
+ghost use Rattle.tmw_show.specs.Shared.{Memory, RemarksFault, failures_after_answer};
+ghost use Rattle.std.specs.Prelude.{IfErr, IfOk, List, ℕ, ◌≡◌};
 ghost use Rattle.tmw_show.specs.NeededEvents.{IsShownFor};
 ghost use Rattle.tmw_streams.specs.Transfers.{Tells};
 ghost use Rattle.tmw_show.specs.RunShow.{AnswersShow};

@@ -1,4 +1,4 @@
-ghost use Rattle.tmw_show.specs.Shared.{IfOk};
+ghost use Rattle.std.specs.Prelude.{IfOk};
 ghost use Rattle.tmw_show.specs.NeededEvents.{IsNeededOf};
 
 use crate::needed_events::NeededEvents;

@@ -1,4 +1,5 @@
-ghost use Rattle.tmw_show.specs.Shared.{IfOk, OnOk, held_bytes, line, ◌++◌, ◌≡◌};
+ghost use Rattle.tmw_show.specs.Shared.{held_bytes, line};
+ghost use Rattle.std.specs.Prelude.{IfOk, OnOk, ◌++◌, ◌≡◌};
 ghost use Rattle.tmw_show.specs.TracesText.{events_text, start_text, traces_text};
 
 use crate::item_text::{ItemText, push_each};

@@ -1,4 +1,4 @@
-ghost use Rattle.tmw_show.specs.Shared.{OnOk, Some, ◌++◌, ◌≡◌};
+ghost use Rattle.std.specs.Prelude.{OnOk, Some, ◌++◌, ◌≡◌};
 ghost use Rattle.tmw_show.specs.TransactionNames.{begun_at, label_at, name_text};
 
 use std::alloc::AllocError;

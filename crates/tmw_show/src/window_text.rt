@@ -1,4 +1,5 @@
-ghost use Rattle.tmw_show.specs.Shared.{OnOk, length, line, ◌++◌, ◌+◌, ◌<◌, ◌^◌, ◌≡◌};
+ghost use Rattle.tmw_show.specs.Shared.{line};
+ghost use Rattle.std.specs.Prelude.{OnOk, length, ◌++◌, ◌+◌, ◌<◌, ◌^◌, ◌≡◌};
 ghost use Rattle.tmw_show.specs.Drawing.{beside, event_row, heads_text, last_thread, rows_text, told_row, window_text};
 
 use crate::legend::Legend;

@@ -1,5 +1,6 @@
 -- A text names its size and its steps, line by line.
-use Rattle.tmw_steps.specs.Shared.{AllByRecursion, IsNaming, List, ap, drop, get_or, ℕ, ◌<◌, ◌^◌, ◌≡◌}
+use Rattle.tmw_steps.specs.Shared.{AllByRecursion, IsNaming, ap, drop, get_or, ◌<◌, ◌^◌}
+use Rattle.std.specs.Prelude.{List, ℕ, ◌≡◌}
 use Rattle.tmw_trace.specs.ValueTextInjectivity.{free-values_text, values_text-injective}
 use Rattle.tmw_steps.specs.declared.size_line.SizeLine.{SizeLine}
 use Rattle.tmw_steps.specs.Text.{size_numbers, size_text, steps_grammar, FitsSize}

@@ -1,5 +1,6 @@
 -- That a text of steps has one size and one list of steps.
-use Rattle.tmw_steps.specs.Shared.{List, Step, ℕ, ◌≡◌}
+use Rattle.tmw_steps.specs.Shared.{Step}
+use Rattle.std.specs.Prelude.{List, ℕ, ◌≡◌}
 use Rattle.tmw_steps.specs.declared.size_line.SizeLine.{SizeLine}
 use Rattle.tmw_steps.specs.RunSteps.{IsStepsText}
 

@@ -1,5 +1,6 @@
 -- The longest texts of a size and of a step, and that longer ones are no text of either.
-use Rattle.tmw_steps.specs.Shared.{Claim, Fill, Free, Front, IsNoHeader, IsNoItem, List, Peek, Publish, Read, Step, Stop, Tail, [], ap, arith, decimal, length, length-append, values_text, ℕ, ◌∷◌, ◌≤◌}
+use Rattle.tmw_steps.specs.Shared.{Claim, Fill, Free, Front, IsNoHeader, IsNoItem, Peek, Publish, Read, Step, Stop, Tail, ap, arith, decimal, length, length-append, values_text, ◌≤◌}
+use Rattle.std.specs.Prelude.{List, [], ℕ, ◌∷◌}
 use Rattle.tmw_trace.specs.Lengths.{length-decimal, length-kind_text}
 use Rattle.tmw_steps.specs.declared.size_line.SizeLine.{SizeLine}
 use Rattle.tmw_steps.specs.declared.steps_format.StepsFormat.{StepsFormat}

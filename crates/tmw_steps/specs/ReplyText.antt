@@ -1,5 +1,6 @@
 -- The texts of the replies to a ring's steps. Numbers are decimal, without sign and without leading zeros.
-use Rattle.tmw_steps.specs.Shared.{Cleared, Filled, Full, List, NotNow, NotReady, Place, Published, Ready, Saw, Spent, Stopped, Taken, Word, codes, decimal, event_text, flat_map, line, ℕ, ◌++◌}
+use Rattle.tmw_steps.specs.Shared.{Cleared, Filled, Full, NotNow, NotReady, Place, Published, Ready, Saw, Spent, Stopped, Taken, Word, decimal, event_text, flat_map, line}
+use Rattle.std.specs.Prelude.{List, codes, ℕ, ◌++◌}
 use Rattle.tmw_ring_defs.specs.declared.ring_step.Reply.{Reply}
 
 -- how a step is answered, in words, with its numbers or its event after one space each

@@ -1,5 +1,6 @@
 -- What `steps` promises: from the bytes that its source tells to what its sink takes and the exit status.
-use Rattle.tmw_steps.specs.Shared.{AnswersTextFault, Err, HasTextFault, IsCommandRun, List, Ok, Result, Step, length, ℕ, ◌≡◌, ◌⊎◌}
+use Rattle.tmw_steps.specs.Shared.{AnswersTextFault, HasTextFault, IsCommandRun, Step, length}
+use Rattle.std.specs.Prelude.{Err, List, Ok, Result, ℕ, ◌≡◌, ◌⊎◌}
 use Rattle.tmw_ring_defs.specs.RingMachine.{new_machine, after, replies}
 use Rattle.tmw_ring_defs.specs.RingSize.{HasRoom, HasLimit, HasNumbers}
 use Rattle.tmw_ring_defs.specs.declared.ring_size.RingSize.{RingSize}

@@ -2,7 +2,6 @@
 pub use Rattle.std.proofs.Common.{ap, arith, drop, get_or, length, length-append, refl, true, ◌<◌, ◌^◌, ◌∙◌, ◌≤◌}
 pub use Rattle.std.specs.Fmt.{decimal}
 pub use Rattle.std.specs.List.{AllByRecursion, flat_map}
-pub use Rattle.std.specs.Prelude.{Err, IfErr, IfNone, IfOk, IfSome, List, Ok, OnOk, Result, [], codes, ℕ, ◌++◌, ◌∷◌, ◌≡◌, ◌⊎◌}
 pub use Rattle.tmw_events.specs.Text.{FitsKind, digit, event_text, kind_text}
 pub use Rattle.tmw_lines.specs.Grammar.{AreLines, Grammar, IsNaming, IsNoHeader, IsNoItem, lines_text}
 pub use Rattle.tmw_lines.specs.LineFeeds.{line}

@@ -1,5 +1,6 @@
 -- A text names its step: two steps with one text are one step, and no step's text has a line feed.
-use Rattle.tmw_steps.specs.Shared.{Claim, Fill, Free, Front, Peek, Publish, Read, Step, Stop, Tail, ap, arith, drop, get_or, refl, true, ◌∙◌, ◌≡◌}
+use Rattle.tmw_steps.specs.Shared.{Claim, Fill, Free, Front, Peek, Publish, Read, Step, Stop, Tail, ap, arith, drop, get_or, refl, true, ◌∙◌}
+use Rattle.std.specs.Prelude.{◌≡◌}
 use Rattle.std.proofs.lemmas.Bool.{and_from}
 use Rattle.tmw_lines.specs.FreeParts.{IsFree}
 use Rattle.tmw_events.proofs.Same.{same_ix}

@@ -1,5 +1,6 @@
 -- The texts of a ring's size and of the steps in it. Numbers are decimal, without sign and without leading zeros.
-use Rattle.tmw_steps.specs.Shared.{AreLines, Claim, Fill, FitsKind, Free, Front, Grammar, List, Peek, Publish, Read, Step, Stop, Tail, [], codes, digit, kind_text, lines_text, values_text, ℕ, ◌++◌, ◌<◌, ◌^◌, ◌∷◌, ◌≡◌}
+use Rattle.tmw_steps.specs.Shared.{AreLines, Claim, Fill, FitsKind, Free, Front, Grammar, Peek, Publish, Read, Step, Stop, Tail, digit, kind_text, lines_text, values_text, ◌<◌, ◌^◌}
+use Rattle.std.specs.Prelude.{List, [], codes, ℕ, ◌++◌, ◌∷◌, ◌≡◌}
 use Rattle.tmw_steps.specs.declared.size_line.SizeLine.{SizeLine}
 use Rattle.tmw_steps.specs.declared.steps_format.StepsFormat.{StepsFormat}
 

@@ -1,4 +1,5 @@
-ghost use Rattle.tmw_steps.specs.Shared.{Puts, Taken, decimal, line, ◌++◌};
+ghost use Rattle.tmw_steps.specs.Shared.{Puts, Taken, decimal, line};
+ghost use Rattle.std.specs.Prelude.{◌++◌};
 ghost use Rattle.tmw_steps.specs.ReplyText.{reply_text, counts_text, replies_text};
 
 use tmw_events::{Event, put_event};

@@ -1,4 +1,5 @@
-ghost use Rattle.tmw_steps.specs.Shared.{IfNone, IfSome, IsNoHeader, values_text, ◌≡◌};
+ghost use Rattle.tmw_steps.specs.Shared.{IsNoHeader, values_text};
+ghost use Rattle.std.specs.Prelude.{IfNone, IfSome, ◌≡◌};
 ghost use Rattle.tmw_steps.specs.Text.{size_numbers, size_text, steps_grammar, FitsSize};
 
 use tmw_trace::first_value;

@@ -1,4 +1,5 @@
-ghost use Rattle.tmw_steps.specs.Shared.{List, Tells, failures_after_answer, ℕ, ◌≡◌};
+ghost use Rattle.tmw_steps.specs.Shared.{Tells, failures_after_answer};
+ghost use Rattle.std.specs.Prelude.{List, ℕ, ◌≡◌};
 ghost use Rattle.tmw_steps.specs.RunSteps.{AnswersSteps, IsMade, RunsSteps};
 
 use crate::reply_line::put_replies;

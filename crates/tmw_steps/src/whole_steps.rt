@@ -1,4 +1,5 @@
-ghost use Rattle.tmw_steps.specs.Shared.{HasTextFault, IfErr, IfOk, List, OnOk, Tells, reading_failures, ℕ, ◌≡◌};
+ghost use Rattle.tmw_steps.specs.Shared.{HasTextFault, Tells, reading_failures};
+ghost use Rattle.std.specs.Prelude.{IfErr, IfOk, List, OnOk, ℕ, ◌≡◌};
 ghost use Rattle.tmw_steps.specs.Text.{steps_grammar, steps_text, AreSteps};
 
 use crate::step_list::StepList;

@@ -13,7 +13,7 @@ pub use Rattle.tmw_lines.specs.Grammar.{IsNoHeader, items_text}
 pub use Rattle.tmw_lines.specs.LineFeeds.{line}
 pub use Rattle.tmw_streams.proofs.Puts.{Puts-front, Puts-more}
 pub use Rattle.tmw_streams.specs.Transfers.{Puts, Takes}
-pub use Rattle.tmw_trace.specs.Version.{are_spoken, are_zeros, is_spoken}
 pub use Rattle.tmw_trace.specs.Text.{FitsEvent, FitsHeader, header_text, initial_text, numbers_text, trace_grammar, values_text, version_digit}
+pub use Rattle.tmw_trace.specs.Version.{are_spoken, are_zeros, is_spoken}
 pub use Rattle.tmw_trace.specs.declared.header.Header.{Header}
 pub use Rattle.tmw_trace.specs.declared.version.Version.{Version}

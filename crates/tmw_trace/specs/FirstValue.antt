@@ -1,5 +1,6 @@
 -- The values in a header, each after one space.
-use Rattle.tmw_trace.specs.Shared.{List, decimal, drop, is_next, length, take, true, ℕ, ◌++◌, ◌<◌, ◌^◌, ◌∷◌, ◌≡◌, ◌≤◌}
+use Rattle.tmw_trace.specs.Shared.{decimal, is_next}
+use Rattle.std.specs.Prelude.{List, drop, length, take, true, ℕ, ◌++◌, ◌<◌, ◌^◌, ◌∷◌, ◌≡◌, ◌≤◌}
 use Rattle.tmw_trace.specs.Text.{version_digit, initial_text}
 use Rattle.tmw_trace.specs.declared.header.Header.{Header}
 

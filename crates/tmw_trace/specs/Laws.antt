@@ -1,5 +1,6 @@
 -- That a trace has one text, and a text one trace; and that an event has one pair of words, and a pair one event.
-use Rattle.tmw_trace.specs.Shared.{AllFit, Event, ◌≡◌}
+use Rattle.tmw_trace.specs.Shared.{AllFit, Event}
+use Rattle.std.specs.Prelude.{◌≡◌}
 use Rattle.tmw_events.specs.EventWords.{pack}
 use Rattle.tmw_trace.specs.Text.{trace_grammar, trace_text}
 use Rattle.tmw_trace.specs.declared.trace.Trace.{Trace}

@@ -5,7 +5,6 @@ pub use Rattle.std.proofs.lemmas.Fmt.{decimal_injective, length-decimal-le}
 pub use Rattle.std.proofs.lemmas.List.Elements.{All-take, recursion_from_All}
 pub use Rattle.std.specs.Fmt.{decimal}
 pub use Rattle.std.specs.List.{AllByRecursion, flat_map, list_all}
-pub use Rattle.std.specs.Prelude.{All, Bool, IfErr, IfNone, IfOk, IfSome, IsTrue, List, OnOk, codes, cond, drop, length, take, true, ℕ, ◌++◌, ◌+◌, ◌<◌, ◌^◌, ◌∷◌, ◌≡◌, ◌≤◌}
 pub use Rattle.tmw_events.proofs.Same.{same_ix}
 pub use Rattle.tmw_events.specs.Text.{FitsKind, digit, event_text, kind_text}
 pub use Rattle.tmw_events.specs.declared.event.Event.{Event}

@@ -1,5 +1,6 @@
 -- The texts of headers and traces. Numbers are decimal, without sign and without leading zeros.
-use Rattle.tmw_trace.specs.Shared.{All, AreLines, Event, FitsKind, Grammar, List, [], codes, decimal, event_text, flat_map, length, lines_text, take, true, ℕ, ◌++◌, ◌+◌, ◌<◌, ◌^◌, ◌∷◌, ◌≡◌}
+use Rattle.tmw_trace.specs.Shared.{AreLines, Event, FitsKind, Grammar, [], decimal, event_text, flat_map, lines_text}
+use Rattle.std.specs.Prelude.{All, List, codes, length, take, true, ℕ, ◌++◌, ◌+◌, ◌<◌, ◌^◌, ◌∷◌, ◌≡◌}
 use Rattle.tmw_trace.specs.Version.{is_spoken}
 use Rattle.tmw_trace.specs.declared.header.Header.{Header}
 use Rattle.tmw_trace.specs.declared.version.Version.{Version}

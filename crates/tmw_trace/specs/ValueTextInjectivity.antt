@@ -1,5 +1,6 @@
 -- A text names its values: two lists of values with one text are one list, and no such text has a line feed.
-use Rattle.tmw_trace.specs.Shared.{AllByRecursion, IsFree, List, [], ap, arith, decimal, decimal_injective, drop, free-append, free-decimal, is_next, length, refl, split_free, true, ℕ, ◌<◌, ◌^◌, ◌∙◌, ◌∷◌, ◌≡◌}
+use Rattle.tmw_trace.specs.Shared.{AllByRecursion, IsFree, [], ap, arith, decimal, decimal_injective, free-append, free-decimal, is_next, refl, split_free, ◌∙◌}
+use Rattle.std.specs.Prelude.{List, drop, length, true, ℕ, ◌<◌, ◌^◌, ◌∷◌, ◌≡◌}
 use Rattle.tmw_trace.specs.Text.{values_text}
 
 -- behind a value comes a space or nothing

@@ -1,4 +1,5 @@
-ghost use Rattle.tmw_trace.specs.Shared.{IfNone, IfSome, IsNoItem, event_text, ◌≡◌};
+ghost use Rattle.tmw_trace.specs.Shared.{IsNoItem, event_text};
+ghost use Rattle.std.specs.Prelude.{IfNone, IfSome, ◌≡◌};
 ghost use Rattle.tmw_trace.specs.Version.{is_spoken};
 ghost use Rattle.tmw_trace.specs.Text.{trace_grammar, FitsEvent};
 

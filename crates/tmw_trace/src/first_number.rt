@@ -1,4 +1,5 @@
-ghost use Rattle.tmw_trace.specs.Shared.{IfSome, decimal, drop, get_or, length, line, ◌++◌, ◌<◌, ◌≡◌, ◌≤◌};
+ghost use Rattle.tmw_trace.specs.Shared.{decimal, get_or, line};
+ghost use Rattle.std.specs.Prelude.{IfSome, drop, length, ◌++◌, ◌<◌, ◌≡◌, ◌≤◌};
 
 /// Reads the number that these bytes begin with, up to a line feed, and returns it and the length of both. A number
 /// of twenty digits, which may be too large for 64 bits, is left to `number_of`.

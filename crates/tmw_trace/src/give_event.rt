@@ -1,4 +1,5 @@
-ghost use Rattle.tmw_trace.specs.Shared.{FitsKind, digit, drop, kind_text, length, line, ℕ, ◌++◌, ◌+◌, ◌<◌, ◌^◌, ◌∷◌, ◌≡◌, ◌≤◌};
+ghost use Rattle.tmw_trace.specs.Shared.{FitsKind, digit, kind_text, line};
+ghost use Rattle.std.specs.Prelude.{drop, length, ℕ, ◌++◌, ◌+◌, ◌<◌, ◌^◌, ◌∷◌, ◌≡◌, ◌≤◌};
 ghost use Rattle.tmw_lines.specs.GiveResult.{IsGiven};
 ghost use Rattle.tmw_trace.specs.Text.{trace_grammar};
 

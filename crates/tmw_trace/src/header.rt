@@ -1,4 +1,4 @@
-ghost use Rattle.tmw_trace.specs.Shared.{IsTrue};
+ghost use Rattle.std.specs.Prelude.{IsTrue};
 ghost use Rattle.tmw_trace.specs.Version.{is_start};
 
 use crate::version::Version;

@@ -1,4 +1,5 @@
-ghost use Rattle.tmw_trace.specs.Shared.{All, IfNone, IfSome, IsNoHeader, List, Registers, drop, length, take, true, ℕ, ◌+◌, ◌<◌, ◌^◌, ◌≡◌};
+ghost use Rattle.tmw_trace.specs.Shared.{IsNoHeader, Registers};
+ghost use Rattle.std.specs.Prelude.{All, IfNone, IfSome, List, drop, length, take, true, ℕ, ◌+◌, ◌<◌, ◌^◌, ◌≡◌};
 ghost use Rattle.tmw_trace.specs.Version.{are_zeros};
 ghost use Rattle.tmw_trace.specs.Text.{header_text, numbers_text, values_text, trace_grammar, FitsHeader};
 ghost use Rattle.tmw_trace.specs.declared.header.Header.{Header};

@@ -1,4 +1,5 @@
-ghost use Rattle.tmw_trace.specs.Shared.{Puts, line, ◌≡◌};
+ghost use Rattle.tmw_trace.specs.Shared.{Puts, line};
+ghost use Rattle.std.specs.Prelude.{◌≡◌};
 ghost use Rattle.tmw_trace.specs.Text.{header_text, initial_text, numbers_text, values_text, version_digit};
 
 use crate::header::Header;

@@ -1,4 +1,4 @@
-ghost use Rattle.tmw_trace.specs.Shared.{◌≡◌};
+ghost use Rattle.std.specs.Prelude.{◌≡◌};
 ghost use Rattle.tmw_trace.specs.Version.{are_spoken, version_of};
 
 use crate::event_line::speaks;

@@ -1,4 +1,5 @@
-ghost use Rattle.tmw_trace.specs.Shared.{IfErr, IfOk, List, OnOk, Tells, ℕ, ◌≡◌};
+ghost use Rattle.tmw_trace.specs.Shared.{Tells};
+ghost use Rattle.std.specs.Prelude.{IfErr, IfOk, List, OnOk, ℕ, ◌≡◌};
 ghost use Rattle.tmw_lines.specs.TextFault.{HasTextFault, reading_failures};
 ghost use Rattle.tmw_trace.specs.Text.{trace_grammar, trace_text, AreEvents};
 

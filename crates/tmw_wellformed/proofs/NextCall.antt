@@ -1,6 +1,5 @@
 -- The pending call of a text with an event more.
-use Rattle.std.specs.Prelude.{None, Option, Some}
-use Rattle.tmw_events.specs.declared.event.Kind.{Kind}
+use Rattle.tmw_wellformed.proofs.Shared.{Kind, None, Option, Some}
 
 -- The call that has no answer after an event more.
 abbrev pub next_call : Option Kind → Kind → Option Kind

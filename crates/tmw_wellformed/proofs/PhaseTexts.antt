@@ -1,5 +1,6 @@
 -- Which events a phase accepts: those with which the text of the thread's live transaction is a text still.
-use Rattle.tmw_wellformed.proofs.Shared.{Between, Err, IsFalse, IsTrue, Kind, Malformed, None, Ok, Option, Phase, Register, Some, Txn, [], answers, arith, asks, call_of, earlier, ends, false, has_fault, if◌then◌else◌, is_call, is_ended, is_live, is_some, is_text, lacks_register, list_any, next_call, next_phase, not, option_and_then, phase_of, phase_within, refl, takes, true, waits, ℕ, ◌++◌, ◌∷◌, ◌≡◌}
+use Rattle.tmw_wellformed.proofs.Shared.{Between, Err, IsFalse, IsTrue, Kind, Malformed, None, Ok, Option, Phase, Register, Some, Txn, [], answers, arith, asks, call_of, earlier, ends, false, has_fault, if◌then◌else◌, is_call, is_ended, is_live, is_some, is_text, lacks_register, list_any, next_phase, not, option_and_then, phase_of, phase_within, refl, takes, true, waits, ℕ, ◌++◌, ◌∷◌, ◌≡◌}
+use Rattle.tmw_wellformed.proofs.NextCall.{next_call}
 use Rattle.tmw_wellformed.proofs.TextSteps.{goes_on, is_text-push, pending_asks}
 use Rattle.tmw_wellformed.proofs.HistorySteps.{text_of}
 

@@ -11,7 +11,6 @@ pub use Rattle.tmw_events.specs.declared.event.Event.{Event}
 pub use Rattle.tmw_events.specs.declared.event.Kind.{Kind}
 pub use Rattle.tmw_wellformed.specs.Faults.{Refuses, asks, earlier, has_fault, lacks_register}
 pub use Rattle.tmw_wellformed.specs.PendingCalls.{call_of, live_count, live_of, pending_call}
-pub use Rattle.tmw_wellformed.proofs.NextCall.{next_call}
 pub use Rattle.tmw_wellformed.specs.Phase.{is_live, next_phase, phase_of, phase_within, takes, waits}
 pub use Rattle.tmw_wellformed.specs.declared.malformed.Malformed.{Malformed}
 pub use Rattle.tmw_wellformed.specs.declared.malformed.Malformed.TheVariants.{Register}

@@ -1,5 +1,6 @@
 -- What one event more makes of a transaction's text: whether it is a text still, its pending call, and whether it has ended.
-use Rattle.tmw_wellformed.proofs.Shared.{Bool, Kind, List, None, Option, Some, [], and_parts, answers, arith, asks, call_of, ends, false, is_call, is_ended, is_ended-cons, is_over-ends, is_text, length, length-append, next_call, not, refl, slice_get_end, true, ℕ, ◌&&◌, ◌++◌, ◌-◌, ◌∷◌, ◌≡◌}
+use Rattle.tmw_wellformed.proofs.Shared.{Bool, Kind, List, None, Option, Some, [], and_parts, answers, arith, asks, call_of, ends, false, is_call, is_ended, is_ended-cons, is_over-ends, is_text, length, length-append, not, refl, slice_get_end, true, ℕ, ◌&&◌, ◌++◌, ◌-◌, ◌∷◌, ◌≡◌}
+use Rattle.tmw_wellformed.proofs.NextCall.{next_call}
 
 pub is_ended-push : (text : List Kind) (k : Kind) → is_ended (text ++ k ∷ []) ≡ ends k
 is_ended-push text k =

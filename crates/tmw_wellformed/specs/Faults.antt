@@ -1,5 +1,6 @@
 -- What can be wrong with the next event of a well-formed history.
-use Rattle.tmw_wellformed.specs.Shared.{Bool, Event, IsFalse, IsTrue, Kind, List, N, None, Option, R, Some, T, W, X, [], answers, false, is_none, is_some, is_well_formed, list_any, nat_lt, not, true, ℕ, ◌&&◌, ◌++◌, ◌∷◌}
+use Rattle.tmw_wellformed.specs.Shared.{Event, Kind, N, R, T, W, X, answers, is_well_formed, list_any}
+use Rattle.std.specs.Prelude.{Bool, IsFalse, IsTrue, List, None, Option, Some, [], false, is_none, is_some, nat_lt, not, true, ℕ, ◌&&◌, ◌++◌, ◌∷◌}
 use Rattle.tmw_wellformed.specs.declared.malformed.Malformed.{Malformed}
 use Rattle.tmw_wellformed.specs.declared.malformed.Malformed.TheVariants.{Register, Busy, Idle, Mismatch}
 use Rattle.tmw_wellformed.specs.PendingCalls.{pending_call}

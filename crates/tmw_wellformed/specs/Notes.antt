@@ -1,5 +1,6 @@
 -- What an event is to its transaction: whether it begins it, and how it ends it.
-use Rattle.tmw_wellformed.specs.Shared.{A, C, Event, IsTrue, Kind, List, None, Option, Some, [], length, transactions, ◌++◌, ◌+◌, ◌↔◌, ◌∷◌, ◌≡◌}
+use Rattle.tmw_wellformed.specs.Shared.{A, C, Event, Kind, transactions}
+use Rattle.std.specs.Prelude.{IsTrue, List, None, Option, Some, [], length, ◌++◌, ◌+◌, ◌↔◌, ◌∷◌, ◌≡◌}
 use Rattle.tmw_wellformed.specs.declared.note.End.{End}
 use Rattle.tmw_wellformed.specs.declared.note.End.TheVariants.{Commit, Abort}
 use Rattle.tmw_wellformed.specs.declared.note.Note.{Note}

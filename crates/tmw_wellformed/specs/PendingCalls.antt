@@ -1,5 +1,6 @@
 -- A thread's live transaction and its pending call, in a history.
-use Rattle.tmw_wellformed.specs.Shared.{Event, Kind, List, None, Option, Some, Txn, [], count_by, find, is_ended, not, option_and_then, transactions, ℕ, ◌&&◌, ◌==◌, ◌∷◌}
+use Rattle.tmw_wellformed.specs.Shared.{Event, Kind, Txn, find, is_ended, transactions}
+use Rattle.std.specs.Prelude.{List, None, Option, Some, [], count_by, not, option_and_then, ℕ, ◌&&◌, ◌==◌, ◌∷◌}
 
 -- The call of a text that has no answer: calls and answers stand in turn, so it is the last event where that is a call.
 abbrev pub call_of : List Kind → Option Kind

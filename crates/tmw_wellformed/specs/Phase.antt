@@ -1,5 +1,6 @@
 -- The phases of a thread: which one a live transaction's text is in, and which event leads from one to which.
-use Rattle.tmw_wellformed.specs.Shared.{A, Bool, C, Err, K, Kind, N, None, Ok, Option, R, Result, Some, T, Txn, V, W, X, ends, false, if◌then◌else◌, true}
+use Rattle.tmw_wellformed.specs.Shared.{A, C, K, Kind, N, R, T, Txn, V, W, X, ends}
+use Rattle.std.specs.Prelude.{Bool, Err, None, Ok, Option, Result, Some, false, if◌then◌else◌, true}
 use Rattle.tmw_wellformed.specs.declared.malformed.Malformed.{Malformed}
 use Rattle.tmw_wellformed.specs.declared.malformed.Malformed.TheVariants.{Busy, Idle, Mismatch}
 use Rattle.tmw_wellformed.specs.declared.phase.Phase.{Phase}

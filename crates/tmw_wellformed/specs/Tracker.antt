@@ -1,5 +1,6 @@
 -- Which history a tracker stands for.
-use Rattle.tmw_wellformed.specs.Shared.{Event, IsTrue, List, Some, is_well_formed, slice_get, transactions, ℕ, ◌<◌, ◌≡◌}
+use Rattle.tmw_wellformed.specs.Shared.{Event, is_well_formed, transactions}
+use Rattle.std.specs.Prelude.{IsTrue, List, Some, slice_get, ℕ, ◌<◌, ◌≡◌}
 use Rattle.tmw_wellformed.specs.declared.phases.Phases.{Phases}
 use Rattle.tmw_wellformed.specs.declared.tracker.Tracker.{Tracker}
 use Rattle.tmw_wellformed.specs.PendingCalls.{live_of, live_count}

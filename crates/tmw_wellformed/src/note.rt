@@ -1,4 +1,4 @@
-ghost use Rattle.tmw_wellformed.specs.Shared.{◌≡◌};
+ghost use Rattle.std.specs.Prelude.{◌≡◌};
 ghost use Rattle.tmw_wellformed.specs.Notes.{end_of};
 
 use tmw_events::Kind;

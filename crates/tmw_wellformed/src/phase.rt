@@ -1,4 +1,4 @@
-ghost use Rattle.tmw_wellformed.specs.Shared.{◌≡◌};
+ghost use Rattle.std.specs.Prelude.{◌≡◌};
 ghost use Rattle.tmw_wellformed.specs.Phase.{is_live, next_phase};
 
 use crate::malformed::Malformed;

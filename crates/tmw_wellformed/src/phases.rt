@@ -1,4 +1,4 @@
-ghost use Rattle.tmw_wellformed.specs.Shared.{count_by, replicate, slice_index_or, slice_set, ◌≡◌};
+ghost use Rattle.std.specs.Prelude.{count_by, replicate, slice_index_or, slice_set, ◌≡◌};
 ghost use Rattle.tmw_wellformed.specs.Phase.{is_live};
 
 use crate::phase::Phase;

@@ -1,4 +1,5 @@
-ghost use Rattle.tmw_wellformed.specs.Shared.{Event, IfErr, IfOk, IsTrue, List, OnErr, Some, X, [], ℕ, ◌++◌, ◌↔◌, ◌∷◌, ◌≡◌};
+ghost use Rattle.tmw_wellformed.specs.Shared.{Event, X};
+ghost use Rattle.std.specs.Prelude.{IfErr, IfOk, IsTrue, List, OnErr, Some, [], ℕ, ◌++◌, ◌↔◌, ◌∷◌, ◌≡◌};
 ghost use Rattle.tmw_defs.specs.Cuts.{is_cut};
 ghost use Rattle.tmw_wellformed.specs.PendingCalls.{live_count, pending_call};
 ghost use Rattle.tmw_wellformed.specs.Notes.{Notes};

@@ -1,5 +1,7 @@
 -- One transaction of a window gets an event more.
-use Rattle.tmw_witness.specs.Shared.{List, Some, View, bit_at, length, slice_get, ℕ, ◌≡◌}
+use Rattle.std.specs.Prelude.{◌≡◌, ℕ, List, length, slice_get, Some}
+use Rattle.std.specs.Int.{bit_at}
+use Rattle.tmw_cuts.specs.Views.{View}
 
 -- None of them began after the transaction at the place had completed.
 abbrev pub PrecedesNone : List View → ℕ → Type 0

@@ -1,3 +1,2 @@
 pub mod EventAtPlace
-mod Shared
 pub mod Witness

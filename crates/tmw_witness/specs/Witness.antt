@@ -1,8 +1,14 @@
 -- A witness: a serial order of the transactions of a window, told by ranks. The transactions that a completion takes as
 -- committed lead one after the other from the state of each rank to the next; those that it leaves out read the state of their rank.
-use Rattle.tmw_witness.specs.Shared.{Bool, Contains, Event, IsNext, IsTrue, List, Some, StandsFor, State, View, [], after_writes, bit, bit_at, false, length, may_hold, reads_hold, slice_get, slice_index, slice_index_or, true, views_of, ℕ, ◌++◌, ◌+◌, ◌<◌, ◌∷◌, ◌≡◌, ◌≤◌, ◌⊎◌}
+use Rattle.std.specs.Prelude.{◌≡◌, ◌⊎◌, ◌++◌, ◌∷◌, ◌+◌, ◌<◌, ◌≤◌, ℕ, Bool, true, false, List, [], length, slice_get, slice_index, slice_index_or, Some, IsTrue}
+use Rattle.std.specs.Int.{bit_at}
+use Rattle.std.specs.List.{Contains}
 use Rattle.tmw_defs.specs.declared.op.Op.{Op}
 use Rattle.tmw_defs.specs.declared.status.Status.{Status}
+use Rattle.tmw_defs.specs.Opaque.{State, may_hold, reads_hold, after_writes}
+use Rattle.tmw_events.specs.declared.event.Event.{Event}
+use Rattle.tmw_cuts.specs.StandsFor.{IsNext, StandsFor, views_of}
+use Rattle.tmw_cuts.specs.Views.{View, bit}
 use Rattle.tmw_cuts.specs.declared.turn.Move.{Move}
 use Rattle.tmw_cuts.specs.declared.window.Window.{Window}
 use Rattle.tmw_witness.specs.declared.witness.Witness.{Witness}

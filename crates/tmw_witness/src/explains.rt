@@ -1,5 +1,6 @@
 //! Decides in few steps, before an event is taken, whether the known order is one with it too, as it stands.
-ghost use Rattle.tmw_witness.specs.Shared.{IsTrue, State, [], after_writes, reads_hold, ◌++◌, ◌∷◌, ◌≡◌};
+ghost use Rattle.std.specs.Prelude.{◌≡◌, ◌++◌, [], ◌∷◌, IsTrue};
+ghost use Rattle.tmw_defs.specs.Opaque.{State, reads_hold, after_writes};
 
 use crate::witness::Witness;
 use tmw_cuts::{State, Txn, Window};

@@ -1,5 +1,10 @@
-ghost use Rattle.tmw_witness.specs.Shared.{Contains, Event, IfSome, List, StandsFor, State, length, map, view, views_of, ◌≡◌, ◌≤◌};
+ghost use Rattle.std.specs.Prelude.{◌≡◌, ◌≤◌, List, IfSome, IsTrue, length, map};
+ghost use Rattle.std.specs.List.{Contains};
+ghost use Rattle.tmw_events.specs.declared.event.Event.{Event};
+ghost use Rattle.tmw_defs.specs.Opaque.{State};
 ghost use Rattle.tmw_cuts.specs.Members.{members};
+ghost use Rattle.tmw_cuts.specs.StandsFor.{StandsFor, views_of};
+ghost use Rattle.tmw_cuts.specs.Views.{view};
 ghost use Rattle.tmw_search.specs.EndStates.{TellsEnd};
 
 use crate::witness::Witness;

@@ -1,6 +1,10 @@
-ghost use Rattle.tmw_witness.specs.Shared.{Contains, Event, IfNone, IfSome, IsTrue, List, State, [], false, views_of, ◌<◌, ◌≡◌, ◌≤◌};
+ghost use Rattle.std.specs.Prelude.{◌≡◌, ◌<◌, ◌≤◌, [], List, IfSome, IfNone, IsTrue, false};
+ghost use Rattle.std.specs.List.{Contains};
+ghost use Rattle.tmw_events.specs.declared.event.Event.{Event};
 ghost use Rattle.tmw_defs.specs.History.{transactions};
+ghost use Rattle.tmw_defs.specs.Opaque.{State};
 ghost use Rattle.tmw_defs.specs.Outcomes.{Ends};
+ghost use Rattle.tmw_cuts.specs.StandsFor.{views_of};
 
 use tmw_cuts::{MOST_TRANSACTIONS, State};
 

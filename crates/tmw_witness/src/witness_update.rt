@@ -1,5 +1,8 @@
-ghost use Rattle.tmw_witness.specs.Shared.{IfSome, IsFalse, IsTrue, List, State, View, [], after_writes, bit, bit_at, false, length, may_hold, reads_hold, true, view, ℕ, ◌++◌, ◌+◌, ◌<◌, ◌∷◌, ◌≡◌, ◌≤◌, ◌⊎◌};
-ghost use Rattle.tmw_defs.specs.declared.status.Status.TheVariants.{Pending, Committed};
+ghost use Rattle.std.specs.Prelude.{◌≡◌, ◌⊎◌, ◌+◌, ◌≤◌, ◌<◌, ℕ, [], ◌∷◌, ◌++◌, List, IfSome, IsTrue, IsFalse, length, false, true};
+ghost use Rattle.std.specs.Int.{bit_at};
+ghost use Rattle.tmw_defs.specs.Opaque.{State, may_hold, reads_hold, after_writes};
+ghost use Rattle.tmw_defs.specs.declared.status.Status.TheVariants.{Pending, Committed, Aborted};
+ghost use Rattle.tmw_cuts.specs.Views.{View, view, bit};
 
 use crate::witness::Witness;
 use tmw_cuts::{Move, State, Txn, Window};

@@ -1,5 +1,6 @@
 -- The JSON value that a workload is written as, and the texts that a reader of workloads is given.
-use Rattle.tmw_workloads.specs.Shared.{All, Data, FitsKind, IsTrue, IsUtf8, Kind, List, None, Some, array, codes, items_of, kind_text, map, member, no_members, number, object, string, unsigned, ℕ, ◌<◌, ◌≡◌, ◌≤◌}
+use Rattle.tmw_workloads.specs.Shared.{Data, FitsKind, Kind, array, items_of, kind_text, member, no_members, number, object, string, unsigned}
+use Rattle.std.specs.Prelude.{All, IsTrue, IsUtf8, List, None, Some, codes, map, ℕ, ◌<◌, ◌≡◌, ◌≤◌}
 use Rattle.serde_json.specs.Read.{read}
 use Rattle.tmw_workloads.specs.Workload.{is_workload}
 

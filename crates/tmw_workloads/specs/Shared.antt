@@ -1,6 +1,5 @@
 -- What the definitions and contracts of this crate take from the libraries and from the crates below.
 pub use Rattle.std.specs.List.{list_all}
-pub use Rattle.std.specs.Prelude.{All, Bool, IfErr, IfNone, IfOk, IfSome, IsTrue, IsUtf8, List, None, Some, codes, length, map, nat_le, nat_lt, ℕ, ◌&&◌, ◌<◌, ◌≡◌, ◌≤◌}
 pub use Rattle.serde_json.specs.Data.{Data, array, member, no_members, number, object, string, unsigned}
 pub use Rattle.serde_json.specs.View.{items_of, view}
 pub use Rattle.tmw_events.specs.Text.{FitsKind, kind_text}

@@ -1,5 +1,6 @@
 -- What a workload is.
-use Rattle.tmw_workloads.specs.Shared.{Bool, Kind, List, is_transaction, length, list_all, nat_le, nat_lt, ℕ, ◌&&◌}
+use Rattle.tmw_workloads.specs.Shared.{Kind, is_transaction, list_all}
+use Rattle.std.specs.Prelude.{Bool, List, length, nat_le, nat_lt, ℕ, ◌&&◌}
 
 -- The transaction has 1 to 64 calls, of which the last alone is a request.
 abbrev pub is_short_transaction : ℕ → List Kind → Bool

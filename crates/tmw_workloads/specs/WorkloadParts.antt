@@ -1,5 +1,6 @@
 -- The parts of a workload that are read one by one, each with the values of its calls in 64 bits.
-use Rattle.tmw_workloads.specs.Shared.{All, Data, FitsKind, IsTrue, Kind, List, ℕ, ◌≡◌}
+use Rattle.tmw_workloads.specs.Shared.{Data, FitsKind, Kind}
+use Rattle.std.specs.Prelude.{All, IsTrue, List, ℕ, ◌≡◌}
 use Rattle.tmw_workloads.specs.Json.{FitScripts}
 use Rattle.tmw_workloads.specs.Workload.{are_scripts, is_order, is_short_script, is_short_transaction}
 

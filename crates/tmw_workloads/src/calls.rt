@@ -1,4 +1,5 @@
-ghost use Rattle.tmw_workloads.specs.Shared.{FitsKind, IfNone, IfSome, is_operation, is_request, is_transaction, list_all, view, ◌≡◌};
+ghost use Rattle.tmw_workloads.specs.Shared.{FitsKind, is_operation, is_request, is_transaction, list_all, view};
+ghost use Rattle.std.specs.Prelude.{IfNone, IfSome, ◌≡◌};
 ghost use Rattle.tmw_workloads.specs.Json.{call_data};
 ghost use Rattle.tmw_workloads.specs.WorkloadParts.{IsNoPart};
 

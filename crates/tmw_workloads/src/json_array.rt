@@ -1,4 +1,5 @@
-ghost use Rattle.tmw_workloads.specs.Shared.{Data, IfNone, IfSome, List, array, items_of, length, view, ◌≡◌, ◌≤◌};
+ghost use Rattle.tmw_workloads.specs.Shared.{Data, array, items_of, view};
+ghost use Rattle.std.specs.Prelude.{IfNone, IfSome, List, length, ◌≡◌, ◌≤◌};
 ghost use Rattle.tmw_workloads.specs.Json.{list_data};
 
 use serde_json::Value;

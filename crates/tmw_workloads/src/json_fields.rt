@@ -1,4 +1,5 @@
-ghost use Rattle.tmw_workloads.specs.Shared.{Data, IfNone, IfSome, view, ◌≡◌};
+ghost use Rattle.tmw_workloads.specs.Shared.{Data, view};
+ghost use Rattle.std.specs.Prelude.{IfNone, IfSome, ◌≡◌};
 ghost use Rattle.tmw_workloads.specs.Json.{fields_data};
 
 use serde_json::Value;

@@ -1,4 +1,5 @@
-ghost use Rattle.tmw_workloads.specs.Shared.{IfErr, IfNone, IfOk, IfSome, view, ◌<◌, ◌≡◌};
+ghost use Rattle.tmw_workloads.specs.Shared.{view};
+ghost use Rattle.std.specs.Prelude.{IfErr, IfNone, IfOk, IfSome, ◌<◌, ◌≡◌};
 ghost use Rattle.tmw_workloads.specs.Json.{list_data, number_data};
 ghost use Rattle.tmw_workloads.specs.WorkloadParts.{IsNoPart, IsOrder};
 ghost use Rattle.tmw_workloads.specs.declared.fault.WorkloadFault.TheVariants.{Json, Shape};

@@ -1,4 +1,5 @@
-ghost use Rattle.tmw_workloads.specs.Shared.{IfNone, IfSome, view, ◌<◌, ◌≡◌, ◌≤◌};
+ghost use Rattle.tmw_workloads.specs.Shared.{view};
+ghost use Rattle.std.specs.Prelude.{IfNone, IfSome, ◌<◌, ◌≡◌, ◌≤◌};
 ghost use Rattle.tmw_workloads.specs.Json.{number_data};
 ghost use Rattle.tmw_workloads.specs.WorkloadParts.{IsNoPart};
 

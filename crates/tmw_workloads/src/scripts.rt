@@ -1,4 +1,5 @@
-ghost use Rattle.tmw_workloads.specs.Shared.{IfErr, IfOk, script_of, scripts_of, view, ◌≡◌};
+ghost use Rattle.tmw_workloads.specs.Shared.{script_of, scripts_of, view};
+ghost use Rattle.std.specs.Prelude.{IfErr, IfOk, ◌≡◌};
 ghost use Rattle.tmw_workloads.specs.Json.{list_data, script_data};
 ghost use Rattle.tmw_workloads.specs.WorkloadParts.{AreScripts, IsNoPart, IsScript};
 ghost use Rattle.tmw_workloads.specs.declared.fault.WorkloadFault.TheVariants.{Json, Shape};

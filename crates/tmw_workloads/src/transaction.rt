@@ -1,4 +1,5 @@
-ghost use Rattle.tmw_workloads.specs.Shared.{IfErr, IfOk, view, ◌≡◌};
+ghost use Rattle.tmw_workloads.specs.Shared.{view};
+ghost use Rattle.std.specs.Prelude.{IfErr, IfOk, ◌≡◌};
 ghost use Rattle.tmw_workloads.specs.Json.{transaction_data};
 ghost use Rattle.tmw_workloads.specs.WorkloadParts.{IsTransaction, IsNoPart};
 ghost use Rattle.tmw_workloads.specs.declared.fault.WorkloadFault.TheVariants.{Json, Shape};

@@ -1,4 +1,5 @@
-ghost use Rattle.tmw_workloads.specs.Shared.{IfErr, IfOk, scripts_of, view, ◌≡◌};
+ghost use Rattle.tmw_workloads.specs.Shared.{scripts_of, view};
+ghost use Rattle.std.specs.Prelude.{IfErr, IfOk, ◌≡◌};
 ghost use Rattle.tmw_workloads.specs.Json.{workload_data, FitScripts, IsWorkloadText, IsNoWorkload, IsOtherText, IsNoText};
 ghost use Rattle.tmw_workloads.specs.declared.fault.WorkloadFault.TheVariants.{Json, Shape};
 

@@ -1,4 +1,5 @@
-ghost use Rattle.tmw_workloads.specs.Shared.{IsTrue, scripts_of};
+ghost use Rattle.tmw_workloads.specs.Shared.{scripts_of};
+ghost use Rattle.std.specs.Prelude.{IsTrue};
 ghost use Rattle.tmw_workloads.specs.Workload.{is_workload};
 
 use tmw_events::{Kind, Registers};

@@ -1,4 +1,5 @@
-ghost use Rattle.tmw_command.specs.Shared.{MatchBool, None, Some, memory_is, ◌≡◌};
+ghost use Rattle.tmw_command.specs.Shared.{MatchBool, memory_is};
+ghost use Rattle.std.specs.Prelude.{None, Some, ◌≡◌};
 ghost use Rattle.tmw_command.specs.BenchRun.{asks_for_log};
 ghost use Rattle.tmw_command.specs.RunBench.{BenchesBytes};
 

@@ -1,4 +1,5 @@
-ghost use Rattle.tmw_command.specs.Shared.{IfErr, IfOk, IsNeededOf, List, Memory, Opacity, Tells, failures_after_answer, memory_is, ℕ, ◌≡◌};
+ghost use Rattle.tmw_command.specs.Shared.{IsNeededOf, Memory, Opacity, Tells, failures_after_answer, memory_is};
+ghost use Rattle.std.specs.Prelude.{IfErr, IfOk, List, ℕ, ◌≡◌};
 ghost use Rattle.tmw_command.specs.BenchRun.{benched_of, hunted_of};
 ghost use Rattle.tmw_command.specs.RunBench.{AnswersBench, AnswersHunt, fault_of};
 ghost use Rattle.tmw_command.specs.DriveRun.{IsHeaderOf};

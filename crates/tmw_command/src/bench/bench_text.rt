@@ -1,4 +1,5 @@
-ghost use Rattle.tmw_command.specs.Shared.{IfOk, IsPut, Memory, Remarks, fault_line, is_open, nothing_shown_if, string_bytes, ◌&&◌, ◌≡◌, ◌⊎◌};
+ghost use Rattle.tmw_command.specs.Shared.{IsPut, Memory, Remarks, fault_line, is_open, nothing_shown_if};
+ghost use Rattle.std.specs.Prelude.{IfOk, string_bytes, ◌&&◌, ◌≡◌, ◌⊎◌};
 ghost use Rattle.tmw_command.specs.BenchRun.{bench_lines, bench_shows_nothing, bench_status, bench_text, hunt_shows_nothing, hunt_status, hunt_text, last_lines};
 
 use crate::bench::bench_run::BenchRun;

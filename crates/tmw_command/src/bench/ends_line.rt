@@ -1,4 +1,5 @@
-ghost use Rattle.tmw_command.specs.Shared.{IfOk, map, string_bytes, view, ◌≡◌};
+ghost use Rattle.tmw_command.specs.Shared.{view};
+ghost use Rattle.std.specs.Prelude.{IfOk, map, string_bytes, ◌≡◌};
 ghost use Rattle.tmw_command.specs.Ends.{end_word, ends_line};
 ghost use Rattle.tmw_command.specs.EndsObject.{end_data, ends_object};
 

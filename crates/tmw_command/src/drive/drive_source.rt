@@ -1,4 +1,5 @@
-ghost use Rattle.tmw_command.specs.Shared.{List, Tells, failures_after_answer, memory_is, ℕ, ◌≡◌};
+ghost use Rattle.tmw_command.specs.Shared.{Tells, failures_after_answer, memory_is};
+ghost use Rattle.std.specs.Prelude.{List, ℕ, ◌≡◌};
 ghost use Rattle.tmw_command.specs.RunDrive.{AnswersWorkload, fault_of};
 
 use crate::drive::drive_run::{DriveRun, header_of};

@@ -1,4 +1,5 @@
-ghost use Rattle.tmw_command.specs.Shared.{IfOk, IsPut, Memory, OnOk, Puts, fault_line, string_bytes, ◌++◌, ◌≡◌, ◌⊎◌};
+ghost use Rattle.tmw_command.specs.Shared.{IsPut, Memory, Puts, fault_line};
+ghost use Rattle.std.specs.Prelude.{IfOk, OnOk, string_bytes, ◌++◌, ◌≡◌, ◌⊎◌};
 ghost use Rattle.tmw_command.specs.DriveRun.{asked_line, asks_for_trace, driven_lines, driven_status, driven_text, log_text};
 
 use crate::drive::drive_run::DriveRun;

@@ -1,4 +1,5 @@
-ghost use Rattle.tmw_show.specs.Shared.{IfOk, OnOk, [], length, members, string_bytes, ◌++◌, ◌+◌, ◌<◌, ◌^◌, ◌∷◌, ◌≡◌};
+ghost use Rattle.tmw_show.specs.Shared.{members};
+ghost use Rattle.std.specs.Prelude.{IfOk, OnOk, [], length, string_bytes, ◌++◌, ◌+◌, ◌<◌, ◌^◌, ◌∷◌, ◌≡◌};
 ghost use Rattle.tmw_show.specs.NeededEvents.{reason_of};
 ghost use Rattle.tmw_show.specs.Page.{about_json, criterion_name, digit, event_json, json_text, mark_json, needed_json, state_json, why_json, window_json};
 

@@ -1,6 +1,6 @@
+use Rattle.tmw_lines.proofs.Shared.{arith}
 use Rattle.tmw_lines.proofs.TextsRead.{all-ends, all-fails}
 use Rattle.tmw_lines.proofs.whole_text.read_lines.Goals as goal
-use Rattle.tmw_lines.proofs.Shared.{arith}
 
 pub returns-in-Ok-read_items-clause-text : goal.returns-in-Ok-read_items-clause-text
 returns-in-Ok-read_items-clause-text g c =

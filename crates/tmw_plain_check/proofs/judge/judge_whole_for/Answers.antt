@@ -1,5 +1,6 @@
 -- A fault of the first prefix that has one is the answer.
-use Rattle.tmw_plain_check.proofs.Shared.{arith, err_from_is_err_and, sym, ◌+◌, ◌∙◌}
+use Rattle.tmw_plain_check.proofs.Shared.{arith, sym, ◌+◌, ◌∙◌}
+use Rattle.std.proofs.lemmas.Result.{err_from_is_err_and}
 use Rattle.tmw_plain_check.proofs.TrackerSteps.{tracks-next, ill_formed-next}
 use Rattle.tmw_plain_check.proofs.Weights.{faultless_below_one, faultless_below_more, judges_ill_formed, judges_weighed, judges_violated}
 use Rattle.tmw_plain_check.proofs.judge.judge_whole_for.Goals as goal

@@ -1,4 +1,4 @@
-use Rattle.tmw_lines.proofs.Shared.{[], Tells-none, refl, arith}
+use Rattle.tmw_lines.proofs.Shared.{Tells-none, [], arith, refl}
 use Rattle.tmw_lines.proofs.LinesRead.{HasRead-push, text_fault-line}
 use Rattle.tmw_lines.proofs.lines.Lines.next.Goals as goal
 
