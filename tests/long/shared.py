@@ -6,8 +6,8 @@ one of proofs, and one of definitions and contracts, which has nothing of the cr
 
 Run it at the top of the repository, then `rt fmt` and `rt check` in the crate's folder. It drops what a file names nowhere else, and
 takes a name from the same module in all files. A file keeps lines of its own for the crate's own lemmas and goals, for whole modules,
-for what it renames, and for modules that no other file cites. Definitions and contracts take what Prelude has from there, as the gate
-asks. Of two things of one name the one that more files cite is shared. Where that saves no lines, nothing is written. A second run
+for what it renames, and for modules that no other file cites. Definitions and contracts take operators, and what Prelude has, from
+there, as the gate asks. Of two things of one name the one that more files cite is shared. Where that saves no lines, nothing is written. A second run
 changes nothing, and Proof.antt stays as it is. Output: for each crate how many lines it saved. Exit status: 0.
 """
 import functools
@@ -96,7 +96,8 @@ def write_side(crate, side):
         file.names = {name: cited[home_of(module, name), name].most_common(1)[0][0] for name, module in file.names.items()}
     apart = (own, PRELUDE) if side == "specs" else own
     users = Counter(module for file in files for module in set(file.names.values()) if not module.startswith(apart))
-    counts = Counter((name, module) for file in files for name, module in file.names.items() if users[module] > 1)
+    is_plain = lambda name: side == "specs" and "◌" in name
+    counts = Counter((name, module) for file in files for name, module in file.names.items() if users[module] > 1 and not is_plain(name))
     through = {name: module for (name, module), _ in sorted(counts.items(), key=lambda it: (it[1], it[0]))}
     unfolded = {name for file in files for name in file.unfolded & set(file.names) if file.names[name] == through.get(name)}
     lines = shared_lines(top, crate, through, unfolded)

@@ -1,6 +1,7 @@
 -- A text names its size and its steps, line by line.
-use Rattle.tmw_steps.specs.Shared.{AllByRecursion, IsNaming, ap, drop, get_or, ◌<◌, ◌^◌}
-use Rattle.std.specs.Prelude.{List, ℕ, ◌≡◌}
+use Rattle.std.proofs.Common.{◌≡◌, ℕ, ◌<◌, ◌^◌, List, drop, get_or, ap}
+use Rattle.std.specs.List.{AllByRecursion}
+use Rattle.tmw_lines.specs.Grammar.{IsNaming}
 use Rattle.tmw_trace.specs.ValueTextInjectivity.{free-values_text, values_text-injective}
 use Rattle.tmw_steps.specs.declared.size_line.SizeLine.{SizeLine}
 use Rattle.tmw_steps.specs.Text.{size_numbers, size_text, steps_grammar, FitsSize}

@@ -1,7 +1,7 @@
 -- That a text of steps has one size and one list of steps.
-use Rattle.tmw_steps.specs.Shared.{Step}
-use Rattle.std.specs.Prelude.{List, ℕ, ◌≡◌}
+use Rattle.std.specs.Prelude.{◌≡◌, ℕ, List}
 use Rattle.tmw_steps.specs.declared.size_line.SizeLine.{SizeLine}
+use Rattle.tmw_ring_defs.specs.declared.ring_step.Step.{Step}
 use Rattle.tmw_steps.specs.RunSteps.{IsStepsText}
 
 -- Two lists of steps with one text have the same size and the same steps.

@@ -1,9 +1,13 @@
 -- The longest texts of a size and of a step, and that longer ones are no text of either.
-use Rattle.tmw_steps.specs.Shared.{Claim, Fill, Free, Front, IsNoHeader, IsNoItem, Peek, Publish, Read, Step, Stop, Tail, ap, arith, decimal, length, length-append, values_text, ◌≤◌}
-use Rattle.std.specs.Prelude.{List, [], ℕ, ◌∷◌}
+use Rattle.std.proofs.Common.{ℕ, ◌≤◌, List, [], ◌∷◌, length, ap, length-append, arith}
+use Rattle.std.specs.Fmt.{decimal}
+use Rattle.tmw_trace.specs.Text.{values_text}
 use Rattle.tmw_trace.specs.Lengths.{length-decimal, length-kind_text}
 use Rattle.tmw_steps.specs.declared.size_line.SizeLine.{SizeLine}
+use Rattle.tmw_ring_defs.specs.declared.ring_step.Step.{Step}
+use Rattle.tmw_ring_defs.specs.declared.ring_step.Step.TheVariants.{Front, Tail, Claim, Fill, Publish, Peek, Read, Free, Stop}
 use Rattle.tmw_steps.specs.declared.steps_format.StepsFormat.{StepsFormat}
+use Rattle.tmw_lines.specs.Grammar.{IsNoHeader, IsNoItem}
 use Rattle.tmw_steps.specs.Text.{size_text, step_text, steps_grammar, FitsSize, FitsStep}
 
 length-size_text : (size : SizeLine) → FitsSize size → length (size_text size) ≤ 75

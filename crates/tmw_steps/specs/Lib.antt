@@ -3,6 +3,5 @@ pub mod Laws
 pub mod Lengths
 pub mod ReplyText
 pub mod RunSteps
-mod Shared
 pub mod StepTextInjectivity
 pub mod Text

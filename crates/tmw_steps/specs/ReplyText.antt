@@ -1,7 +1,11 @@
 -- The texts of the replies to a ring's steps. Numbers are decimal, without sign and without leading zeros.
-use Rattle.tmw_steps.specs.Shared.{Cleared, Filled, Full, NotNow, NotReady, Place, Published, Ready, Saw, Spent, Stopped, Taken, Word, decimal, event_text, flat_map, line}
-use Rattle.std.specs.Prelude.{List, codes, ℕ, ◌++◌}
+use Rattle.std.specs.Prelude.{ℕ, List, ◌++◌, codes}
+use Rattle.std.specs.List.{flat_map}
+use Rattle.std.specs.Fmt.{decimal}
+use Rattle.tmw_events.specs.Text.{event_text}
+use Rattle.tmw_lines.specs.LineFeeds.{line}
 use Rattle.tmw_ring_defs.specs.declared.ring_step.Reply.{Reply}
+use Rattle.tmw_ring_defs.specs.declared.ring_step.Reply.TheVariants.{Saw, Cleared, Full, Spent, Place, Filled, Published, Ready, NotReady, Word, Taken, Stopped, NotNow}
 
 -- how a step is answered, in words, with its numbers or its event after one space each
 abbrev pub reply_text : Reply → List ℕ

@@ -1,9 +1,11 @@
 -- What `steps` promises: from the bytes that its source tells to what its sink takes and the exit status.
-use Rattle.tmw_steps.specs.Shared.{AnswersTextFault, HasTextFault, IsCommandRun, Step, length}
-use Rattle.std.specs.Prelude.{Err, List, Ok, Result, ℕ, ◌≡◌, ◌⊎◌}
+use Rattle.std.specs.Prelude.{◌≡◌, ◌⊎◌, ℕ, List, length, Result, Ok, Err}
+use Rattle.tmw_lines.specs.TextFault.{HasTextFault}
 use Rattle.tmw_ring_defs.specs.RingMachine.{new_machine, after, replies}
 use Rattle.tmw_ring_defs.specs.RingSize.{HasRoom, HasLimit, HasNumbers}
 use Rattle.tmw_ring_defs.specs.declared.ring_size.RingSize.{RingSize}
+use Rattle.tmw_ring_defs.specs.declared.ring_step.Step.{Step}
+use Rattle.tmw_report.specs.CommandRun.{AnswersTextFault, IsCommandRun}
 use Rattle.tmw_streams.specs.Streams.{FromSource, ToSink}
 use Rattle.tmw_report.specs.declared.fault.Fault.{Fault}
 use Rattle.tmw_report.specs.declared.fault.Fault.TheVariants.{Size, Limit, Memory}

@@ -1,10 +1,11 @@
 -- A text names its step: two steps with one text are one step, and no step's text has a line feed.
-use Rattle.tmw_steps.specs.Shared.{Claim, Fill, Free, Front, Peek, Publish, Read, Step, Stop, Tail, ap, arith, drop, get_or, refl, true, ◌∙◌}
-use Rattle.std.specs.Prelude.{◌≡◌}
+use Rattle.std.proofs.Common.{◌≡◌, true, drop, get_or, refl, ap, ◌∙◌, arith}
 use Rattle.std.proofs.lemmas.Bool.{and_from}
 use Rattle.tmw_lines.specs.FreeParts.{IsFree}
 use Rattle.tmw_events.proofs.Same.{same_ix}
 use Rattle.tmw_trace.specs.KindTextInjectivity.{no_feed, kind_text-injective, free-kind_text}
+use Rattle.tmw_ring_defs.specs.declared.ring_step.Step.{Step}
+use Rattle.tmw_ring_defs.specs.declared.ring_step.Step.TheVariants.{Front, Tail, Claim, Fill, Publish, Peek, Read, Free, Stop}
 use Rattle.tmw_steps.specs.Text.{step_text, FitsStep}
 
 pub step_text-injective : (s t : Step) → FitsStep s → FitsStep t → step_text s ≡ step_text t → s ≡ t

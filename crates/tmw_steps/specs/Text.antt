@@ -1,8 +1,12 @@
 -- The texts of a ring's size and of the steps in it. Numbers are decimal, without sign and without leading zeros.
-use Rattle.tmw_steps.specs.Shared.{AreLines, Claim, Fill, FitsKind, Free, Front, Grammar, Peek, Publish, Read, Step, Stop, Tail, digit, kind_text, lines_text, values_text, ◌<◌, ◌^◌}
-use Rattle.std.specs.Prelude.{List, [], codes, ℕ, ◌++◌, ◌∷◌, ◌≡◌}
+use Rattle.std.specs.Prelude.{◌≡◌, ℕ, ◌<◌, ◌^◌, List, [], ◌∷◌, ◌++◌, codes}
+use Rattle.tmw_events.specs.Text.{digit, kind_text, FitsKind}
+use Rattle.tmw_trace.specs.Text.{values_text}
+use Rattle.tmw_lines.specs.Grammar.{Grammar, lines_text, AreLines}
 use Rattle.tmw_steps.specs.declared.size_line.SizeLine.{SizeLine}
 use Rattle.tmw_steps.specs.declared.steps_format.StepsFormat.{StepsFormat}
+use Rattle.tmw_ring_defs.specs.declared.ring_step.Step.{Step}
+use Rattle.tmw_ring_defs.specs.declared.ring_step.Step.TheVariants.{Front, Tail, Claim, Fill, Publish, Peek, Read, Free, Stop}
 
 -- a step's name, then its writer and the kind of its event, each after one space
 abbrev pub step_text : Step → List ℕ

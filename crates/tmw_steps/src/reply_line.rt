@@ -1,5 +1,7 @@
-ghost use Rattle.tmw_steps.specs.Shared.{Puts, Taken, decimal, line};
-ghost use Rattle.std.specs.Prelude.{◌++◌};
+ghost use Rattle.std.specs.Prelude.{◌++◌, decimal};
+ghost use Rattle.tmw_lines.specs.LineFeeds.{line};
+ghost use Rattle.tmw_streams.specs.Transfers.{Puts};
+ghost use Rattle.tmw_ring_defs.specs.declared.ring_step.Reply.TheVariants.{Taken};
 ghost use Rattle.tmw_steps.specs.ReplyText.{reply_text, counts_text, replies_text};
 
 use tmw_events::{Event, put_event};

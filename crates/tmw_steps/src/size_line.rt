@@ -1,5 +1,6 @@
-ghost use Rattle.tmw_steps.specs.Shared.{IsNoHeader, values_text};
-ghost use Rattle.std.specs.Prelude.{IfNone, IfSome, ◌≡◌};
+ghost use Rattle.std.specs.Prelude.{◌≡◌, IfSome, IfNone};
+ghost use Rattle.tmw_trace.specs.Text.{values_text};
+ghost use Rattle.tmw_lines.specs.Grammar.{IsNoHeader};
 ghost use Rattle.tmw_steps.specs.Text.{size_numbers, size_text, steps_grammar, FitsSize};
 
 use tmw_trace::first_value;

@@ -1,5 +1,5 @@
-ghost use Rattle.tmw_steps.specs.Shared.{FitsKind, digit, kind_text};
-ghost use Rattle.std.specs.Prelude.{IfNone, IfSome, [], ◌∷◌, ◌≡◌};
+ghost use Rattle.std.specs.Prelude.{◌≡◌, [], ◌∷◌, IfSome, IfNone};
+ghost use Rattle.tmw_events.specs.Text.{digit, kind_text, FitsKind};
 ghost use Rattle.tmw_events.specs.declared.event.Kind.{Kind};
 ghost use Rattle.tmw_events.specs.declared.ix.Ix.{Ix};
 ghost use Rattle.tmw_steps.specs.Text.{step_text, FitsStep, IsNoStep};

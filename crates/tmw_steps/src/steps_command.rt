@@ -1,5 +1,6 @@
-ghost use Rattle.tmw_steps.specs.Shared.{Tells, failures_after_answer};
-ghost use Rattle.std.specs.Prelude.{List, ℕ, ◌≡◌};
+ghost use Rattle.std.specs.Prelude.{◌≡◌, ℕ, List};
+ghost use Rattle.tmw_streams.specs.Transfers.{Tells};
+ghost use Rattle.tmw_report.specs.CommandRun.{failures_after_answer};
 ghost use Rattle.tmw_steps.specs.RunSteps.{AnswersSteps, IsMade, RunsSteps};
 
 use crate::reply_line::put_replies;

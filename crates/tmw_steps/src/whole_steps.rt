@@ -1,6 +1,7 @@
-ghost use Rattle.tmw_steps.specs.Shared.{HasTextFault, Tells, reading_failures};
-ghost use Rattle.std.specs.Prelude.{IfErr, IfOk, List, OnOk, ℕ, ◌≡◌};
+ghost use Rattle.std.specs.Prelude.{◌≡◌, ℕ, List, IfOk, IfErr, OnOk};
+ghost use Rattle.tmw_lines.specs.TextFault.{HasTextFault, reading_failures};
 ghost use Rattle.tmw_steps.specs.Text.{steps_grammar, steps_text, AreSteps};
+ghost use Rattle.tmw_streams.specs.Transfers.{Tells};
 
 use crate::step_list::StepList;
 use crate::steps_format::StepsFormat;

@@ -1,5 +1,6 @@
 -- The text of a header names it, and so does that of an event; no such text has a line feed.
-use Rattle.tmw_trace.specs.Shared.{All-take, AllByRecursion, Event, FitsKind, IsFree, IsNaming, Registers, [], and_from, and_parts, ap, arith, eqb-true, event_text, get_or, length-drop, not, recursion_from_All, refl, same_ix, subst, sym, take-append-drop, ◌==◌, ◌∙◌}
+use Rattle.tmw_trace.specs.Shared.{All-take, AllByRecursion, Event, FitsKind, IsFree, IsNaming, Registers, [], and_from, and_parts, ap, arith, eqb-true, event_text, get_or, length-drop, not, recursion_from_All, refl, same_ix, subst, sym, take-append-drop}
+use Rattle.std.proofs.Common.{◌==◌, ◌∙◌}
 use Rattle.std.specs.Prelude.{List, drop, length, take, true, ℕ, ◌++◌, ◌<◌, ◌^◌, ◌∷◌, ◌≡◌, ◌≤◌}
 use Rattle.std.proofs.Math.Bool.{Bool-set}
 use Rattle.std.proofs.Math.Bridge.{le_prop}

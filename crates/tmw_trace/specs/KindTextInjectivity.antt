@@ -1,5 +1,6 @@
 -- A text names its kind: two kinds with one text are one kind, and no kind's text has a line feed.
-use Rattle.tmw_trace.specs.Shared.{A, C, FitsKind, IsFree, K, Kind, N, R, T, V, W, X, and_from, ap, arith, decimal_injective, false, free-decimal, get_or, kind_text, not, refl, same_ix, ◌==◌, ◌∙◌}
+use Rattle.tmw_trace.specs.Shared.{A, C, FitsKind, IsFree, K, Kind, N, R, T, V, W, X, and_from, ap, arith, decimal_injective, false, free-decimal, get_or, kind_text, not, refl, same_ix}
+use Rattle.std.proofs.Common.{◌==◌, ◌∙◌}
 use Rattle.std.specs.Prelude.{drop, true, ℕ, ◌+◌, ◌≡◌}
 use Rattle.std.proofs.lemmas.Bool.Decides.{nat_tests}
 

@@ -1,5 +1,6 @@
 -- The longest texts of an event and of a header, and that longer ones are no text of either.
-use Rattle.tmw_trace.specs.Shared.{A, All-take, AllByRecursion, C, FitsKind, IsNoHeader, IsNoItem, K, Kind, N, R, T, V, W, X, [], ap, arith, decimal, kind_text, length-append, length-decimal-le, recursion_from_All, ◌*◌}
+use Rattle.tmw_trace.specs.Shared.{A, All-take, AllByRecursion, C, FitsKind, IsNoHeader, IsNoItem, K, Kind, N, R, T, V, W, X, [], ap, arith, decimal, kind_text, length-append, length-decimal-le, recursion_from_All}
+use Rattle.std.proofs.Common.{◌*◌}
 use Rattle.std.specs.Prelude.{All, List, length, take, ℕ, ◌<◌, ◌^◌, ◌∷◌, ◌≤◌}
 use Rattle.std.proofs.lemmas.List.{length-take-le}
 use Rattle.tmw_trace.specs.Text.{values_text, initial_text, trace_grammar}

@@ -1,5 +1,5 @@
 -- What the definitions and contracts of this crate take from the libraries and from the crates below.
-pub use Rattle.std.proofs.Common.{[], ap, arith, false, get_or, length-append, length-drop, not, refl, subst, sym, take-append-drop, ◌*◌, ◌==◌, ◌∙◌}
+pub use Rattle.std.proofs.Common.{[], ap, arith, false, get_or, length-append, length-drop, not, refl, subst, sym, take-append-drop}
 pub use Rattle.std.proofs.lemmas.Bool.{and_from, and_parts, eqb-true}
 pub use Rattle.std.proofs.lemmas.Fmt.{decimal_injective, length-decimal-le}
 pub use Rattle.std.proofs.lemmas.List.Elements.{All-take, recursion_from_All}

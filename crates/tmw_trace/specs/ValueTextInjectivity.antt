@@ -1,5 +1,6 @@
 -- A text names its values: two lists of values with one text are one list, and no such text has a line feed.
-use Rattle.tmw_trace.specs.Shared.{AllByRecursion, IsFree, [], ap, arith, decimal, decimal_injective, free-append, free-decimal, is_next, refl, split_free, ◌∙◌}
+use Rattle.tmw_trace.specs.Shared.{AllByRecursion, IsFree, [], ap, arith, decimal, decimal_injective, free-append, free-decimal, is_next, refl, split_free}
+use Rattle.std.proofs.Common.{◌∙◌}
 use Rattle.std.specs.Prelude.{List, drop, length, true, ℕ, ◌<◌, ◌^◌, ◌∷◌, ◌≡◌}
 use Rattle.tmw_trace.specs.Text.{values_text}
 

@@ -1,5 +1,6 @@
 -- What a trace's version lets its header and its events say.
-use Rattle.tmw_trace.specs.Shared.{Event, Kind, N, false, list_all, ◌==◌}
+use Rattle.tmw_trace.specs.Shared.{Event, Kind, N, false, list_all}
+use Rattle.std.proofs.Common.{◌==◌}
 use Rattle.std.specs.Prelude.{Bool, List, cond, drop, true, ℕ}
 use Rattle.tmw_trace.specs.declared.version.Version.{Version}
 use Rattle.tmw_trace.specs.declared.version.Version.TheVariants.{One, Two}
