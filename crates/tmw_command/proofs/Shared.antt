@@ -11,4 +11,4 @@ pub use Rattle.tmw_tm.specs.Memory.{MemoryIs, memory_is}
 pub use Rattle.tmw_workloads.specs.Json.{IsWorkloadText}
 pub use Rattle.tmw_workloads.specs.declared.workload.Workload.{Workload}
 pub use Rattle.tmw_command.specs.BenchRun.{asks_for_log, hunted_of}
-pub use Rattle.tmw_command.specs.EndsObject.{end_data, ends_object}
+pub use Rattle.tmw_command.specs.EndsLine.{end_data, ends_object}

@@ -1,7 +1,7 @@
 pub mod BenchRun
 pub mod DriveRun
 pub mod Ends
-pub mod EndsObject
+pub mod EndsLine
 pub mod Memories
 pub mod ReadSource
 pub mod RunBench

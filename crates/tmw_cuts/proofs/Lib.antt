@@ -1,6 +1,5 @@
 pub mod AcrossCuts
 pub mod Bits
-pub mod Changes
 pub mod Chosen
 mod EffectSteps
 pub mod Effects
@@ -9,6 +8,7 @@ pub mod Follows
 pub mod Masks
 pub mod Moves
 pub mod NextViews
+pub mod OneChanged
 pub mod OneEventMore
 pub mod Pushes
 mod RegisterUse

@@ -8,8 +8,8 @@ use crate::candidates::Candidates;
 use crate::derivation_search::{find_derivations, refute_each};
 use crate::part_test::is_among;
 use crate::prune_steps::{is_contradicted, leave_out_each, needs_assumed};
-use crate::question::Question;
 use crate::reason_case::{Derivation, Reason, ReasonCase};
+use crate::reason_question::Question;
 use std::alloc::{AllocError, Global};
 use tmw_cuts::State;
 

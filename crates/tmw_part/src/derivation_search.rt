@@ -6,8 +6,8 @@ ghost use Rattle.tmw_part.specs.Reasons.{RefuteEachIn, assume_each, assumes, is_
 
 use crate::candidates::Candidates;
 use crate::prune_steps::{needs_assumed, prune};
-use crate::question::Question;
 use crate::reason_case::Derivation;
+use crate::reason_question::Question;
 use crate::reason_step::{ReasonStep, ValueSource};
 use crate::step_closure::close;
 use crate::step_facts::gives;

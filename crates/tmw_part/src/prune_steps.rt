@@ -2,7 +2,7 @@ ghost use Rattle.std.specs.Prelude.{IfOk, IsFalse, IsTrue, length, remove, â—Œ<â
 ghost use Rattle.tmw_part.specs.Reasons.{AssumesNeededIn, IsContradictedIn, IsNeededEachIn};
 ghost use Rattle.tmw_part.specs.DerivationSearch.{AreAmong, DerivesIn};
 
-use crate::question::Question;
+use crate::reason_question::Question;
 use crate::reason_step::{Contradiction, ReasonStep};
 use crate::step_rules::{contradicts, follows};
 use std::alloc::{AllocError, Global};

@@ -4,7 +4,7 @@ ghost use Rattle.tmw_part.specs.ReasonSteps.{contradicts};
 ghost use Rattle.tmw_part.specs.DerivationSearch.{Closes, is_news};
 
 use crate::candidates::Candidates;
-use crate::question::Question;
+use crate::reason_question::Question;
 use crate::reason_step::{Contradiction, ReasonStep};
 use crate::step_facts::tells;
 use crate::step_rules::{contradicts, follows};

@@ -3,7 +3,7 @@ ghost use Rattle.std.specs.Prelude.{Some, length, not, slice_index, ◌&&◌, �
 ghost use Rattle.tmw_part.specs.ReasonSteps.{comes_not_else, contradicts, follows, has_place, has_writer, is_asked, is_before, is_held, is_known_rival, is_left_by_none, is_only, is_overwritten, is_rival, may_come_from, stands_between};
 ghost use Rattle.tmw_part.specs.NameInWindow.{txn_at};
 
-use crate::question::Question;
+use crate::reason_question::Question;
 use crate::reason_step::{Contradiction, ReasonStep, ValueSource};
 use crate::register_use::{find_unlike, left_by, needs};
 use crate::step_facts::{

@@ -7,7 +7,7 @@ mod judge;
 mod operation_and_status;
 mod order;
 mod plain_transaction;
-mod replay;
+mod replay_text;
 mod whole_verdict;
 
 pub use judge::{judge_whole, judge_whole_for, judge_whole_from};

@@ -5,7 +5,7 @@ ghost use Rattle.tmw_plain_check.specs.PlainTransaction.{txn_of, txns_of, shown}
 
 use crate::operation_and_status::{is_ended, status_of};
 use crate::plain_transaction::PlainTransaction;
-use crate::replay::replay;
+use crate::replay_text::replay;
 use std::alloc::{AllocError, Global};
 use tmw_cuts::State;
 use tmw_defs::Status;

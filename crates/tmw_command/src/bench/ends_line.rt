@@ -1,7 +1,7 @@
 ghost use Rattle.tmw_command.specs.Shared.{view};
 ghost use Rattle.std.specs.Prelude.{IfOk, map, string_bytes, ◌≡◌};
 ghost use Rattle.tmw_command.specs.Ends.{end_word, ends_line};
-ghost use Rattle.tmw_command.specs.EndsObject.{end_data, ends_object};
+ghost use Rattle.tmw_command.specs.EndsLine.{end_data, ends_object};
 
 use serde_json::{Value, json};
 use std::alloc::{AllocError, Global};

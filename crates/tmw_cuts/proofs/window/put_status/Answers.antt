@@ -1,5 +1,5 @@
 use Rattle.tmw_cuts.proofs.Shared.{ap, sym, view, with_status, ◌∙◌}
-use Rattle.tmw_cuts.proofs.Changes.{put-changes}
+use Rattle.tmw_cuts.proofs.OneChanged.{put-changes}
 use Rattle.tmw_cuts.proofs.window.put_status.Goals as goal
 
 pub returns-clause-shown : goal.returns-clause-shown

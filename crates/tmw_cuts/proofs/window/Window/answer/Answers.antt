@@ -1,7 +1,7 @@
 -- The thread's call is answered.
 use Rattle.tmw_cuts.proofs.Shared.{Answer, Some, View, [], ap, numbered, option_map, refl, rules, slice_get, views, with_op, ◌∙◌, ◌∷◌, ◌≡◌}
 use Rattle.tmw_cuts.proofs.NextViews.{next_view}
-use Rattle.tmw_cuts.proofs.Changes.{change-alike}
+use Rattle.tmw_cuts.proofs.OneChanged.{change-alike}
 use Rattle.tmw_cuts.proofs.Moves.{answered_live}
 use Rattle.tmw_cuts.proofs.OneEventMore.{live-next, moves, stands-with}
 use Rattle.tmw_cuts.proofs.window.Window.answer.Goals as goal

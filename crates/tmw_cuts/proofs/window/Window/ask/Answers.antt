@@ -1,7 +1,7 @@
 -- The thread asks on.
 use Rattle.tmw_cuts.proofs.Shared.{Ask, None, Pending, Some, [], ap, append-nil, change, map, numbered, option_map, refl, rules, sym, take, view, views, with_status, ◌∙◌, ◌≡◌}
 use Rattle.tmw_cuts.proofs.NextViews.{next_view}
-use Rattle.tmw_cuts.proofs.Changes.{change-alike, change-nothing}
+use Rattle.tmw_cuts.proofs.OneChanged.{change-alike, change-nothing}
 use Rattle.tmw_cuts.proofs.Moves.{asked_live, asked_on}
 use Rattle.tmw_cuts.proofs.OneEventMore.{live-next, moves, stands-with}
 use Rattle.tmw_cuts.proofs.window.Window.ask.Goals.{in-T, in_default}

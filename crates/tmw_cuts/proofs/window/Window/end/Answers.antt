@@ -3,7 +3,7 @@ use Rattle.tmw_cuts.proofs.Shared.{End, Event, Ix, List, Some, Window, [], ap, a
 use Rattle.tmw_cuts.proofs.NextViews.{next_view}
 use Rattle.tmw_defs.specs.declared.status.Status.{Status}
 use Rattle.tmw_cuts.specs.declared.txn.Txn.{Txn}
-use Rattle.tmw_cuts.proofs.Changes.{change-alike}
+use Rattle.tmw_cuts.proofs.OneChanged.{change-alike}
 use Rattle.tmw_cuts.proofs.OneEventMore.{moves, stands-with}
 use Rattle.tmw_cuts.proofs.window.Window.end.Goals as goal
 

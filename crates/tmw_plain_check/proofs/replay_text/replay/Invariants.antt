@@ -1,6 +1,6 @@
 -- What is left of the text, from the state reached, reads and writes as the whole does from the start.
 use Rattle.tmw_plain_check.proofs.Shared.{after_writes, length, operations, reads_hold, ◌≡◌}
-use Rattle.tmw_plain_check.proofs.replay.replay.Given as goal
+use Rattle.tmw_plain_check.proofs.replay_text.replay.Given as goal
 
 abbrev pub invariant-loop-rest : goal.invariant-loop-rest
 invariant-loop-rest l = record {
