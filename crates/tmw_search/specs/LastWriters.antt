@@ -11,6 +11,10 @@ use Rattle.tmw_search.specs.declared.end_states.EndStates.{EndStates}
 use Rattle.tmw_search.specs.EndStates.{AreMembers}
 use Rattle.tmw_cuts.specs.declared.txn.Txn as cuts
 
+-- Each of these comes before it, or is it.
+abbrev pub ComesBehind : List ℕ → ℕ → ℕ → Type 0
+ComesBehind reach these i = (k : ℕ) → k < 8 → In these k → Has reach k i
+
 -- None of these is ranked above it.
 abbrev pub ComesLast : ℕ → ℕ → (ℕ → ℕ) → Type 0
 ComesLast writers i rank = (k : ℕ) → k < 8 → In writers k → rank k ≤ rank i

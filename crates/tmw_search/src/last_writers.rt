@@ -1,8 +1,8 @@
 //! The ends of a node's orders: one register after another, one of its writers is taken for the last.
 ghost use Rattle.tmw_search.specs.Shared.{State, members};
-ghost use Rattle.std.specs.Prelude.{IfNone, IfSome, IsFalse, IsTrue, length, slice_index, ℕ, ◌<◌, ◌↔◌, ◌≡◌};
+ghost use Rattle.std.specs.Prelude.{IfNone, IfSome, MatchOption, IsFalse, IsTrue, length, slice_index, ℕ, ◌<◌, ◌↔◌, ◌≡◌};
 ghost use Rattle.tmw_search.specs.Precedence.{IsRead, Within, Has, IsOrder, Narrows};
-ghost use Rattle.tmw_search.specs.LastWriters.{ComeBefore, IsEndOf, EndWith, IsPutLast, LeftByOne, Adds};
+ghost use Rattle.tmw_search.specs.LastWriters.{ComeBefore, ComesBehind, IsEndOf, EndWith, IsPutLast, LeftByOne, Adds};
 ghost use Rattle.tmw_search.specs.NodeOrders.{In, effects, left_at, ordered, IsNode};
 
 use crate::effects::left_at;
@@ -48,7 +48,7 @@ fn put_last(choices: &Choices, reach: &mut Masks, i: usize, writers: u8, before:
     requires writes { In writers i }
     requires free { In before i → ⊥ }
     ensures narrows { Narrows (IsPutLast choices.now writers i) reach.old reach.new result }
-    ensures last { IsTrue result → (k : ℕ) → k < 8 → In writers k → Has reach.new k i }
+    ensures last { IsTrue result → ComesBehind reach.new writers i }
 {
     join(reach, i, writers | before);
     is_plain(choices) || settle(reach, choices).is_alive()
@@ -149,8 +149,8 @@ fn add_end(
 /// Returns the writer that all others of these come before, if there is one.
 #[inline(always)]
 fn last_of(reach: &Masks, writers: u8) -> Option<usize>
-    ensures { IfSome result (λ i. (i < 8) × In writers i
-        × ((k : ℕ) → k < 8 → In writers k → Has reach.now k i)) }
+    ensures { MatchOption result ((i : ℕ) → i < 8 → In writers i → ComesBehind reach.now writers i → ⊥)
+        (λ i. (i < 8) × In writers i × ComesBehind reach.now writers i) }
 {
     let mut left = writers;
     while left != 0 {

@@ -24,9 +24,12 @@ pub fn join(reach: &mut Masks, place: usize, before: u8)
     ensures { Joins place before reach.old reach.new }
 {
     for k in 0..8usize {
-        if reach[k] >> place & 1 == 1 {
-            reach[k] |= before;
-        }
+        let joined = reach[k] | before;
+        reach[k] = if reach[k] >> place & 1 == 1 {
+            joined
+        } else {
+            reach[k]
+        };
     }
 }
 

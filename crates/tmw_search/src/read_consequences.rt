@@ -1,6 +1,7 @@
 //! What follows at once from each read, before the search branches.
 ghost use Rattle.std.specs.Prelude.{IfSome, IsTrue, ℕ, ◌<◌, ◌≡◌};
 ghost use Rattle.tmw_search.specs.Precedence.{IsRead, source_at};
+ghost use Rattle.tmw_search.specs.declared.source_choices.ReadSource.{ReadSource};
 ghost use Rattle.tmw_search.specs.declared.source_choices.ReadSource.TheVariants.{Open};
 ghost use Rattle.tmw_search.specs.NodeOrders.{effects, need_at, In, IsNode, IsBranch, AllOpen, Entails, IsOnly, LeavesOut, NoneMay, TakesIn};
 
@@ -25,7 +26,8 @@ fn leave_out(node: &mut Node, j: usize, r: usize)
 /// Returns the source of the read if the branch offers just one.
 #[inline(always)]
 fn only_source(branch: &Branch) -> Option<ReadSource>
-    ensures { IfSome result (λ source. IsOnly branch.now source) }
+    ensures { MatchOption result ((source : ReadSource) → IsOnly branch.now source → ⊥)
+        (λ source. IsOnly branch.now source) }
 {
     if branch.writers == 0 {
         return if branch.start {
