@@ -10,6 +10,7 @@ use Rattle.tmw_events.specs.declared.event.Event.{Event}
 use Rattle.tmw_cuts.specs.StandsFor.{IsNext, StandsFor, views_of}
 use Rattle.tmw_cuts.specs.Views.{View, bit}
 use Rattle.tmw_cuts.specs.declared.turn.Move.{Move}
+use Rattle.tmw_cuts.specs.declared.txn.Txn.{Txn}
 use Rattle.tmw_cuts.specs.declared.window.Window.{Window}
 use Rattle.tmw_witness.specs.declared.witness.Witness.{Witness}
 
@@ -22,6 +23,14 @@ committed_of w i = slice_index_or w.committed i false
 
 abbrev pub state_of : Witness → ℕ → State
 state_of w r = slice_index_or w.states r []
+
+-- The rank is above each of these, or that of one that is left out.
+abbrev pub ComesAbove : Witness → ℕ → ℕ → Type 0
+ComesAbove w before rank = (j : ℕ) → j < 8 → bit_at before j ≡ 1 → rank_of w j + bit (committed_of w j) ≤ rank
+
+-- The transaction may be left out at this rank: its reads hold there, and those that precede it stand below.
+abbrev pub FitsAt : Witness → Txn → ℕ → Type 0
+FitsAt w t rank = (rank ≤ w.top) × (rank < 9) × IsTrue (reads_hold (state_of w rank) t.ops.items) × ComesAbove w t.before rank
 
 -- A completion may take a transaction of this status as committed, or leave it out, as told here; or it is to be taken so and stands as
 -- if it were left out, which is the same where its operations leave the state of its rank as it is.

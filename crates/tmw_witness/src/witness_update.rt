@@ -1,4 +1,4 @@
-ghost use Rattle.std.specs.Prelude.{◌≡◌, ◌⊎◌, ◌+◌, ◌≤◌, ◌<◌, ℕ, [], ◌∷◌, ◌++◌, List, IfSome, IsTrue, IsFalse, length, false, true};
+ghost use Rattle.std.specs.Prelude.{◌≡◌, ◌⊎◌, ◌+◌, ◌≤◌, ◌<◌, ℕ, [], ◌∷◌, ◌++◌, List, MatchOption, IsTrue, IsFalse, length, false, true};
 ghost use Rattle.std.specs.Int.{bit_at};
 ghost use Rattle.tmw_defs.specs.Opaque.{State, may_hold, reads_hold, after_writes};
 ghost use Rattle.tmw_defs.specs.declared.status.Status.TheVariants.{Pending, Committed, Aborted};
@@ -17,7 +17,7 @@ fn leaves_state(item: &Txn, state: &State) -> bool
 }
 
 impl Witness {
-    ghost use Rattle.tmw_witness.specs.Witness.{Witnesses, rank_of, committed_of, state_of};
+    ghost use Rattle.tmw_witness.specs.Witness.{ComesAbove, FitsAt, Witnesses, rank_of, committed_of, state_of};
     ghost use Rattle.tmw_witness.specs.EventAtPlace.{TurnsAt};
     ghost use Rattle.tmw_events.specs.declared.event.Event.{Event};
     ghost use Rattle.tmw_cuts.specs.StandsFor.{IsNext, StandsFor, views_of};
@@ -52,8 +52,8 @@ impl Witness {
 
     /// The lowest rank at which a transaction may stand that these precede.
     fn lowest(&self, before: u8) -> u32
-        ensures { (j : ℕ) → j < 8 → bit_at before j ≡ 1
-            → rank_of self.now j + bit (committed_of self.now j) ≤ result }
+        ensures above { ComesAbove self.now before result }
+        ensures least { (rank : ℕ) → ComesAbove self.now before rank → result ≤ rank }
     {
         let mut low = 0u32;
         for place in 0..8 {
@@ -66,19 +66,19 @@ impl Witness {
 
     /// Whether the transaction's reads hold in the state of the rank.
     fn holds_at(&self, item: &Txn, rank: u8) -> bool
-        ensures { IsTrue result → IsTrue (reads_hold (state_of self.now rank) item.now.ops.items) }
+        ensures holds { IsTrue result → IsTrue (reads_hold (state_of self.now rank) item.now.ops.items) }
+        ensures all { rank < 9 → IsTrue (reads_hold (state_of self.now rank) item.now.ops.items)
+            → IsTrue result }
     {
         self.states
             .get(usize::from(rank))
             .is_some_and(|state| item.fits(state))
     }
 
-    /// A rank at which the transaction's reads hold, and above those that precede it.
+    /// The first rank at which the transaction's reads hold, and above those that precede it.
     fn other_rank(&self, item: &Txn) -> Option<u8>
-        ensures { IfSome result (λ rank. (rank ≤ self.now.top) × (rank < 9)
-            × IsTrue (reads_hold (state_of self.now rank) item.now.ops.items)
-            × ((j : ℕ) → j < 8 → bit_at item.now.before j ≡ 1
-            → rank_of self.now j + bit (committed_of self.now j) ≤ rank)) }
+        ensures { MatchOption result ((rank : ℕ) → FitsAt self.now item.now rank → ⊥)
+            (FitsAt self.now item.now) }
     {
         let low = self.lowest(item.before);
         for rank in 0..9u8 {
