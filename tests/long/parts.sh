@@ -6,7 +6,7 @@
 # tests/long/parts.py makes HISTORIES (20000) random histories of at most five transactions, and the program judges each by a random
 # criterion. For each one violated:
 # - Each permutation with each completion is tried: neither the window nor its part has a serial order from any of its states.
-# - The part is one by Part.antt of tmw_defs, with whole calls and the last event, each transaction left of its events' own. A write is
+# - The part is one by KeptPart.antt of tmw_part, with whole calls and the last event, each transaction left of its events' own. A write is
 #   missing only if the part doesn't read its value. A transaction of the part leaves what it left in each
 #   register that it changes, and its first answer unlike its own calls has the values that it had.
 # - What is left without one more transaction, or without one more call and its answer, is no such part, or has an order: alone, and
