@@ -75,7 +75,7 @@ impl Witness {
             .is_some_and(|state| item.fits(state))
     }
 
-    /// The first rank at which the transaction's reads hold, and above those that precede it.
+    /// A rank at which the transaction's reads hold, and above those that precede it.
     fn other_rank(&self, item: &Txn) -> Option<u8>
         ensures { MatchOption result ((rank : ℕ) → FitsAt self.now item.now rank → ⊥)
             (FitsAt self.now item.now) }
