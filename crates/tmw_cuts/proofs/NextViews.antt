@@ -17,6 +17,10 @@ abbrev pub answered_ops : Option Kind → Kind → List Op
 answered_ops None kind = []
 answered_ops (Some call) kind = operation call kind
 
+-- A transaction with an event of this kind more, which makes these operations.
+abbrev pub next_view : Kind → List Op → View → View
+next_view kind ops v = record v { ops = v.ops ++ ops; status = status_after (Some kind) }
+
 -- What is shown after the event, where the transactions in the mask have completed before it.
 abbrev pub views_after : Found → Kind → ℕ → List View → List View
 views_after None k before vs = vs ++ new_view k before ∷ []
@@ -33,10 +37,6 @@ place_of (End p) = Some p
 abbrev pub ops_of : Move → List Op
 ops_of (Answer p op) = op ∷ []
 ops_of _ = []
-
--- A transaction with an event of this kind more, which makes these operations.
-abbrev pub next_view : Kind → List Op → View → View
-next_view kind ops v = record v { ops = v.ops ++ ops; status = status_after (Some kind) }
 
 -- It ends a transaction.
 abbrev pub is_end : Move → Bool
