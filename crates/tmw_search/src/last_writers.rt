@@ -146,7 +146,7 @@ fn add_end(
     }
 }
 
-/// Returns the writer that all others of these come before, if there is one.
+/// Returns one of the writers that each of them comes before, or is, if there is one.
 #[inline(always)]
 fn last_of(reach: &Masks, writers: u8) -> Option<usize>
     ensures { MatchOption result ((i : ℕ) → i < 8 → In writers i → ComesBehind reach.now writers i → ⊥)
