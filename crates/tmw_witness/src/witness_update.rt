@@ -66,7 +66,8 @@ impl Witness {
 
     /// Whether the transaction's reads hold in the state of the rank.
     fn holds_at(&self, item: &Txn, rank: u8) -> bool
-        ensures holds { IsTrue result → IsTrue (reads_hold (state_of self.now rank) item.now.ops.items) }
+        ensures holds { IsTrue result
+            → (rank < 9) × IsTrue (reads_hold (state_of self.now rank) item.now.ops.items) }
         ensures all { rank < 9 → IsTrue (reads_hold (state_of self.now rank) item.now.ops.items)
             → IsTrue result }
     {
@@ -75,7 +76,8 @@ impl Witness {
             .is_some_and(|state| item.fits(state))
     }
 
-    /// A rank at which the transaction's reads hold, and above those that precede it.
+    /// A rank at which the transaction's reads hold, up to the highest and from the lowest at which it may stand, if there is
+    /// one.
     fn other_rank(&self, item: &Txn) -> Option<u8>
         ensures { MatchOption result ((rank : ℕ) → FitsAt self.now item.now rank → ⊥)
             (FitsAt self.now item.now) }

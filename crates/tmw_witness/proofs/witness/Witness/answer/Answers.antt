@@ -5,7 +5,7 @@ use Rattle.tmw_witness.proofs.witness.Witness.answer.Goals as goal
 pub returns-then-holds_at : goal.returns-then-holds_at
 returns-then-holds_at c = λ starts xs ys x turns may was.
     left_out-kept starts xs ys x (view c.args.item.now) c.args.self.now c.args.place.number turns (sym c.is_held.ensures ∙ c.if-is_held.false) (inl may)
-    (λ reads. rw c.get-at.ensures.value at (c.holds_at.ensures.holds c.if-holds_at.true)) was
+    (λ reads. rw c.get-at.ensures.value at ((c.holds_at.ensures.holds c.if-holds_at.true).1)) was
 
 pub returns-in-Some : goal.returns-in-Some
 returns-in-Some c =
