@@ -11,7 +11,7 @@ loop-left-preserved c =
     let row = slice_index c.args.reach.now next.result in
     let less = less_of left next.result next.ensures.within next.ensures.among in
     let (k, few_k, free) = some-place (bit_and writers (bit_not w8 row)) (omega (arith, and_le_l writers (bit_not w8 row), c.ranges.writers.fits))
-        (λ none. absurd (omega (arith, none, c.if-writers-reach-eq0.false))) in
+    (λ none. absurd (omega (arith, none, c.if-writers-reach-eq0.false))) in
     record {
       among = λ i is. c.loop-left.invariant.among i (less_has left next.result _ i less is);
       others = λ i few one gone behind. elim (same_place i next.result) [
