@@ -196,8 +196,9 @@ static void count_event(struct bench *b)
 {
     struct steps *s = &b->steps;
     uint64_t round = s->begun > 0 ? s->begun : 1; /* (the first look is of round 1) */
-    if (++s->recorded - s->starts[s->begun % STARTS] == b->plan.event && round == b->plan.round)
+    if (round == b->plan.round && s->recorded + 1 - s->starts[s->begun % STARTS] == b->plan.event)
         tmwatch_break();
+    s->recorded++;
 }
 
 /* The rounds up to that of the violation, which may not be the last. */
