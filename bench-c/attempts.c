@@ -3,10 +3,6 @@
 /* The thread of a bench that is this one. */
 static _Thread_local tmwatch_attempt *this_thread;
 
-static void step(tmwatch_attempt *a, unsigned pauses);
-static bool gives_up(tmwatch_attempt *a);
-static void look_if_due(tmwatch_attempt *a);
-
 /* Stops the bench, since the watch has answered what wasn't to be. */
 static void stop(struct bench *b, uint32_t status)
 {
@@ -15,19 +11,10 @@ static void stop(struct bench *b, uint32_t status)
     b->stops = true;
 }
 
-/* One time in two a few turns, and one in 64 another thread's turn, unless calls give it anyway; by steps, a step. Nobody is met in a look. */
 static void pause_sometimes(tmwatch_attempt *a, unsigned pauses)
 {
-    uint64_t most = a->looks ? 0 : a->bench->plan.pause;
-    if (by_steps(a->bench))
-        step(a, pauses);
-    if (by_steps(a->bench) || most == 0)
-        return;
-    bool waits = draw(&a->pauses, 2) == 0;
-    for (volatile uint64_t turns = waits ? draw(&a->pauses, most) : 0; turns > 0; turns--)
-        ;
-    if (!a->bench->has_asked && draw(&a->pauses, 64) == 0)
-        sched_yield();
+    if (a->by->pause)
+        a->by->pause(a, pauses);
 }
 
 void tmwatch_step_at(const void *caller, unsigned pauses)
@@ -71,15 +58,14 @@ static void record(tmwatch_attempt *a, const tmwatch_call *answer)
 {
     struct bench *b = a->bench;
     const tmwatch_call *it = answer ? answer : &a->now.calls[a->turn.place];
-    bool looks = a->looks && it->letter == 'C' && a->now.calls[0].letter == 'R';
+    bool looks = a->by->looks && it->letter == 'C' && a->now.calls[0].letter == 'R';
     uint64_t place = 0;
     if (is_lost(a))
         return;
     if (tmwatch_step_drain)
         tmwatch_step_drain();
-    uint64_t round = b->steps.begun > 0 ? b->steps.begun : 1; /* (the first look is of round 1) */
-    if (by_steps(b) && round == b->plan.round && b->steps.recorded + 1 - b->steps.starts[b->steps.begun % STARTS] == b->plan.event)
-        tmwatch_break();
+    if (b->schedule->record)
+        b->schedule->record(b);
     uint32_t status = answer ? tmwatch_answered(a->recorder, a->now.calls, a->now.count, &a->turn, it->letter, it->value, &place)
                              : tmwatch_next(a->recorder, a->now.calls, a->now.count, &a->turn, &place);
     if (status != TMWATCH_DONE) {
@@ -88,9 +74,7 @@ static void record(tmwatch_attempt *a, const tmwatch_call *answer)
     }
     a->stores += it->letter == 'W' || it->letter == 'N';
     b->kept[place % KEPT] = (struct kept){it->value, (uint8_t)a->thread, (uint8_t)it->register_number, (char)it->letter, looks};
-    if (by_steps(b))
-        b->steps.recorded = place + 1;
-    if (a->looks && a->now.made <= FIRST_ATTEMPTS)
+    if (a->by->looks && a->now.made <= FIRST_ATTEMPTS)
         b->rejected_at = place + 1;
     a->keeps++;
 }
@@ -125,8 +109,8 @@ static void end_attempt(tmwatch_attempt *a, bool has_committed)
     if (a->writes && (has_committed || !a->has_asked))
         atomic_fetch_or(has_committed ? &b->stored : &b->refused, a->writes);
     a->is_live = false;
-    if (by_permits(b) && !a->looks)
-        tmwatch_permits_give(&b->permits);
+    if (a->by->leave)
+        a->by->leave(&b->permits);
 }
 
 /* The most events until room is asked for again: of this round, the one before, which others may still record, and a look; or of permits. */
@@ -146,33 +130,11 @@ static void wait_for_room(tmwatch_attempt *a)
         stop(b, status);
 }
 
-/* Whether a further attempt may begin. By permits it takes one, so others record seven at most; and it is put off for a look that is due. */
-static bool may_begin(tmwatch_attempt *a)
-{
-    struct bench *b = a->bench;
-    bool takes = by_permits(b) && !a->looks;
-    if (a->now.made == a->now.most || is_lost(a))
-        return false;
-    if (!takes && !a->looks)
-        return true;
-    a->is_put_off = takes && a->now.made > 0 && b->attempted >= b->next_look;
-    if (a->is_put_off || (a->looks && a->now.made > 0 && gives_up(a)))
-        return false;
-    if (takes)
-        tmwatch_permits_take(&b->permits);
-    wait_for_room(a);
-    bool begins = !b->stops && !(takes && b->is_late);
-    if (takes && !begins)
-        tmwatch_permits_give(&b->permits);
-    b->attempted += begins && by_permits(b);
-    return begins;
-}
-
 bool tmwatch_begins(tmwatch_attempt *a)
 {
     if (a->is_live)
         end_attempt(a, false);
-    if (!may_begin(a))
+    if (a->now.made == a->now.most || is_lost(a) || (a->by->enter && !a->by->enter(a)))
         return false;
     a->now.made++;
     a->tried++;
@@ -269,7 +231,7 @@ static void make_transaction(tmwatch_attempt *a)
         goes_on = a->tried > before || a->is_put_off;
         if (a->is_put_off) {
             const struct transaction held = a->now;
-            look_if_due(a);
+            a->by->look(a);
             a->now = held;
             a->has_asked = a->is_put_off = false;
         }

@@ -46,7 +46,7 @@ struct tmwatch_attempt {
     tmwatch_recorder *recorder;
     void *tx;
     unsigned thread;
-    bool looks;
+    const struct schedule *by; /* the bench's, or a look's */
     struct transaction now;
     tmwatch_turn turn;
     atomic_uint inside;                  /* in which function of the memory it is, and with which register (a `place`, and 256 times it) */
@@ -84,7 +84,7 @@ struct steps {
     unsigned waiting;         /* which of them wait for a lock that another of them holds, or for a condition */
     unsigned lost;            /* which of those wait for a signal that nobody can send any more, unless one of them goes on */
     unsigned stuck;           /* which of them were running when a rescue came, or wait outside, and have made no step since */
-    const void *lock[MOST_THREADS];
+    const volatile void *lock[MOST_THREADS];
     uint64_t draws;
     uint64_t odds; /* by walk: one step in so many hands over; 0: by priorities */
     uint64_t priority[MOST_THREADS], lowest;
@@ -135,6 +135,7 @@ struct bench {
     struct session *session; /* of the judge alone: threads that are stuck outlive it */
     tmwatch_memory memory;
     tmwatch_plan plan;
+    const struct schedule *schedule;
     unsigned workers;   /* how many threads the session has */
     uint64_t most_time; /* how many microseconds the leg may take; 0: any time */
     tmwatch watch;
@@ -168,6 +169,18 @@ struct bench {
     struct transaction rejected; /* of a look that was given up, since it was rolled back again and again; or no attempt */
     unsigned rejected_thread;    /* whose look that was */
     uint64_t rejected_at;        /* how many events there were after the first attempts of the last look */
+};
+
+/* How threads go, by a schedule or in a look. What is null isn't done. */
+struct schedule {
+    bool (*next)(tmwatch_attempt *);                        /* whether the thread makes another share, once it may */
+    void (*pause)(tmwatch_attempt *, unsigned pauses);      /* beside a call, or in the memory */
+    bool (*enter)(tmwatch_attempt *);                       /* whether another attempt begins, */
+    void (*look)(tmwatch_attempt *);                        /* or is put off for this */
+    void (*leave)(tmwatch_permits *);                       /* an attempt has ended */
+    void (*record)(struct bench *);                         /* an event is about to be recorded */
+    void (*count)(const struct bench *, tmwatch_benched *); /* how many rounds a leg had */
+    bool repeats, looks; /* a run is what its seed says, so no time ends a leg unless the memory asks outside; nobody else goes */
 };
 
 #define TO(field) offsetof(tmwatch_plan, field)

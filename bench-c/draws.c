@@ -19,12 +19,13 @@ enum { SMALL_APART = 2 * MOST_THREADS, SMALL_ADDENDS = 1 << 16 };
 static uint64_t fresh_value(tmwatch_attempt *a)
 {
     const tmwatch_plan *plan = &a->bench->plan;
-    uint64_t value, *count = a->looks ? &a->bench->looked : &a->written;
+    bool looks = a->by->looks;
+    uint64_t value, *count = looks ? &a->bench->looked : &a->written;
     bool is_start;
     do {
         ++*count;
-        value = a->looks ? (UINT64_C(1) << 63) + *count : *count * MOST_THREADS + a->thread;
-        value = plan->small ? *count * SMALL_APART + (a->looks ? MOST_THREADS : a->thread) : value * apart_values;
+        value = looks ? (UINT64_C(1) << 63) + *count : *count * MOST_THREADS + a->thread;
+        value = plan->small ? *count * SMALL_APART + (looks ? MOST_THREADS : a->thread) : value * apart_values;
         is_start = false;
         for (unsigned reg = 0; reg < plan->registers; reg++)
             is_start = is_start || plan->start[reg] == value;
@@ -41,7 +42,6 @@ static void add_call(tmwatch_attempt *a, char letter, uint64_t reg)
 static void draw_transaction(tmwatch_attempt *a)
 {
     const tmwatch_plan *plan = &a->bench->plan;
-    a->looks = false;
     a->now.most = plan->attempts > 0 && plan->attempts < a->left ? plan->attempts : a->left;
     a->now.count = 0;
     bool asks_abort = draw(&a->draws, 100) < plan->aborts;
@@ -58,11 +58,11 @@ static void draw_transaction(tmwatch_attempt *a)
     add_call(a, asks_abort ? 'X' : 'T', 0);
 }
 
-/* Draws whether the round is mixed: one thread makes a long transaction, others several short ones. All draw the same, from *draws on. */
+/* Draws whether the round, if there are rounds, is mixed: one thread makes a long transaction, others several short ones. All draw the same. */
 static bool draw_mix(const struct bench *b, uint64_t *draws)
 {
     *draws = b->plan.seed * apart_rounds + b->round;
-    return !by_permits(b) && b->plan.threads > 1 && draw(draws, 100) < b->plan.mixes;
+    return b->round > 0 && b->plan.threads > 1 && draw(draws, 100) < b->plan.mixes;
 }
 
 /* Draws the thread's share of a round: whether that is mixed. Then all have eight attempts, of which the long transaction has one. */
@@ -71,12 +71,12 @@ static bool draw_share(tmwatch_attempt *a)
     const tmwatch_plan *plan = &a->bench->plan;
     uint64_t draws, threads = plan->threads;
     a->uses = plan->calls;
-    a->left = plan->attempts > 0 ? plan->attempts : by_permits(a->bench) ? UINT64_MAX : most_attempts(plan) / threads;
+    a->left = plan->attempts > 0 ? plan->attempts : most_of_thread(plan);
     if (!draw_mix(a->bench, &draws))
         return false;
     uint64_t first = draw(&draws, threads), others = 1 + draw(&draws, threads - 1);
     a->left = a->thread == first;
-    for (unsigned i = 1; i < most_attempts(plan); i++)
+    for (unsigned i = 1; i < MOST_ATTEMPTS - plan->crashes; i++)
         a->left += a->thread == (first + 1 + draw(&draws, others)) % threads;
     a->uses = a->thread != first ? 1 + draw(&a->draws, 2) : 2 * plan->calls < MOST_USES ? 2 * plan->calls : MOST_USES;
     return true;

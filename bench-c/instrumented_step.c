@@ -29,7 +29,7 @@ tmwatch_step_how *tmwatch_step_accesses(void)
 
 bool tmwatch_step_is_run(void)
 {
-    return this_thread && by_steps(this_thread->bench) && this_thread->bench->steps.awake == (int)this_thread->thread;
+    return this_thread && this_thread->bench->steps.awake == (int)this_thread->thread;
 }
 
 tmwatch_simulation *tmwatch_step_orders(void)
@@ -38,7 +38,7 @@ tmwatch_simulation *tmwatch_step_orders(void)
     return is_simulated ? this_thread->bench->orders : NULL;
 }
 
-enum tmwatch_step_waited tmwatch_step_wait(const void *lock, bool is_for_signal)
+enum tmwatch_step_waited tmwatch_step_wait(const volatile void *lock, bool is_for_signal)
 {
     struct steps *s = &this_thread->bench->steps;
     unsigned own = 1u << this_thread->thread;
@@ -64,7 +64,7 @@ enum tmwatch_step_waited tmwatch_step_wait(const void *lock, bool is_for_signal)
     return is_free ? TMWATCH_STEP_FREED : TMWATCH_STEP_OTHERS;
 }
 
-void tmwatch_step_free(const void *lock, bool is_for_one)
+void tmwatch_step_free(const volatile void *lock, bool is_for_one)
 {
     struct steps *s = &this_thread->bench->steps;
     unsigned freed = 0;

@@ -47,9 +47,6 @@ static void claim(FILE *progress)
         fputs("\r\033[K", progress);
 }
 
-static void add_leg(tmwatch_benched *all, const tmwatch_benched *leg);
-static bool are_certain(const tmwatch_benched *benched);
-
 /* What a job does that has nothing to tell. The first one takes over what all others have counted, as if its own run came after theirs. */
 static void settle(tmwatch_benched *all)
 {
@@ -57,13 +54,11 @@ static void settle(tmwatch_benched *all)
     jobs->job[own_job].is_done = !is_last;
     if (own_job > 0 || is_last)
         _Exit(LEFT);
-    for (unsigned i = 1; i < jobs->count;) {
-        if (!jobs->job[i].is_done) {
+    for (unsigned i = 1; i < jobs->count; i++) {
+        while (!jobs->job[i].is_done)
             nap(LOOK_AFTER);
-            continue;
-        }
         tmwatch_benched own = *all;
-        *all = jobs->job[i++].benched;
+        *all = jobs->job[i].benched;
         add_leg(all, &own);
     }
 }
@@ -215,12 +210,11 @@ static struct job *find_ended(void)
 /* Waits until one of the jobs has told what came out, or offers it, or has ended by itself, and kills the others. */
 static struct job *await_teller(FILE *progress)
 {
-    struct job *found = find_ended();
-    for (unsigned looks = 1; !found; looks++) {
+    struct job *found;
+    for (unsigned looks = 1; !(found = find_ended()); looks++) {
         if (progress && jobs->teller == 0 && looks % (SHOWN_EACH / LOOK_AFTER) == 0)
             show_progress(progress);
         nap(LOOK_AFTER);
-        found = find_ended();
     }
     for (unsigned i = 0; i < jobs->count; i++)
         if (&jobs->job[i] != found)

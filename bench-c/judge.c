@@ -38,7 +38,7 @@ static void note_progress(struct bench *b, uint64_t now)
     const tmwatch_benched *all = &b->session->all;
     tmwatch_counts counts;
     tmwatch_told told;
-    jobs->job[own_job].counts[0] = all->rounds + (by_permits(b) || b->round == 0 ? 0 : b->round - 1);
+    jobs->job[own_job].counts[0] = all->rounds + (b->round > 0 ? b->round - 1 : 0);
     if (!b->plan.progress || now - b->session->shown < SHOWN_EACH || tmwatch_summary(&b->watch, &counts) != TMWATCH_DONE ||
         tmwatch_report(&b->watch, &told) != TMWATCH_DONE)
         return;
@@ -60,8 +60,7 @@ static void judge(struct bench *b)
         uint64_t now = microseconds_of(CLOCK_MONOTONIC), passed = now - looked, moved_before = moved, steps_before = steps;
         uint64_t given = microseconds_of(CLOCK_PROCESS_CPUTIME_ID) - used;
         looked = now, used += given;
-        if (by_steps(b))
-            watch_steps(b, now);
+        watch_steps(b, now);
         passed = b->watchdog.computes && !b->is_over && given < passed ? given : passed;
         moved = b->round + b->attempted + b->ended;
         steps = b->steps.steps + b->steps.rescues;
@@ -73,8 +72,7 @@ static void judge(struct bench *b)
                                (b->plan.patience > 0 && b->idle / SECOND >= b->plan.patience);
         note_progress(b, now);
         b->has_no_time = jobs->is_interrupted || (b->plan.seconds > 0 && (now - b->session->began) / SECOND >= b->plan.seconds);
-        bool is_timed = b->most_time > 0 && (!by_steps(b) || b->has_asked);
-        b->is_late = b->has_no_time || (is_timed && now - began >= b->most_time);
+        b->is_late = b->has_no_time || (b->most_time > 0 && (!b->schedule->repeats || b->has_asked) && now - began >= b->most_time);
     }
     /* What is stuck may come back: then it ends. */
     if (b->session->is_stuck)

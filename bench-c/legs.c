@@ -16,19 +16,22 @@ static void draw_plan(tmwatch_plan *plan, uint64_t *draws)
 {
     static const uint64_t pauses[] = {0, 10, 100, 1000};
     bool is_usual = draw(draws, USUAL_LEGS) == 0;
-    uint64_t more = draw(draws, 2) * 4, threads = 2 + draw(draws, 3 + more);
-    uint64_t wider = draw(draws, 2) * 4, registers = 1 + draw(draws, 4 + wider), calls = 1 + draw(draws, 5);
-    uint64_t writes = 30 + 20 * draw(draws, 4), adds = 20 * draw(draws, 2);
-    uint64_t aborts = draw(draws, 4) == 0 ? 52 : 12, pause = pauses[draw(draws, 4)];
-    uint64_t drawn_orders = draw(draws, ORDERED_LEGS);
-    bool has_plain = draw(draws, PLAIN_LEGS) == 0, draws_orders = plan->orders == TMWATCH_DRAWN;
-    const uint64_t numbers[DRAWN] = {threads, registers, calls, writes, adds, aborts, pause, 50, 10, TMWATCH_SEQUENTIAL};
-    *plan = filled_plan(plan, is_usual ? NULL : numbers);
+    tmwatch_plan it = usual;
+    it.threads = 2 + draw(draws, 3 + 4 * draw(draws, 2));
+    it.registers = 1 + draw(draws, 4 + 4 * draw(draws, 2));
+    it.calls = 1 + draw(draws, 5);
+    it.writes = 30 + 20 * draw(draws, 4);
+    it.adds = 20 * draw(draws, 2);
+    it.aborts = draw(draws, 4) == 0 ? 52 : 12;
+    it.pause = pauses[draw(draws, 4)];
+    uint64_t orders = draw(draws, ORDERED_LEGS);
+    bool has_plain = draw(draws, PLAIN_LEGS) == 0;
+    it = is_usual ? usual : it;
     if (tmwatch_step_drain && !tmwatch_step_unwrapped() && plan->schedule == TMWATCH_STEPS) {
-        if (draws_orders && drawn_orders <= TMWATCH_CXX)
-            plan->orders = drawn_orders;
+        it.orders = orders <= TMWATCH_CXX ? orders : it.orders;
         plan->plain |= has_plain;
     }
+    *plan = filled_plan(plan, it);
 }
 
 static uint64_t schedule_of_leg(const struct session *session, uint64_t leg)
@@ -52,12 +55,12 @@ static tmwatch_plan next_plan(const struct session *session, uint64_t leg, uint6
     if (is_all && leg > 0)
         draw_plan(&it, draws);
     else
-        it = filled_plan(&it, NULL);
+        it = filled_plan(&it, usual);
     it.orders = it.schedule == TMWATCH_STEPS ? it.orders : TMWATCH_SEQUENTIAL;
     it.threads = it.threads > MOST_THREADS - it.crashes ? MOST_THREADS - it.crashes : it.threads;
     it.rounds = left < most ? left : most;
     it.round = (is_all || leg == 0) && it.round > made && it.round - made <= most ? it.round - made : 0;
-    if (it.schedule != TMWATCH_PERMITS && it.attempts > most_attempts(&it) / it.threads)
+    if (it.attempts > most_of_thread(&it))
         it.attempts = 0;
     memset(it.start, 0, sizeof it.start);
     memcpy(it.start, session->start, it.registers * sizeof it.start[0]);
@@ -76,36 +79,12 @@ static uint64_t time_of_leg(const struct session *session, uint64_t schedule)
 /* Notes how long a leg by steps has taken, and returns the number of the next leg. */
 static uint64_t leg_after(struct session *session, uint64_t leg, const struct bench *b, uint64_t took)
 {
-    if (!by_steps(b))
+    if (b->plan.schedule != TMWATCH_STEPS)
         return leg + 1;
     session->took = took;
     session->asks = session->asks || b->has_asked;
     session->is_slow = session->is_slow || (session->asks && took >= SLOW_LEG);
     return session->is_slow && leg < STEPS_LEGS ? STEPS_LEGS : leg + 1;
-}
-
-/* The numbers of what came out that are added up over the legs. */
-#define OF(field) offsetof(tmwatch_benched, field)
-static const size_t summed[] = {/* clang-format off */
-    OF(told.events),         OF(counts.aborted), OF(counts.committed), OF(counts.cuts), OF(counts.live), OF(counts.overlapping),
-    OF(counts.transactions), OF(counts.unasked), OF(rounds),           OF(steps),       OF(switches),    OF(rescues),
-    OF(waits),               OF(crashes),        OF(stores)}; /* clang-format on */
-
-static void add_leg(tmwatch_benched *all, const tmwatch_benched *leg)
-{
-    tmwatch_benched before = *all;
-    *all = *leg;
-    for (unsigned i = 0; i < sizeof summed / sizeof summed[0]; i++)
-        *number_of(all, summed[i]) += *number_of(&before, summed[i]);
-    all->foreign = leg->foreign > before.foreign ? leg->foreign : before.foreign;
-    all->counts.widest = leg->counts.widest > before.counts.widest ? leg->counts.widest : before.counts.widest;
-    all->told.at += leg->told.at > 0 ? before.told.events : 0;
-    all->counts.none_overlapped &= before.told.events == 0 || before.counts.none_overlapped;
-    all->unseen |= before.unseen;
-    if (!leg->race[0])
-        memcpy(all->race, before.race, sizeof all->race);
-    if (!leg->shown[0])
-        memcpy(all->shown, before.shown, sizeof all->shown);
 }
 
 /* Keeps what the registers hold after a leg: whether that is known, by its last look. */
@@ -192,7 +171,8 @@ uint32_t tmwatch_bench(const tmwatch_memory *memory, const tmwatch_plan *plan, t
         return status;
     struct session session = {.memory = memory, .plan = plan, .began = now, .shown = now};
     memcpy(session.start, plan->start, sizeof session.start);
-    start_second_runs(&session);
+    const tmwatch_plan first = next_plan(&session, 0, NULL);
+    start_second_runs(&session, &first);
     status = run_legs(&session);
     end_second_runs(&session, status);
     claim(plan->progress);

@@ -144,9 +144,8 @@ static bool write_junit(const char *name, const char *program, uint32_t status, 
     return close_file(file);
 }
 
-static void end_by_signal(int signal)
+static void end_by_signal(int signal UNUSED)
 {
-    (void)signal;
     tmwatch_bench_end();
 }
 

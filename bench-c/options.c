@@ -106,15 +106,15 @@ static const char *read_words(struct given *given, char **words)
 
 void tmwatch_bench_words(FILE *file, const tmwatch_plan *plan)
 {
-    const tmwatch_plan usual = TMWATCH_PLAN;
+    tmwatch_plan it = *plan, first = TMWATCH_PLAN;
     const char *before = "";
     for (const struct option *option = options; option->to < sizeof *plan; option++) {
         size_t to = option->to;
-        uint64_t number = *number_of(plan, to);
+        uint64_t number = *number_of(&it, to);
         bool is_left_out = to == TO(rounds)   ? plan->round > 0 || plan->rounds == UINT64_MAX
                            : to == TO(orders) ? plan->schedule != TMWATCH_ALL && plan->orders == TMWATCH_SEQUENTIAL
                                               : to == TO(patience);
-        if (is_left_out || (number == *number_of(&usual, to) && to != TO(seed)))
+        if (is_left_out || (number == *number_of(&first, to) && to != TO(seed)))
             continue;
         fprintf(file, "%s%s", before, option->name);
         if (choices_of(to))

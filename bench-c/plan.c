@@ -1,50 +1,35 @@
-/* A plan: what it leaves to be drawn, by which schedule it goes, and whether it can be run. */
+/* A plan: what it leaves to be drawn, and whether it can be run; and what came out of one. */
 
 /* The number that stands there in a plan, or in what came out. */
-static uint64_t *number_of(const void *it, size_t at)
+static uint64_t *number_of(void *it, size_t at)
 {
-    return (uint64_t *)((uintptr_t)it + at);
+    return (uint64_t *)((char *)it + at);
 }
 
-/* Whether the bench tells what came out. */
-static bool has_run(uint32_t status)
+/* How many attempts a thread's transaction may have. */
+static uint64_t most_of_thread(const tmwatch_plan *plan)
 {
-    return status == TMWATCH_DONE || (status >= TMWATCH_STUCK && status <= TMWATCH_FAILED);
+    return plan->schedule == TMWATCH_PERMITS ? UINT64_MAX : (MOST_ATTEMPTS - plan->crashes) / plan->threads;
 }
 
-static bool by_permits(const struct bench *b)
-{
-    return b->plan.schedule == TMWATCH_PERMITS;
-}
-
-/* How many attempts a round may have. */
-static uint64_t most_attempts(const tmwatch_plan *plan)
-{
-    return MOST_ATTEMPTS - plan->crashes;
-}
-
-static bool by_steps(const struct bench *b)
-{
-    return b->plan.schedule == TMWATCH_STEPS;
-}
-
-/* What a plan may leave to be drawn: where it stands, what it is where nothing is drawn, and its range. */
+/* What a plan may leave to be drawn: where it stands, and its range; and what it is if nothing is drawn. */
 static const struct drawn {
     size_t to;
-    uint64_t usual, least, most; /* clang-format off */
-} drawn[] = {{TO(threads), 4, 1, MOST_THREADS}, {TO(registers), 3, 1, MOST_REGISTERS}, {TO(calls), 3, 1, MOST_USES},
-             {TO(writes), 50, 0, 100},          {TO(adds), 20, 0, 100},                {TO(aborts), 12, 0, 100},
-             {TO(pause), 100, 0, 1 << 20},      {TO(mixes), 50, 0, 100},               {TO(blinds), 10, 0, 100},
-             {TO(orders), TMWATCH_SEQUENTIAL, 0, TMWATCH_CXX}}; /* clang-format on */
+    uint64_t least, most; /* clang-format off */
+} drawn[] = {{TO(threads), 1, MOST_THREADS}, {TO(registers), 1, MOST_REGISTERS}, {TO(calls), 1, MOST_USES}, {TO(writes), 0, 100},
+             {TO(adds), 0, 100}, {TO(aborts), 0, 100}, {TO(pause), 0, 1 << 20}, {TO(mixes), 0, 100}, {TO(blinds), 0, 100},
+             {TO(orders), TMWATCH_SEQUENTIAL, TMWATCH_CXX}}; /* clang-format on */
 enum { DRAWN = sizeof drawn / sizeof drawn[0] };
+static const tmwatch_plan usual = {
+    .threads = 4, .registers = 3, .calls = 3, .writes = 50, .adds = 20, .aborts = 12, .pause = 100, .mixes = 50, .blinds = 10};
 
-/* The plan with what it leaves to be drawn: these numbers, or the usual ones. */
-static tmwatch_plan filled_plan(const tmwatch_plan *plan, const uint64_t *numbers)
+/* The plan with what it leaves to be drawn, which is as in the other one. */
+static tmwatch_plan filled_plan(const tmwatch_plan *plan, tmwatch_plan numbers)
 {
     tmwatch_plan it = *plan;
     for (unsigned i = 0; i < DRAWN; i++)
         if (*number_of(&it, drawn[i].to) == TMWATCH_DRAWN)
-            *number_of(&it, drawn[i].to) = numbers ? numbers[i] : drawn[i].usual;
+            *number_of(&it, drawn[i].to) = *number_of(&numbers, drawn[i].to);
     return it;
 }
 
@@ -66,7 +51,7 @@ static bool has_orders(const tmwatch_plan *plan)
 /* Looks at what no watch looks at. */
 static uint32_t check(const tmwatch_memory *memory, const tmwatch_plan *given)
 {
-    const tmwatch_plan plan = filled_plan(given, NULL);
+    tmwatch_plan plan = filled_plan(given, usual);
     if (missing_function(memory))
         return TMWATCH_MISSING;
     if (plan.crashes > 1 || plan.threads < 1 || plan.threads > MOST_THREADS - plan.crashes)
@@ -79,9 +64,52 @@ static uint32_t check(const tmwatch_memory *memory, const tmwatch_plan *given)
     for (unsigned i = 0; i < DRAWN; i++)
         if (*number_of(&plan, drawn[i].to) < drawn[i].least || *number_of(&plan, drawn[i].to) > drawn[i].most)
             return TMWATCH_BAD_BOUNDS;
-    uint64_t most = plan.schedule == TMWATCH_PERMITS ? UINT64_MAX : most_attempts(&plan) / plan.threads;
     uint64_t most_round = plan.schedule == TMWATCH_STEPS ? UINT64_MAX : plan.schedule == TMWATCH_ALL ? STEPS_LEGS * LEG_ROUNDS : 0;
-    bool is_wrong = plan.schedule > TMWATCH_ALL || plan.races > 1 || plan.attempts > most || plan.rounds == 0 || plan.round > most_round ||
-                    (plan.crashes && plan.schedule == TMWATCH_PERMITS) || (plan.event > 0 && plan.round == 0) || !has_orders(&plan);
+    bool is_wrong = plan.schedule > TMWATCH_ALL || plan.races > 1 || plan.attempts > most_of_thread(&plan) || plan.rounds == 0 ||
+                    plan.round > most_round || (plan.crashes && plan.schedule == TMWATCH_PERMITS) || (plan.event > 0 && plan.round == 0) ||
+                    !has_orders(&plan);
     return is_wrong ? TMWATCH_BAD_BOUNDS : TMWATCH_DONE;
+}
+
+/* Whether the bench tells what came out. */
+static bool has_run(uint32_t status)
+{
+    return status == TMWATCH_DONE || (status >= TMWATCH_STUCK && status <= TMWATCH_FAILED);
+}
+
+/* Whether what came out is wrong: another verdict, or a race, if the plan has that fail. */
+static bool is_wrong(const tmwatch_plan *plan, const tmwatch_benched *out)
+{
+    return out->told.verdict != TMWATCH_OPAQUE_SO_FAR || (plan->races > 0 && out->race[0]);
+}
+
+/* Whether the words make the same run: there are none for the start. */
+static bool are_certain(const tmwatch_benched *benched)
+{
+    static const uint64_t none[MOST_REGISTERS];
+    return benched->is_certain && memcmp(benched->again.start, none, sizeof none) == 0;
+}
+
+/* The numbers of what came out that are added up over the legs. */
+#define OF(field) offsetof(tmwatch_benched, field)
+static const size_t summed[] = {/* clang-format off */
+    OF(told.events),         OF(counts.aborted), OF(counts.committed), OF(counts.cuts), OF(counts.live), OF(counts.overlapping),
+    OF(counts.transactions), OF(counts.unasked), OF(rounds),           OF(steps),       OF(switches),    OF(rescues),
+    OF(waits),               OF(crashes),        OF(stores)}; /* clang-format on */
+
+static void add_leg(tmwatch_benched *all, const tmwatch_benched *leg)
+{
+    tmwatch_benched before = *all;
+    *all = *leg;
+    for (unsigned i = 0; i < sizeof summed / sizeof summed[0]; i++)
+        *number_of(all, summed[i]) += *number_of(&before, summed[i]);
+    all->foreign = leg->foreign > before.foreign ? leg->foreign : before.foreign;
+    all->counts.widest = leg->counts.widest > before.counts.widest ? leg->counts.widest : before.counts.widest;
+    all->told.at += leg->told.at > 0 ? before.told.events : 0;
+    all->counts.none_overlapped &= before.told.events == 0 || before.counts.none_overlapped;
+    all->unseen |= before.unseen;
+    if (!leg->race[0])
+        memcpy(all->race, before.race, sizeof all->race);
+    if (!leg->shown[0])
+        memcpy(all->shown, before.shown, sizeof all->shown);
 }

@@ -6,45 +6,47 @@
    first half of those come as fast as they can, for what is rolled back by chance; the others take the patience, for what a time ends. */
 enum { FEW = 200, FAST_EVENTS = MOST_LOOKED / 2, LONGEST_NAP = SECOND / 10 };
 
-/* Whether the look is given up that was rolled back just now. Once the time of all is up, that says nothing of the memory. */
-static bool gives_up(tmwatch_attempt *a)
+/* Whether a look's transaction is attempted, or again. Once the time of all is up, that it is rolled back says nothing of the memory. */
+static bool enter_alone(tmwatch_attempt *a)
 {
     struct bench *b = a->bench;
-    if (b->stops || b->has_no_time)
-        return true;
+    if (b->stops || (b->has_no_time && a->now.made > 0))
+        return false;
     uint64_t events = a->keeps - a->look_from, slow = events > FAST_EVENTS ? events - FAST_EVENTS : 0;
     uint64_t patience = b->plan.patience * SECOND, passed = microseconds_of(CLOCK_MONOTONIC) - a->look_began;
     uint64_t due = patience / (MOST_LOOKED - FAST_EVENTS) * slow;
     if (events < MOST_LOOKED && (patience == 0 || a->now.made < FEW || passed < patience)) {
         if (due > passed)
             nap(due - passed < LONGEST_NAP ? (long)(due - passed) : LONGEST_NAP);
-        return false;
+        wait_for_room(a);
+        b->attempted += !b->stops;
+        return !b->stops;
     }
     b->rejected = a->now;
     b->rejected_thread = a->thread;
     b->stops = true;
-    return true;
+    return false;
 }
 
-/* Makes the calls alone, which are to commit. By permits, nobody else makes an attempt until they have. */
+static const struct schedule in_look = {.enter = enter_alone, .looks = true};
+
+/* Makes the calls alone, which are to commit. Nobody else makes an attempt by a permit until they have. */
 static void make_alone(tmwatch_attempt *a)
 {
     add_call(a, 'T', 0);
     a->now.most = UINT64_MAX;
     a->look_from = a->keeps;
     a->look_began = microseconds_of(CLOCK_MONOTONIC);
-    if (by_permits(a->bench))
-        tmwatch_permits_take_all(&a->bench->permits);
+    tmwatch_permits_take_all(&a->bench->permits);
     make_transaction(a);
-    if (by_permits(a->bench))
-        tmwatch_permits_give(&a->bench->permits);
+    tmwatch_permits_give(&a->bench->permits);
 }
 
 static void look(tmwatch_attempt *a)
 {
     struct bench *b = a->bench;
     unsigned refused = atomic_exchange(&b->refused, 0), stored = atomic_exchange(&b->stored, 0);
-    a->looks = true;
+    a->by = &in_look;
     for (uint64_t reg = 0; reg < b->plan.registers && !b->stops; reg++) {
         a->now.count = 0;
         add_call(a, 'W', reg);
@@ -56,5 +58,5 @@ static void look(tmwatch_attempt *a)
         add_call(a, 'R', reg);
     if (!b->stops)
         make_alone(a);
-    a->looks = false;
+    a->by = b->schedule;
 }

@@ -71,13 +71,6 @@ static void print_rounds(FILE *file, const tmwatch_benched *benched)
     fputs("}\n", file);
 }
 
-/* Whether the words make the same run: there are none for the start. */
-static bool are_certain(const tmwatch_benched *benched)
-{
-    static const uint64_t none[MOST_REGISTERS];
-    return benched->is_certain && memcmp(benched->again.start, none, sizeof none) == 0;
-}
-
 /* Prints by which words the run is made again, and whether it is the same then. */
 static void print_again(FILE *file, const tmwatch_benched *benched)
 {

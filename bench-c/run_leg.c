@@ -1,18 +1,5 @@
 /* A leg: threads run by one plan, what they record is judged, and what came out is counted. */
 
-/* How many rounds were run: by steps up to that of the violation, which may not be the last. In rounds, the threads meet once more. */
-static uint64_t count_rounds(const struct bench *b, uint64_t at)
-{
-    const struct steps *s = &b->steps;
-    uint64_t round = b->round;
-    if (by_steps(b) && at > 0)
-        for (round = s->begun; round > 0 && s->starts[round % STARTS] >= at; round--)
-            ;
-    else if (round > 0 && !(by_steps(b) && b->session->is_stuck))
-        round--;
-    return round;
-}
-
 /* Closes the watch, and tells what came out, or the first status that wasn't to be. Threads that are stuck may still record. */
 static uint32_t close_watch(struct bench *b, tmwatch_benched *out)
 {
@@ -45,12 +32,6 @@ static void tell_orders(struct bench *b, tmwatch_benched *out)
         tmwatch_orders_tell_race(b->orders, out->race, sizeof out->race);
 }
 
-/* Whether what came out is wrong: another verdict, or a race, if the plan has that fail. */
-static bool is_wrong(const tmwatch_plan *plan, const tmwatch_benched *out)
-{
-    return out->told.verdict != TMWATCH_OPAQUE_SO_FAR || (plan->races > 0 && out->race[0]);
-}
-
 /* Runs a leg under a watch that is open, and closes it. */
 static uint32_t run_watched(struct bench *b, tmwatch_benched *out)
 {
@@ -58,22 +39,19 @@ static uint32_t run_watched(struct bench *b, tmwatch_benched *out)
     if (b->restart && !b->session->is_stuck && b->fault == TMWATCH_DONE)
         run_parts(b, (unsigned)b->plan.threads, (unsigned)b->plan.threads + 1);
     uint32_t status = close_watch(b, out);
-    out->rounds = by_permits(b) ? UINT64_MAX : count_rounds(b, out->told.at);
+    b->schedule->count(b, out);
     out->steps = b->steps.steps;
     out->switches = b->steps.switches;
     out->rescues = b->steps.rescues;
     out->waits = b->steps.waits;
     out->crashes = b->restart != NULL;
     out->rejected = out->told.verdict == TMWATCH_OPAQUE_SO_FAR ? b->rejected.made : 0;
-    out->event = by_steps(b) && out->told.at > 0 ? out->told.at - b->steps.starts[out->rounds % STARTS] : 0;
     b->session->has_steps = b->session->has_steps || b->steps.inner > 0;
     b->session->looked = b->looked;
     for (unsigned i = 0; i < b->plan.threads; i++) {
         const tmwatch_attempt *a = &b->parts[i];
         /* What a thread that is stuck has counted and kept stands before this. */
         (void)a->keeps;
-        uint64_t begun = a->begun; /* (by permits: what each thread has) */
-        out->rounds = by_permits(b) && begun < out->rounds ? begun : out->rounds;
         out->stores += a->stores;
         out->foreign = a->foreign > out->foreign ? a->foreign : out->foreign;
         out->unseen |= a->how.is_undelayed ? TMWATCH_UNSEEN_BLOCKS : 0;
@@ -95,16 +73,18 @@ static uint32_t run_watched(struct bench *b, tmwatch_benched *out)
 
 static uint32_t run_leg(struct bench *b, struct session *session, const tmwatch_plan *plan, tmwatch_benched *out)
 {
+    static const struct schedule *const all[] = {[TMWATCH_ROUNDS] = &in_rounds, [TMWATCH_PERMITS] = &by_permits, [TMWATCH_STEPS] = &by_steps};
     memset(out, 0, sizeof *out);
     b->session = session;
     b->memory = *session->memory;
     b->plan = *plan;
+    b->schedule = all[plan->schedule];
     b->looked = session->looked;
     set_steps(b);
     if (!start_threads(session, plan->threads + plan->crashes))
         return TMWATCH_MEMORY;
     b->workers = session->started;
-    if (plan->orders == TMWATCH_CXX && by_steps(b) && !(b->orders = tmwatch_orders_new(plan->seed, &b->steps.recorded, b->delays)))
+    if (plan->orders == TMWATCH_CXX && !(b->orders = tmwatch_orders_new(plan->seed, &b->steps.recorded, b->delays)))
         return TMWATCH_MEMORY;
     tmwatch_settings settings = TMWATCH_SETTINGS(plan->registers);
     memcpy(settings.start, plan->start, sizeof settings.start);

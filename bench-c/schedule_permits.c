@@ -22,3 +22,31 @@ static bool go_on(tmwatch_attempt *a)
     a->begun++;
     return true;
 }
+
+/* Takes a permit, so that others record seven attempts at most, unless the attempt is put off for a look that is due. */
+static bool take_permit(tmwatch_attempt *a)
+{
+    struct bench *b = a->bench;
+    a->is_put_off = a->now.made > 0 && b->attempted >= b->next_look;
+    if (a->is_put_off)
+        return false;
+    tmwatch_permits_take(&b->permits);
+    wait_for_room(a);
+    bool begins = !b->stops && !b->is_late;
+    b->attempted += begins;
+    if (!begins)
+        tmwatch_permits_give(&b->permits);
+    return begins;
+}
+
+static void count_begun(const struct bench *b, tmwatch_benched *out)
+{
+    out->rounds = UINT64_MAX; /* (as many transactions as each thread has begun) */
+    for (unsigned i = 0; i < b->plan.threads; i++) {
+        uint64_t begun = b->parts[i].begun;
+        out->rounds = begun < out->rounds ? begun : out->rounds;
+    }
+}
+
+static const struct schedule by_permits = {
+    .next = go_on, .pause = pause_freely, .enter = take_permit, .look = look_if_due, .leave = tmwatch_permits_give, .count = count_begun};

@@ -1,5 +1,18 @@
 /* In rounds: each thread makes its share, and waits for all others. */
 
+/* Waits one time in two a few turns, and lets another thread run one time in 64, unless calls do anyway. */
+static void pause_freely(tmwatch_attempt *a, unsigned pauses UNUSED)
+{
+    uint64_t most = a->bench->plan.pause;
+    if (most == 0)
+        return;
+    bool waits = draw(&a->pauses, 2) == 0;
+    for (volatile uint64_t turns = waits ? draw(&a->pauses, most) : 0; turns > 0; turns--)
+        ;
+    if (!a->bench->has_asked && draw(&a->pauses, 64) == 0)
+        sched_yield();
+}
+
 /* Decides whether another round follows this one, and looks if that is due: for the last thread of it. */
 static void end_round(tmwatch_attempt *a, uint64_t round)
 {
@@ -33,3 +46,10 @@ static bool meet(tmwatch_attempt *a)
             sched_yield();
     return !b->is_over;
 }
+
+static void count_rounds(const struct bench *b, tmwatch_benched *out)
+{
+    out->rounds = b->round > 0 ? b->round - 1 : 0; /* (after the last one the threads have met once more) */
+}
+
+static const struct schedule in_rounds = {.next = meet, .pause = pause_freely, .count = count_rounds};

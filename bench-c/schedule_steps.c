@@ -70,8 +70,6 @@ static void lock_as_runner(tmwatch_attempt *a)
 static void step(tmwatch_attempt *a, unsigned pauses)
 {
     struct steps *s = &a->bench->steps;
-    if (a->looks)
-        return;
     lock_as_runner(a);
     s->asks = false;
     s->step++;
@@ -96,17 +94,12 @@ static void step(tmwatch_attempt *a, unsigned pauses)
     wait_turn(a);
 }
 
-static bool is_beside_others(void)
-{
-    return this_thread && by_steps(this_thread->bench) && !this_thread->looks;
-}
-
 /* A memory of this process asks another one, which this one's debugger doesn't show. */
 static atomic_bool asks_elsewhere;
 
 bool tmwatch_asks(void)
 {
-    bool is_beside = is_beside_others();
+    bool is_beside = this_thread && this_thread->by->repeats;
     if (this_thread)
         this_thread->bench->has_asked = asks_elsewhere = true;
     if (is_beside)
@@ -116,7 +109,7 @@ bool tmwatch_asks(void)
 
 void tmwatch_waits(void)
 {
-    if (!is_beside_others())
+    if (!this_thread || !this_thread->by->repeats)
         return;
     struct steps *s = &this_thread->bench->steps;
     lock_as_runner(this_thread);
@@ -178,23 +171,48 @@ static void turn_round(tmwatch_attempt *a)
         post(&s->go[i]);
 }
 
-/* Ends the thread's part of a round, and waits for its turn in the next one, if there is any. */
+/* Ends the thread's part of a round, and waits for its turn in the next one, if there is any. Thread 0 begins the first one. */
 static bool meet_by_steps(tmwatch_attempt *a)
 {
     struct bench *b = a->bench;
     struct steps *s = &b->steps;
-    lock_as_runner(a);
-    s->ready &= ~(1u << a->thread);
-    if (s->ready == 0) {
-        post(&s->free);
-        turn_round(a);
-    } else {
-        s->switches++;
-        let_go(s, choose(s, ~0u));
+    if (a->uses > 0 || a->thread == 0) {
+        lock_as_runner(a);
+        s->ready &= ~(1u << a->thread);
+        if (s->ready == 0) {
+            post(&s->free);
+            turn_round(a);
+        } else {
+            s->switches++;
+            let_go(s, choose(s, ~0u));
+        }
     }
     wait_turn(a);
     return !b->is_over;
 }
+
+/* Counts an event, before which a debugger may stop. */
+static void count_event(struct bench *b)
+{
+    struct steps *s = &b->steps;
+    uint64_t round = s->begun > 0 ? s->begun : 1; /* (the first look is of round 1) */
+    if (round == b->plan.round && s->recorded + 1 - s->starts[s->begun % STARTS] == b->plan.event)
+        tmwatch_break();
+    s->recorded++;
+}
+
+/* The rounds up to that of the violation, which may not be the last. */
+static void count_steps(const struct bench *b, tmwatch_benched *out)
+{
+    const struct steps *s = &b->steps;
+    uint64_t at = out->told.at;
+    out->rounds = at > 0 ? s->begun : b->round - !b->session->is_stuck;
+    while (at > 0 && out->rounds > 0 && s->starts[out->rounds % STARTS] >= at)
+        out->rounds--;
+    out->event = at > 0 ? at - s->starts[out->rounds % STARTS] : 0;
+}
+
+static const struct schedule by_steps = {.next = meet_by_steps, .pause = step, .record = count_event, .count = count_steps, .repeats = true};
 
 /* Thread 0 is the first to run, and alone. */
 static void set_steps(struct bench *b)

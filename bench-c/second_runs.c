@@ -50,17 +50,13 @@ static bool is_violated_by_load(struct bench *b, struct second_runs *it)
     return judge_moved(b, it, made->before) == TMWATCH_OPAQUE_SO_FAR && judge_moved(b, it, made->value) == TMWATCH_VIOLATED;
 }
 
-static tmwatch_plan next_plan(const struct session *session, uint64_t leg, uint64_t *draws);
-
 /* Makes a second run in this process, whose session is as before the run: whether the record that would be is violated. (One that is stuck
    leaves its watch open, so that none is judged.) */
-static bool make_second_run(struct session *session)
+static bool make_second_run(struct session *session, tmwatch_plan plan)
 {
     static struct bench bench;
     struct second_runs *it = session->second_runs;
-    uint64_t draws = 0;
     tmwatch_benched out;
-    tmwatch_plan plan = next_plan(session, 0, &draws);
     plan.rounds = it->delays.made->round - 1;
     plan.seconds = 0;
     plan.patience = 1;
@@ -72,11 +68,10 @@ static bool make_second_run(struct session *session)
 }
 
 /* Waits until the run is over, and makes second runs until the record of one would be violated. */
-static void make_second_runs(struct session *session)
+static void make_second_runs(struct session *session, const tmwatch_plan *first)
 {
     struct second_runs *it = session->second_runs;
     int none = open("/dev/null", O_WRONLY);
-    prctl(PR_SET_PDEATHSIG, SIGKILL);
     dup2(none, STDOUT_FILENO);
     dup2(none, STDERR_FILENO);
     await(&it->goes);
@@ -85,7 +80,7 @@ static void make_second_runs(struct session *session)
         it->delays.made = &it->delays.found[i];
         pid_t child = fork();
         if (child == 0) {
-            it->is_violated = make_second_run(session);
+            it->is_violated = make_second_run(session, *first);
             _exit(0);
         }
         waitpid(child, NULL, 0);
@@ -94,19 +89,17 @@ static void make_second_runs(struct session *session)
 }
 
 /* Splits off the process of the second runs, if the first leg has the orders of C++20. */
-static void start_second_runs(struct session *session)
+static void start_second_runs(struct session *session, const tmwatch_plan *first)
 {
-    uint64_t draws = 0;
-    const tmwatch_plan plan = next_plan(session, 0, &draws);
-    if (plan.orders != TMWATCH_CXX || plan.crashes > 0)
+    if (first->orders != TMWATCH_CXX || first->crashes > 0)
         return;
     struct second_runs *it = mmap(NULL, sizeof *it, PROT_READ | PROT_WRITE, MAP_SHARED | MAP_ANONYMOUS, -1, 0);
     if (it == MAP_FAILED)
         return;
     session->second_runs = it;
-    pid_t process = sem_init(&it->goes, 1, 0) == 0 ? fork() : -1;
+    pid_t process = sem_init(&it->goes, 1, 0) == 0 ? split() : -1;
     if (process == 0)
-        make_second_runs(session);
+        make_second_runs(session, first);
     it->process = process;
 }
 

@@ -55,9 +55,7 @@ static bool takes(struct tries *all, const tmwatch_plan *plan, unsigned seeds)
             await_process(last->process);
         if (last && last->is_found && (!best || last->benched.event < best->benched.event))
             best = last;
-        next->process = 0;
-        next->is_found = false;
-        next->plan = *plan;
+        *next = (struct tried){.plan = *plan};
         next->plan.seed = seeds > 1 ? i + 1 : plan->seed;
         next->plan.seconds = seeds > 1 && left > TRY_SECONDS ? TRY_SECONDS : left;
         next->plan.patience = TRY_SECONDS;
@@ -78,7 +76,7 @@ static void make_one_smaller(struct tries *all, const struct smaller *it)
         if (*number <= it->numbers[i] && !(it->to == TO(attempts) && *number == 0))
             return;
         *number = it->numbers[i];
-        is_taken = next.attempts <= most_attempts(&next) / next.threads && takes(all, &next, SEEDS);
+        is_taken = next.attempts <= most_of_thread(&next) && takes(all, &next, SEEDS);
     }
 }
 

@@ -4,17 +4,12 @@
 static void make_part(tmwatch_attempt *a)
 {
     struct bench *b = a->bench;
-    bool (*const has_more)(tmwatch_attempt *) = by_steps(b) ? meet_by_steps : by_permits(b) ? go_on : meet;
     this_thread = a;
     b->steps.tid[a->thread] = (int)syscall(SYS_gettid); /* (the watchdog looks at this) */
     set_accesses(a);
     b->come++;
     while (b->come < b->running)
         sched_yield();
-    /* (by steps, thread 0 begins the first round) */
-    bool waits = by_steps(b) && a->thread > 0 && !b->restart;
-    if (waits)
-        wait_turn(a);
     /* (after its crash, the memory starts again, and then it is looked at) */
     if (b->restart) {
         b->restart(b->memory.memory);
@@ -23,7 +18,7 @@ static void make_part(tmwatch_attempt *a)
         look(a);
         b->stops = true;
     } else
-        for (bool goes_on = waits ? !b->is_over : has_more(a); goes_on; goes_on = has_more(a))
+        while (b->schedule->next(a))
             make_share(a);
     this_thread = NULL;
     b->ended++;
@@ -60,8 +55,8 @@ static void run_parts(struct bench *b, unsigned from, unsigned to)
         struct worker *it = b->session->workers[i];
         uint64_t draws = b->plan.seed * MOST_THREADS + i;
         it->attempt = &b->parts[i]; /* clang-format off */
-        *it->attempt = (tmwatch_attempt){.bench = b, .recorder = &b->recorders[i], .thread = i, .tx = it->tx, .draws = draws, .addends = ~draws,
-                                         .pauses = draws ^ apart_rounds, .written = b->session->written[i]}; /* clang-format on */
+        *it->attempt = (tmwatch_attempt){.bench = b, .recorder = &b->recorders[i], .thread = i, .by = b->schedule, .tx = it->tx, .draws = draws,
+                                         .addends = ~draws, .pauses = draws ^ apart_rounds, .written = b->session->written[i]}; /* clang-format on */
         post(&it->goes);
     }
     judge(b);

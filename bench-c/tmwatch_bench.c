@@ -2,8 +2,8 @@
 #define _GNU_SOURCE
 #include "bench.h"
 #include "time.c"
-#include "jobs.c"
 #include "plan.c"
+#include "jobs.c"
 #include "draws.c"
 #include "attempts.c"
 #include "quiet_look.c"

@@ -54,7 +54,7 @@ static void write_steps(const struct bench *b, FILE *file, uint64_t round)
     const struct steps *s = &b->steps;
     uint64_t from = s->starts[round % STARTS], end = round < s->begun ? s->starts[(round + 1) % STARTS] : UINT64_MAX;
     uint64_t first = s->inner > LISTED ? s->inner - LISTED : 0;
-    if (!by_steps(b) || (first > 0 && s->listed[first % LISTED].recorded > from))
+    if (first > 0 && s->listed[first % LISTED].recorded > from)
         return;
     for (uint64_t i = first; i < s->inner; i++) {
         const struct listed *it = &s->listed[i % LISTED];

@@ -139,7 +139,7 @@ on_bench() {
 
 for compiler in gcc clang; do
     has $compiler "the bench by $compiler" || continue
-    ends "the bench by $compiler, and no conversion that may change a value" 0 build_bench $compiler -std=c11 "${strict[@]}" -Wconversion
+    ends "the bench by $compiler: no conversion changes a value, no cast drops const" 0 build_bench $compiler -std=c11 "${strict[@]}" -Wconversion -Wcast-qual
 done
 ends 'the bench compiles, and looks for undefined behaviour' 0 build_bench "$cc" -std=c11 "${strict[@]}" -fsanitize=undefined
 ends 'the bench compiles' 0 build_bench "$cc" -std=c11 "${strict[@]}"

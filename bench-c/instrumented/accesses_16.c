@@ -17,7 +17,7 @@ TMWATCH_PART void at_wide(const volatile wide *at)
 WIDE(wide, load, const volatile wide *at, int order UNUSED)
 {
     at_wide(at);
-    return __sync_val_compare_and_swap((volatile wide *)(uintptr_t)at, (wide)0, (wide)0);
+    return __sync_val_compare_and_swap((volatile wide *)(uintptr_t)at, (wide)0, (wide)0); /* (nothing else loads so many bytes at once) */
 }
 
 WIDE(wide, compare_exchange_val, volatile wide *at, wide held, wide value, int order UNUSED, int failed UNUSED)

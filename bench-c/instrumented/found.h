@@ -11,10 +11,9 @@ struct found {
     bool is_found;
 };
 
-static int find_library(struct dl_phdr_info *library, size_t size, void *argument)
+static int find_library(struct dl_phdr_info *library, size_t size __attribute__((unused)), void *argument)
 {
     struct found *found = argument;
-    (void)size;
     for (unsigned i = 0; i < library->dlpi_phnum && !found->is_found; i++) {
         uintptr_t from = library->dlpi_addr + library->dlpi_phdr[i].p_vaddr;
         found->is_found = library->dlpi_phdr[i].p_type == PT_LOAD && found->at - from < library->dlpi_phdr[i].p_memsz;

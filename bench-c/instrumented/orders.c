@@ -21,9 +21,10 @@
 #include <unistd.h>
 #include "orders/clocks.c"
 #include "orders/simulation.c"
+#include "orders/sequence.c"
+#include "orders/places.c"
 #include "orders/lines.c"
 #include "orders/findings.c"
 #include "orders/races.c"
-#include "orders/sequence.c"
 #include "orders/delayed.c"
 #include "orders/model.c"

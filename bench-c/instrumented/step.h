@@ -39,18 +39,18 @@ tmwatch_simulation *tmwatch_step_orders(void);
 
 /* Lets others run until this lock or condition, which one of them has to free, is free. Who waits for a signal goes on without one only if
    another thread may send it that isn't one of the bench. */
-enum tmwatch_step_waited tmwatch_step_wait(const void *lock, bool is_for_signal);
+enum tmwatch_step_waited tmwatch_step_wait(const volatile void *lock, bool is_for_signal);
 
 /* A function of locks that the program calls, if the linker wraps none, so that what they order isn't seen; or null. */
 const char *tmwatch_step_unwrapped(void);
 
 /* Those that wait for this lock or condition are able to run; or one of them is, as drawn. */
-void tmwatch_step_free(const void *lock, bool is_for_one);
+void tmwatch_step_free(const volatile void *lock, bool is_for_one);
 
 /* For a lock that isn't one of C, in any thread (waits.c); and a block of a type that isn't one of C is given back (block_frees.c). */
 bool tmwatch_lock_tried(void);
-bool tmwatch_lock_awaited(const void *lock);
-void tmwatch_lock_taken(const void *lock);
+bool tmwatch_lock_awaited(const volatile void *lock);
+void tmwatch_lock_taken(const volatile void *lock);
 void tmwatch_lock_returning(const volatile void *lock);
-void tmwatch_lock_returned(const void *lock);
+void tmwatch_lock_returned(const volatile void *lock);
 void tmwatch_step_gives_back(const void *block, size_t size);

@@ -66,22 +66,22 @@ void tmwatch_lock_returning(const volatile void *lock)
     }
 /* A lock or a semaphore is tried, or taken. By steps a thread tries until it is free, or no other thread is able to run: a time is over then,
    with the status that says so, and without one that is left to the C library. */
-#define LOCK(name, try_name, lock_type, is_shared)                                                    \
-    WRAPPED(int, try_name, lock_type *lock)                                                           \
-    {                                                                                                 \
-        is_stepped();                                                                                 \
-        return has_locked(__real_##try_name(lock), lock, is_shared);                                  \
-    }                                                                                                 \
-    __attribute__((weak)) int __real_##name(lock_type *lock);                                         \
-    static int name##_by_steps(lock_type *lock, int over)                                             \
-    {                                                                                                 \
-        int status;                                                                                   \
-        while (is_held(status = __real_##try_name(lock)) && tmwatch_lock_awaited((const void *)lock)) \
-            ;                                                                                         \
-        if (is_held(status))                                                                          \
-            status = over ? (errno = ETIMEDOUT, over) : __real_##name(lock);                          \
-        return has_locked(status, lock, is_shared);                                                   \
-    }                                                                                                 \
+#define LOCK(name, try_name, lock_type, is_shared)                                      \
+    WRAPPED(int, try_name, lock_type *lock)                                             \
+    {                                                                                   \
+        is_stepped();                                                                   \
+        return has_locked(__real_##try_name(lock), lock, is_shared);                    \
+    }                                                                                   \
+    __attribute__((weak)) int __real_##name(lock_type *lock);                           \
+    static int name##_by_steps(lock_type *lock, int over)                               \
+    {                                                                                   \
+        int status;                                                                     \
+        while (is_held(status = __real_##try_name(lock)) && tmwatch_lock_awaited(lock)) \
+            ;                                                                           \
+        if (is_held(status))                                                            \
+            status = over ? (errno = ETIMEDOUT, over) : __real_##name(lock);            \
+        return has_locked(status, lock, is_shared);                                     \
+    }                                                                                   \
     STEPPED(int, return, name, (lock), name##_by_steps(lock, 0), lock_type * lock)
 #define UNTIL const struct timespec *until
 #define TIMED(name, lock_name, lock_type, over) \
@@ -89,17 +89,17 @@ void tmwatch_lock_returning(const volatile void *lock)
 #define CLOCKED(name, lock_name, lock_type, over) \
     STEPPED(int, return, name, (lock, clock, until), lock_name##_by_steps(lock, over), lock_type * lock, clockid_t clock, UNTIL)
 /* It is given back: those that wait for it are able to run then. */
-#define UNLOCK(name, lock_type)                           \
-    WRAPPED(int, name, lock_type *lock)                   \
-    {                                                     \
-        bool is_run = is_stepped();                       \
-        tmwatch_lock_returning(lock);                     \
-        int status = __real_##name(lock);                 \
-        if (is_run) {                                     \
-            tmwatch_step_free((const void *)lock, false); \
-            tmwatch_step_at(TMWATCH_CALLER, 1);           \
-        }                                                 \
-        return status;                                    \
+#define UNLOCK(name, lock_type)                 \
+    WRAPPED(int, name, lock_type *lock)         \
+    {                                           \
+        bool is_run = is_stepped();             \
+        tmwatch_lock_returning(lock);           \
+        int status = __real_##name(lock);       \
+        if (is_run) {                           \
+            tmwatch_step_free(lock, false);     \
+            tmwatch_step_at(TMWATCH_CALLER, 1); \
+        }                                       \
+        return status;                          \
     }
 /* A lock that is tried, taken, or taken within a time by one of two clocks, by functions of such names. */
 #define LOCKS(prefix, how, lock_type, is_shared, over)            \
@@ -125,17 +125,17 @@ bool tmwatch_lock_tried(void)
     return is_stepped();
 }
 
-bool tmwatch_lock_awaited(const void *lock)
+bool tmwatch_lock_awaited(const volatile void *lock)
 {
     return tmwatch_step_wait(lock, false) != TMWATCH_STEP_ALONE;
 }
 
-void tmwatch_lock_taken(const void *lock)
+void tmwatch_lock_taken(const volatile void *lock)
 {
     has_locked(0, lock, false);
 }
 
-void tmwatch_lock_returned(const void *lock)
+void tmwatch_lock_returned(const volatile void *lock)
 {
     if (!tmwatch_step_is_run())
         return;

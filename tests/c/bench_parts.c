@@ -213,7 +213,7 @@ static void check_locks(void)
     static struct bench leg;
     struct session of = {.memory = &memory, .plan = &given};
     tmwatch_benched out;
-    tmwatch_plan plan = filled_plan(&given, NULL);
+    tmwatch_plan plan = filled_plan(&given, usual);
     plan.schedule = TMWATCH_STEPS;
     plan.rounds = 200;
     plan.adds = 0;

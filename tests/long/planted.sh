@@ -55,7 +55,7 @@ plant_steps() {
         done >"$OBJECT"' --then "$refused && tests/c_waits.sh && tests/orders.sh" "${files[@]/%/.c}" -- tests/c_steps.sh
 }
 plant_model() {
-    local files=(clocks delayed findings lines model races sequence simulation)
+    local files=(clocks delayed findings lines model places races sequence simulation)
     files=("${files[@]/#/bench-c/instrumented/orders/}")
     # shellcheck disable=SC2016
     planted model --build "$compile"' -c -o "$OBJECT" bench-c/instrumented/orders.c' "${files[@]/%/.c}" -- sh -c '

@@ -20,7 +20,7 @@ static bool shows(struct record it)
 {
     static const tmwatch_delay made = {.loader = READER, .storer = WRITER, .before = BEFORE, .value = STORED};
     memset(bench.kept, 0, sizeof bench.kept);
-    bench.plan = filled_plan(&(tmwatch_plan)TMWATCH_PLAN, NULL);
+    bench.plan = filled_plan(&(tmwatch_plan)TMWATCH_PLAN, usual);
     bench.plan.registers = it.registers;
     for (unsigned reg = 0; reg < it.registers; reg++)
         bench.plan.start[reg] = reg * START;
