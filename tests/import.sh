@@ -224,6 +224,12 @@ judged 'intervals, an unknown one that begins after its reader' "$(violated 4 8)
 {"begin": 5, "result": "info", "calls": [["w", "x", 1]]}
 {"begin": 2, "end": 3, "result": "ok", "calls": [["r", "x", 1]]}
 END_OF_HISTORY
+# (it ends with its first reader: open until the last one, it would leave the run undecided)
+read_ten_times() {
+    echo '{"begin": 1, "result": "info", "calls": [["w", "x", 1]]}'
+    for n in {2..11}; do echo "{\"begin\": $n, \"end\": $n.5, \"result\": \"ok\", \"calls\": [[\"r\", \"x\", 1]]}"; done
+}
+judged 'intervals, an unknown one with ten readers' "$(so_far 44)" intervals.py < <(read_ten_times)
 judged 'intervals, a number that is no string' "$(violated 7 8)" intervals.py <<'END_OF_HISTORY'
 {"begin": 1, "end": 3, "result": "ok", "calls": [["r", "x", "1"]]}
 {"begin": 2, "end": 4, "result": "ok", "calls": [["w", "x", 1]]}
@@ -285,6 +291,10 @@ ends 'intervals, their names' 0 diff "$folder/names" - <<'END_OF_NAMES'
 7 18446744073709551615 18446744073709551615
 END_OF_NAMES
 judged 'intervals, a key that is a text of digits' "$(so_far 4)" intervals.py 5 <<<"$nine"
+judged 'intervals, of a key beyond ASCII' "$(so_far 4)" intervals.py é <<<"${nine/'"5"'/'"é"'}"
+ends 'intervals, a key that is no character' 0 convert intervals.py --names "$folder/names" \
+    <<<'{"begin": 1, "end": 2, "result": "ok", "calls": [["w", "\ud800", 1]]}'
+ends 'intervals, a key that is no character: its name' 0 grep -xF '0 "\ud800"' "$folder/names"
 ends 'intervals, registers that nobody uses' 0 convert intervals.py 7 <<<"$nine"
 ends 'intervals, registers that nobody uses: how many' 0 grep -x 'opacity-trace 1 8' "$folder/trace"
 
@@ -333,7 +343,7 @@ refused 'intervals, a name of a file without a folder' "[Errno 2] No such file o
 refused 'intervals, another option' 'unrecognized arguments: --name' intervals.py --names "$folder/names" --name <<<"$lost_update"
 is_written_to_full() {
     local status=0
-    "$import/intervals.py" <<<"$lost_update" 2>"$folder/told" >/dev/full || status=$?
+    env -u PYTHONUNBUFFERED "$import/intervals.py" <<<"$lost_update" 2>"$folder/told" >/dev/full || status=$?
     [ $status -eq 4 ] && grep -x 'intervals.py: .*No space left on device' "$folder/told"
 }
 ends 'intervals, a full device' 0 is_written_to_full

@@ -420,7 +420,9 @@ page_holds() {
     rm -r "$slim/tmp/out"
 }
 if has_slim; then
-    cp "$folder"/once/*.deb "$slim/tmp"
+    read -r files to < <(sed -n 's/^COPY //p' "$top/packaging/Dockerfile")
+    # shellcheck disable=SC2086
+    (cd "$folder/once" && cp $files "$slim/$to")
     while read -r command; do
         ends "Dockerfile: $command" 0 in_slim sh -c "$command"
     done < <(sed -n '/apt-get/d; s/^RUN //p' "$top/packaging/Dockerfile")

@@ -278,8 +278,8 @@ left_by_reader() {
 streams() {
     echo '{"registers":1,"scripts":[[["W 0 5","T"]]],"order":[0,0]}' >"$folder/workload"
     local headless='{"fault":"bad header"}'
-    streams_of "$top/examples/dirty_read.trace" "$headless"$'\nerror: line 1 is no header such as opacity-trace 1 8: ""' judge
-    streams_of "$top/examples/dirty_read.trace" "$headless"$'\nerror: line 1 is no header such as opacity-trace 1 8: ""' show
+    streams_of "$top/examples/dirty_read.trace" "$headless"$'\nerror: the input is empty or begins with an empty line: no header such as opacity-trace 1 8' judge
+    streams_of "$top/examples/dirty_read.trace" "$headless"$'\nerror: the input is empty or begins with an empty line: no header such as opacity-trace 1 8' show
     streams_of "$top/examples/stopped_writer.steps" "$headless" steps
     streams_of "$folder/workload" '{"fault":"json"}' drive --trace
     streams_of "$folder/workload" '{"fault":"json"}' bench --trace

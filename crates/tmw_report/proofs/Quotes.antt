@@ -1,5 +1,5 @@
 -- What is told of a line that has a fault, by what a reader of a trace holds of it, is what is told of the line with its number.
-use Rattle.tmw_report.proofs.Shared.{Err, IsSent, List, Ok, Puts, QuotesLine, Result, Some, ap, arith, fault_of, inl, inr, length, length-take, nat_lt, number_of, quoted, refl, sym, take, take-take, trace_grammar, trace_text, version_digit, version_in, wrong_of, ℕ, ◌++◌, ◌+◌, ◌∙◌, ◌≡◌}
+use Rattle.tmw_report.proofs.Shared.{Err, IsSent, List, Ok, Puts, QuotesLine, Result, Some, ap, arith, fault_of, inl, inr, is_empty_header, length, length-take, nat_lt, number_of, quoted, refl, sym, take, take-take, trace_grammar, trace_text, version_digit, version_in, wrong_of, ℕ, ◌++◌, ◌+◌, ◌==◌, ◌∙◌, ◌≡◌}
 use Rattle.std.proofs.lemmas.Bool.Decides.{nat_tests}
 use Rattle.tmw_lines.specs.ReadItems.{AreReadFor, FailsHolding}
 use Rattle.tmw_lines.specs.Lines.{format_by, unread_bytes}
@@ -31,6 +31,13 @@ quoted-cut text =
 quoted-held : (held text : List ℕ) → take 4096 held ≡ take 4096 text → quoted held ≡ quoted text
 quoted-held held text same = sym (quoted-cut held) ∙ ap quoted same ∙ quoted-cut text
 
+-- whether a line is empty depends on no byte behind its first 4,096
+empty-cut : (text : List ℕ) → (length (take 4096 text) == 0) ≡ (length text == 0)
+empty-cut text = simp length-take (grind (arith, nat_tests))
+
+empty-held : (held text : List ℕ) → take 4096 held ≡ take 4096 text → (length held == 0) ≡ (length text == 0)
+empty-held held text same = sym (empty-cut held) ∙ ap (λ (xs : List ℕ). length xs == 0) same ∙ empty-cut text
+
 version-told : (header : Header) (events : List Event) (rest : List ℕ)
     → version_digit header.version ≡ version_in (trace_text header events ++ rest)
 version-told header events rest = refl
@@ -38,20 +45,23 @@ version-told header events rest = refl
 -- where the texts are the same, what is told of one is told of the other
 told-same : {E : Type 0} (Errors : ToSink E) (number : ℕ) (fault : Fault) (version : Version) (held bytes : List ℕ) (old new : E)
     → wrong_of fault (version_digit version) ≡ wrong_of fault (version_in bytes)
+    → is_empty_header fault held ≡ is_empty_header fault (line_at number bytes)
     → take 4096 held ≡ take 4096 (line_at number bytes)
     → QuotesHeld Errors (Some number) fault version held old new → QuotesLine Errors (Some number) fault bytes old new
-told-same Errors number fault version held bytes old new wrong same told =
-    rw (← wrong, ← quoted-held held (line_at number bytes) same) told
+told-same Errors number fault version held bytes old new wrong empty same told =
+    rw (← wrong, ← empty, ← quoted-held held (line_at number bytes) same) told
 
 module _ {E : Type 0} (Errors : ToSink E) (Ended : Type 0) (lines : Lines Version) (bytes : List ℕ) (old new : E) where
   -- of a fault of the first line
   pub quoted-first : (told : TextFault) → HasFirstLineFault trace_grammar Ended bytes told → HoldsFront (unread_bytes lines) bytes
       → QuotesHeld Errors (number_of (fault_of told)) (fault_of told) (format_by lines) (front_of (unread_bytes lines)) old new
       → QuotesLine Errors (number_of (fault_of told)) (fault_of told) bytes old new
-  quoted-first BadHeader has holds = told-same Errors 1 (fault_of BadHeader) (format_by lines) _ bytes old new refl holds
+  quoted-first BadHeader has holds =
+      told-same Errors 1 (fault_of BadHeader) (format_by lines) _ bytes old new refl
+      (empty-held (front_of (unread_bytes lines)) (front_of bytes) holds) holds
   quoted-first (BadLine number) has holds = absurd has
   quoted-first (Cut number) has holds =
-      told-same Errors number (fault_of (Cut number)) (format_by lines) _ bytes old new refl
+      told-same Errors number (fault_of (Cut number)) (format_by lines) _ bytes old new refl refl
       (holds ∙ ap (λ n. take 4096 (line_at n bytes)) (sym has.1))
   quoted-first Memory has holds = λ told. told
   quoted-first Io has holds = λ told. told
@@ -75,9 +85,9 @@ module _ {E : Type 0} (Errors : ToSink E) (Ended : Type 0) (lines : Lines Versio
     quoted-behind BadHeader f = absurd f.fails.line
     quoted-behind (BadLine number) f =
         told-same Errors number (fault_of (BadLine number)) (format_by lines) _ bytes old new
-        (ap (wrong_of (fault_of (BadLine number))) (version (BadLine number) f)) (behind number (BadLine number) f f.fails.line.1)
+        (ap (wrong_of (fault_of (BadLine number))) (version (BadLine number) f)) refl (behind number (BadLine number) f f.fails.line.1)
     quoted-behind (Cut number) f =
-        told-same Errors number (fault_of (Cut number)) (format_by lines) _ bytes old new refl
+        told-same Errors number (fault_of (Cut number)) (format_by lines) _ bytes old new refl refl
         (behind number (Cut number) f f.fails.line.1)
     quoted-behind Memory f = absurd f.fails.line
     quoted-behind Io f = λ told. told

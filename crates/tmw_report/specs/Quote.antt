@@ -1,5 +1,5 @@
 -- What the sink for errors is told of a fault that is at a line of a trace: which line, what is wrong with it, and how it begins.
-use Rattle.std.specs.Prelude.{◌≡◌, ◌==◌, ◌&&◌, ◌||◌, ◌++◌, ◌+◌, ◌/◌, ◌%◌, ℕ, List, [], ◌∷◌, length, take, get_or, nat_le, nat_lt, Option, Some, None, Result, Ok, Err, codes, if◌then◌else◌}
+use Rattle.std.specs.Prelude.{◌≡◌, ◌==◌, ◌&&◌, ◌||◌, ◌++◌, ◌+◌, ◌/◌, ◌%◌, ℕ, Bool, false, List, [], ◌∷◌, length, take, get_or, nat_le, nat_lt, Option, Some, None, Result, Ok, Err, codes, if◌then◌else◌}
 use Rattle.std.specs.Fmt.{decimal}
 use Rattle.std.specs.List.{flat_map}
 use Rattle.tmw_lines.specs.LineFeeds.{line, line_at}
@@ -45,10 +45,20 @@ wrong_of BadHeader version = codes " is no header such as opacity-trace 1 8: "
 wrong_of (Cut number) version = codes " has no line feed: "
 wrong_of _ version = codes " is no event of version " ++ (version ∷ codes ": ")
 
+-- a first line that is empty, as that of no bytes at all is, has nothing to quote
+abbrev pub is_empty_header : Fault → List ℕ → Bool
+is_empty_header BadHeader text = length text == 0
+is_empty_header _ text = false
+
+abbrev pub empty_text : List ℕ
+empty_text = codes "error: the input is empty or begins with an empty line: no header such as opacity-trace 1 8"
+
 -- the whole line that is told
 abbrev pub quote_text : ℕ → Fault → ℕ → List ℕ → List ℕ
 quote_text number fault version text =
-    ((codes "error: line " ++ decimal number) ++ wrong_of fault version) ++ quoted text
+    if is_empty_header fault text
+    then empty_text
+    else (((codes "error: line " ++ decimal number) ++ wrong_of fault version) ++ quoted text)
 
 -- the digit of the version, which a trace's header tells behind its first word
 abbrev pub version_in : List ℕ → ℕ

@@ -2,7 +2,7 @@ ghost use Rattle.std.specs.Prelude.{◌≡◌, ◌<◌, ◌++◌, option_map};
 ghost use Rattle.tmw_lines.specs.Lines.{format_by, unread_bytes};
 ghost use Rattle.tmw_lines.specs.LineFeeds.{front_of};
 ghost use Rattle.tmw_report.specs.SendText.{fault_of};
-ghost use Rattle.tmw_report.specs.Quote.{escaped, escaped_byte, hex_digit, number_of, quote_end, quoted, quote_text, wrong_of};
+ghost use Rattle.tmw_report.specs.Quote.{escaped, escaped_byte, hex_digit, is_empty_header, number_of, quote_end, quoted, quote_text, wrong_of};
 ghost use Rattle.tmw_report.specs.QuotesHeld.{QuotesHeld, text_of};
 ghost use Rattle.tmw_streams.specs.Transfers.{Puts};
 ghost use Rattle.tmw_trace.specs.Text.{version_digit};
@@ -16,6 +16,10 @@ use tmw_trace::{TraceLines, Version};
 
 /// The most bytes of a line that are quoted.
 const MOST_QUOTED: usize = 80;
+
+/// What is told of an empty first line.
+const EMPTY: &[u8] =
+    b"error: the input is empty or begins with an empty line: no header such as opacity-trace 1 8";
 
 /// A line of a trace that has a fault.
 #[derive(Drop)]
@@ -33,6 +37,9 @@ impl Texts<Quote<'_>> for QuoteTexts {
     ghost text = { text_of };
 
     fn put_text<K: Sink>(sink: &mut K, quote: &Quote<'_>) -> Result<(), IoFault> {
+        if is_empty_header(quote.fault, quote.line) {
+            return put_all(sink, EMPTY);
+        }
         let wrong = wrong_of(quote.fault, quote.version);
         put_numbered(sink, b"error: line ", quote.number, wrong)?;
         put_quoted(sink, quote.line)
@@ -78,6 +85,13 @@ fn number_of(fault: Fault) -> Option<u64>
         Fault::BadLine(number) | Fault::Cut(number) => Some(number),
         _ => None,
     }
+}
+
+/// Tells whether that line is the first and empty, as that of no bytes at all is.
+fn is_empty_header(fault: Fault, line: &[u8]) -> bool
+    ensures { result ≡ is_empty_header fault line.now }
+{
+    matches!(fault, Fault::BadHeader) && line.is_empty()
 }
 
 /// What is wrong with that line.

@@ -1,5 +1,7 @@
--- The quoted line came after what is wrong with it.
-use Rattle.tmw_report.proofs.Shared.{List, Puts-front, Puts-more, codes, decimal, quoted, version_digit, wrong_of, ℕ, ◌++◌}
+-- The quoted line came after what is wrong with it, or an empty line was told.
+use Rattle.tmw_report.proofs.Shared.{List, Puts, Puts-front, Puts-more, codes, decimal, false, is_empty_header, quoted, refl, subst, sym, true, version_digit, wrong_of, ℕ, ◌++◌, ◌∙◌, ◌≡◌}
+use Rattle.tmw_report.specs.Quote.{empty_text}
+use Rattle.tmw_report.specs.QuotesHeld.{text_of}
 use Rattle.tmw_report.specs.declared.quote.Quote.{Quote}
 use Rattle.tmw_report.proofs.quote.QuoteTextsTextsQuote.put_text.Goals as goal
 
@@ -7,14 +9,33 @@ use Rattle.tmw_report.proofs.quote.QuoteTextsTextsQuote.put_text.Goals as goal
 abbrev complaint : Quote → List ℕ
 complaint quote = (codes "error: line " ++ decimal quote.number) ++ wrong_of quote.fault (version_digit quote.version)
 
+text-empty : (quote : Quote) → is_empty_header quote.fault quote.line.now ≡ true → empty_text ≡ text_of quote
+text-empty quote is = rw is refl
+
+text-quoted : (quote : Quote) → is_empty_header quote.fault quote.line.now ≡ false
+    → complaint quote ++ quoted quote.line.now ≡ text_of quote
+text-quoted quote not = rw not refl
+
+pub returns-then-is_empty_header : goal.returns-then-is_empty_header
+returns-then-is_empty_header g c =
+    let is = sym c.is_empty_header.ensures ∙ c.if-is_empty_header.true in
+    subst (λ (text : List ℕ). Puts g.K.Sink.to c.args.sink.now text c.put_all.new.sink c.put_all.result)
+    (text-empty c.args.quote.now is) c.put_all.ensures
+
 pub returns-in_err-put_numbered : goal.returns-in_err-put_numbered
 returns-in_err-put_numbered g c =
     let quote = c.args.quote.now in
-    Puts-front g.K.Sink.to c.args.sink.now c.put_numbered.new.sink (complaint quote) (quoted quote.line.now)
-    c.from_residual.result c.from_residual.ensures.0 (rw c.wrong_of-wrong.ensures at c.in_err-put_numbered.ensures)
+    let not = sym c.is_empty_header.ensures ∙ c.if-is_empty_header.false in
+    subst (λ (text : List ℕ). Puts g.K.Sink.to c.args.sink.now text c.put_numbered.new.sink c.from_residual.result)
+    (text-quoted quote not)
+    (Puts-front g.K.Sink.to c.args.sink.now c.put_numbered.new.sink (complaint quote) (quoted quote.line.now)
+    c.from_residual.result c.from_residual.ensures.0 (rw c.wrong_of-wrong.ensures at c.in_err-put_numbered.ensures))
 
 pub returns : goal.returns
 returns g c =
     let quote = c.args.quote.now in
-    Puts-more g.K.Sink.to c.args.sink.now c.put_numbered.new.sink (complaint quote) (quoted quote.line.now)
-    c.put_quoted.new.sink c.put_quoted.result (rw c.wrong_of-wrong.ensures at c.in_ok-put_numbered.ensures) c.put_quoted.ensures
+    let not = sym c.is_empty_header.ensures ∙ c.if-is_empty_header.false in
+    subst (λ (text : List ℕ). Puts g.K.Sink.to c.args.sink.now text c.put_quoted.new.sink c.put_quoted.result)
+    (text-quoted quote not)
+    (Puts-more g.K.Sink.to c.args.sink.now c.put_numbered.new.sink (complaint quote) (quoted quote.line.now)
+    c.put_quoted.new.sink c.put_quoted.result (rw c.wrong_of-wrong.ensures at c.in_ok-put_numbered.ensures) c.put_quoted.ensures)
