@@ -37,8 +37,7 @@ pub record HasRested (count : ℕ) (old new : RestIs) : Type 0 where
   pub all : all_of new ≡ all_of old
   pub judged : HasJudged count (rest_front old) (rest_front new)
 
--- The call has judged up to so many events, and fewer only where none is left. It has done nothing
--- where it was to judge none.
+-- The call has judged up to so many events, and fewer only where none is left. It has done nothing where it was to judge none.
 pub record IsRested (max : ℕ) (pumped : Pumped) (old new : RestIs) : Type 0 where
   pub counted : HasRested pumped.judged old new
   pub within : pumped.judged ≤ max

@@ -22,8 +22,8 @@ use tmw_ring::{Reader, Ring, Writer};
 
 /// A pump that takes events from a running ring and judges them, by the definition of opacity (Guerraoui and Kapalka
 /// 2008, section 5) at each prefix. What it has judged is a beginning of the ring's one log: what its reader has
-/// taken. It keeps of that what `K` keeps: a `Pump`
-/// all of it, and a `Pump<()>` nothing, so that its memory is the monitor's, however long the run.
+/// taken. It keeps of that what `K` keeps: a `Pump` all of it, and a `Pump<()>` nothing, so that its memory is the
+/// monitor's, however long the run, and no call of it lacks any.
 #[derive(Drop)]
 pub struct Pump<K: Keep = Vec<Event>> {
     reader: Reader,
