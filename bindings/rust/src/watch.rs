@@ -146,7 +146,7 @@ impl Watch {
         Ok((watch, recorders))
     }
 
-    /// Judges up to `most` events, and returns how many. After [`Status::Memory`], call it again: no event is lost.
+    /// Judges up to `most` events, and returns how many. It takes no memory.
     pub fn pump(&self, most: u64) -> Result<u64, Status> {
         let mut judged = 0;
         // SAFETY: only this thread has the watch, and within no other call.

@@ -117,7 +117,7 @@ fn judges_as_it_says(ring: &Ring, pump: &mut Pump) -> bool
     let is_violated = verdict == Verdict::Violated(4);
     let as_said = match answer {
         Ok(pumped) => !pump.held() && done(more, verdict) == Ok(pumped),
-        Err(_) => pump.held() && more < 3,
+        Err(_) => !pump.held() && more < 3,
     };
     as_said && is_violated == (judged.len() == 4) && dirty_read()[..4].starts_with(judged)
 }

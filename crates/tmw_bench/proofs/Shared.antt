@@ -30,7 +30,7 @@ pub use Rattle.tmw_events.specs.declared.event.Kind.{Kind}
 pub use Rattle.tmw_monitor.specs.Fits.{Fits, rules_of}
 pub use Rattle.tmw_pump.proofs.KindsMade.{kinds_made-append, kinds_made-made_from}
 pub use Rattle.tmw_pump.proofs.Turns.{all_judged, judged-none}
-pub use Rattle.tmw_pump.specs.Front.{HasJudged, came, front_part}
+pub use Rattle.tmw_pump.specs.Front.{HasJudged, front_part}
 pub use Rattle.tmw_pump.specs.Headline.{Headline, IsLogOf}
 pub use Rattle.tmw_pump.specs.WriterKinds.{kinds_made}
 pub use Rattle.tmw_pump.specs.declared.front.Front.{Front}

@@ -24,6 +24,8 @@ impl<'a, P: Progress> Keep for Hunting<'a, P> {
 
     ghost awaits = { λ monitor next hunting. IsNext monitor next × HasPlaceFor next hunting.window };
 
+    ghost refuses = { Unit {0} };
+
     fn make_room(&mut self, monitor: &Monitor) -> Result<WindowChange, AllocError> {
         self.window.make_room(monitor)
     }

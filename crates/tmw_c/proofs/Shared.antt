@@ -11,7 +11,7 @@ pub use Rattle.tmw_ring.specs.RingEnds.{RingIs, WriterIs}
 pub use Rattle.tmw_runs.specs.Runs.{IsWholeText, is_abort}
 pub use Rattle.tmw_runs.specs.ByTurns.{Follows, IsByTurns, LeavesCalls}
 pub use Rattle.tmw_watch.specs.Close.{AreAll, HasEnded, writers_of}
-pub use Rattle.tmw_watch.specs.WatchParts.{rest_of, writer_of}
+pub use Rattle.tmw_watch.specs.WatchParts.{writer_of}
 pub use Rattle.tmw_watch.specs.declared.recorder.Recorder.{Recorder}
 pub use Rattle.tmw_watch.specs.declared.watch.Watch.{Watch}
 pub use Rattle.tmw_c.specs.Close.{AreHeld, AreInPlace, IsClosing, IsHeld, IsHeldOf, IsUnended}

@@ -1,7 +1,7 @@
 -- How a call to close a watch is answered.
 use Rattle.std.specs.Prelude.{◌≡◌, ◌⊎◌, ◌<◌, ℕ, List, Option, Some, None, length, get_or, All}
 use Rattle.std.specs.Global.{Vec}
-use Rattle.tmw_c.specs.Judge.{IsTold}
+use Rattle.tmw_c.specs.Judge.{IsNotOpen, IsTold}
 use Rattle.tmw_c.specs.Open.{AreEmpty}
 use Rattle.tmw_c.specs.declared.call_status.CallStatus.{CallStatus}
 use Rattle.tmw_c.specs.declared.call_status.CallStatus.TheVariants.{Done, NoHandle, Missing, Memory, Closing}
@@ -9,12 +9,11 @@ use Rattle.tmw_c.specs.declared.c_verdict.CVerdict.{CVerdict}
 use Rattle.tmw_handles.specs.HandleContent.{HasNumber, recorder_in}
 use Rattle.tmw_handles.specs.declared.held_recorder.HeldRecorder.{HeldRecorder}
 use Rattle.tmw_handles.specs.declared.held_watch.HeldWatch.{HeldWatch}
-use Rattle.tmw_handles.specs.declared.held_watch.HeldWatch.TheVariants.{Open, Left, Shared, Closed}
+use Rattle.tmw_handles.specs.declared.held_watch.HeldWatch.TheVariants.{Open, Shared}
 use Rattle.tmw_handles.specs.declared.recorder_handle.RecorderHandle.{RecorderHandle}
 use Rattle.tmw_ring.specs.RingEnds.{RingIs, WriterIs}
-use Rattle.tmw_watch.specs.Close.{IsClosed, IsJudged, IsLeft, IsUnjudged, writers_of}
-use Rattle.tmw_watch.specs.WatchParts.{recorder_count, recorder_ring, rest_of, watch_ring}
-use Rattle.tmw_watch.specs.declared.leftover.Leftover.{Leftover as WhatIsLeft}
+use Rattle.tmw_watch.specs.Close.{IsClosed, writers_of}
+use Rattle.tmw_watch.specs.WatchParts.{recorder_count, recorder_ring, watch_ring}
 use Rattle.tmw_watch.specs.declared.recorder.Recorder.{Recorder}
 use Rattle.tmw_watch.specs.declared.report.WatchReport.{WatchReport}
 use Rattle.tmw_watch.specs.declared.watch.Watch.{Watch}
@@ -61,13 +60,6 @@ pub record WasClosed (held : HeldWatch) (olds news : List RecorderHandle) (repor
   pub taken : WereTaken recorders olds news
   pub closed : IsClosed watch recorders report
 
--- What an earlier call had left to be judged was judged: this is the report of all of it.
-pub record WasFinished (held : HeldWatch) (olds news : List RecorderHandle) (report : WatchReport) : Type 0 where
-  pub closing : WhatIsLeft
-  pub left : held ≡ Left closing
-  pub judged : IsJudged (rest_of closing) report
-  pub same : news ≡ olds
-
 -- All is as it was.
 pub record IsSame (old new : HeldWatch) (olds news : List RecorderHandle) : Type 0 where
   pub watch_same : new ≡ old
@@ -87,27 +79,6 @@ pub record HadNoRoom (old new : HeldWatch) (olds news : List RecorderHandle) : T
   pub all : AreInPlace (recorder_count watch) olds
   pub same : IsSame old new olds news
 
--- The ring of an open watch has ended with all its recorders, which the handles hold no more. Memory was refused before all that it
--- had left was judged, and the watch's handle holds what is left.
-pub record WasLeft (old new : HeldWatch) (olds news : List RecorderHandle) : Type 0 where
-  pub watch : Watch
-  pub opened : old ≡ Open watch
-  pub recorders : List Recorder
-  pub placed : AreInPlace (recorder_count watch) olds
-  pub taken : WereTaken recorders olds news
-  pub closing : WhatIsLeft
-  pub left : new ≡ Left closing
-  pub is_left : IsLeft watch recorders (rest_of closing)
-
--- Of what an earlier call had left more may have been judged, and nothing was lost. Memory was refused again.
-pub record IsStillLeft (old new : HeldWatch) (olds news : List RecorderHandle) : Type 0 where
-  pub before : WhatIsLeft
-  pub after : WhatIsLeft
-  pub was_left : old ≡ Left before
-  pub is_left : new ≡ Left after
-  pub on : IsUnjudged (rest_of before) (rest_of after)
-  pub same : news ≡ olds
-
 -- The ring has an owner beside the watch and its recorders. There is none, as no call makes one. The handle of the watch holds it
 -- and what the recorders recorded by, and the others hold nothing.
 pub record WasShared (old new : HeldWatch) (olds news : List RecorderHandle) : Type 0 where
@@ -120,18 +91,11 @@ pub record WasShared (old new : HeldWatch) (olds news : List RecorderHandle) : T
   pub shared : new ≡ Shared watch writers
   pub theirs : writers.items ≡ writers_of recorders
 
--- Neither a watch that is open, nor what is left to be judged of one.
-abbrev pub IsNeither : HeldWatch → Type 0
-IsNeither (Open watch) = ⊥
-IsNeither (Left closing) = ⊥
-IsNeither (Shared watch writers) = Unit {0}
-IsNeither Closed = Unit {0}
-
 -- why no report came of what was held, and what is held then
 abbrev pub IsUnended : (old new : HeldWatch) → (olds news : List RecorderHandle) → CallStatus → Type 0
 IsUnended old new olds news Missing = LacksRecorders old new olds news
-IsUnended old new olds news Memory = HadNoRoom old new olds news ⊎ WasLeft old new olds news ⊎ IsStillLeft old new olds news
-IsUnended old new olds news Closing = WasShared old new olds news ⊎ (IsNeither old × IsSame old new olds news)
+IsUnended old new olds news Memory = HadNoRoom old new olds news
+IsUnended old new olds news Closing = WasShared old new olds news ⊎ (IsNotOpen old × IsSame old new olds news)
 IsUnended old new olds news _ = ⊥
 
 -- What the handle held was closed. It holds nothing now, and the caller is told the number of all events and the verdict on them.
@@ -140,7 +104,7 @@ pub record HasTold (old new : Option HeldWatch) (olds news : List RecorderHandle
   pub held : old ≡ Some before
   pub gone : new ≡ None
   pub report : WatchReport
-  pub ended : WasClosed before olds news report ⊎ WasFinished before olds news report
+  pub closed : WasClosed before olds news report
   pub is_told : IsTold report.events report.verdict told
 
 -- What the handle held was not closed, and it holds what the status says.

@@ -1,16 +1,16 @@
 -- How a call to judge, or to tell what was judged, is answered.
 use Rattle.std.specs.Prelude.{◌≡◌, ℕ, Option, Some, None, length}
 use Rattle.tmw_c.specs.declared.call_status.CallStatus.{CallStatus}
-use Rattle.tmw_c.specs.declared.call_status.CallStatus.TheVariants.{Done, NoHandle, Memory, Closing}
+use Rattle.tmw_c.specs.declared.call_status.CallStatus.TheVariants.{Done, NoHandle, Closing}
 use Rattle.tmw_c.specs.declared.c_verdict.CVerdict.{CVerdict}
 use Rattle.tmw_defs.specs.declared.verdict.Verdict.{Verdict}
 use Rattle.tmw_defs.specs.declared.verdict.Verdict.TheVariants.{OpaqueSoFar, StrictSoFar, Violated, Undecided, Malformed}
 use Rattle.tmw_defs.specs.declared.verdict.Why.TheVariants.{Transactions, States}
 use Rattle.tmw_handles.specs.declared.held_watch.HeldWatch.{HeldWatch}
-use Rattle.tmw_handles.specs.declared.held_watch.HeldWatch.TheVariants.{Open, Left, Shared, Closed}
-use Rattle.tmw_pump.specs.Front.{TellsVerdict, WasRefusedMemory, judged_of, verdict_on}
+use Rattle.tmw_handles.specs.declared.held_watch.HeldWatch.TheVariants.{Open, Shared, Closed}
+use Rattle.tmw_pump.specs.Front.{TellsVerdict, judged_of, verdict_on}
 use Rattle.tmw_pump.specs.Headline.{GivesHeadline}
-use Rattle.tmw_pump.specs.Pump.{HasPumped, IsPumped, reader_of}
+use Rattle.tmw_pump.specs.Pump.{IsPumped, reader_of}
 use Rattle.tmw_pump.specs.declared.pumped.Pumped.{Pumped}
 use Rattle.tmw_watch.specs.WatchParts.{watch_front, watch_pump, watch_ring}
 use Rattle.tmw_watch.specs.declared.watch.Watch.{Watch}
@@ -47,7 +47,6 @@ pub record IsTold (events : ℕ) (verdict : Verdict) (told : CVerdict) : Type 0 
 -- The watch is open no more.
 abbrev pub IsNotOpen : HeldWatch → Type 0
 IsNotOpen (Open watch) = ⊥
-IsNotOpen (Left closing) = Unit {0}
 IsNotOpen (Shared watch writers) = Unit {0}
 IsNotOpen Closed = Unit {0}
 
@@ -68,21 +67,6 @@ pub record WasPumped (most judged : ℕ) (old new : HeldWatch) : Type 0 where
   pub count : judged ≡ pumped.judged
   pub judging : IsPumped most pumped (watch_pump before) (watch_pump after)
 
--- A growth was refused: what was judged stays judged, and the next event is held.
-pub record WasPumpedPartly (most : ℕ) (old new : HeldWatch) : Type 0 where
-  pub before : Watch
-  pub after : Watch
-  pub opened : old ≡ Open before
-  pub stays : new ≡ Open after
-  pub on : IsOn before after
-  pub partly : WasRefusedMemory most
-      (λ count. HasPumped count (watch_pump before) (reader_of (watch_pump after)) (watch_front after)) (watch_front after)
-
-abbrev pub WasNotPumped : ℕ → HeldWatch → HeldWatch → CallStatus → Type 0
-WasNotPumped most old new Memory = WasPumpedPartly most old new
-WasNotPumped most old new Closing = IsNotOpen old × (new ≡ old)
-WasNotPumped most old new _ = ⊥
-
 -- the watch that a handle holds has judged so many events
 pub record WasPumpedHeld (most judged : ℕ) (old new : Option HeldWatch) : Type 0 where
   pub before : HeldWatch
@@ -91,18 +75,18 @@ pub record WasPumpedHeld (most judged : ℕ) (old new : Option HeldWatch) : Type
   pub holds : new ≡ Some after
   pub pumped : WasPumped most judged before after
 
-pub record WasNotPumpedHeld (most : ℕ) (old new : Option HeldWatch) (status : CallStatus) : Type 0 where
-  pub before : HeldWatch
-  pub after : HeldWatch
-  pub held : old ≡ Some before
-  pub holds : new ≡ Some after
-  pub refused : WasNotPumped most before after status
+-- The handle holds what is open no more.
+pub record HoldsNotOpen (old : Option HeldWatch) : Type 0 where
+  pub watch : HeldWatch
+  pub held : old ≡ Some watch
+  pub ended : IsNotOpen watch
 
 -- Each status of a call to pump, with what the handle holds then, and what count the caller is told.
 abbrev pub IsPumping : (most : ℕ) → (old new : Option HeldWatch) → (old_count new_count : ℕ) → CallStatus → Type 0
 IsPumping most old new old_count new_count Done = WasPumpedHeld most new_count old new
 IsPumping most old new old_count new_count NoHandle = (old ≡ None) × (new ≡ None) × (new_count ≡ old_count)
-IsPumping most old new old_count new_count status = WasNotPumpedHeld most old new status × (new_count ≡ old_count)
+IsPumping most old new old_count new_count Closing = HoldsNotOpen old × (new ≡ old) × (new_count ≡ old_count)
+IsPumping most old new old_count new_count _ = ⊥
 
 -- What is told is the verdict on what an open watch has judged, of which the headline holds.
 pub record WasReported (held : HeldWatch) (told : CVerdict) : Type 0 where
@@ -118,12 +102,6 @@ pub record WasReportedHeld (old : Option HeldWatch) (told : CVerdict) : Type 0 w
   pub watch : HeldWatch
   pub held : old ≡ Some watch
   pub reported : WasReported watch told
-
--- The handle holds what is open no more.
-pub record HoldsNotOpen (old : Option HeldWatch) : Type 0 where
-  pub watch : HeldWatch
-  pub held : old ≡ Some watch
-  pub ended : IsNotOpen watch
 
 -- Each status of a call to report. It changes nothing that the handle holds.
 abbrev pub IsReporting : (old new : Option HeldWatch) → (old_told new_told : CVerdict) → CallStatus → Type 0

@@ -1,6 +1,6 @@
 //! Closing a watch with its recorders, by their handles.
-ghost use Rattle.std.specs.Prelude.{◌≡◌, ◌≤◌, ◌⊎◌, [], All, Some, IsSome, length, IfOk, IfErr, IsTrue, IsFalse, vec_capacity};
-ghost use Rattle.tmw_c.specs.Close.{AreHeld, AreInPlace, AreOfWatch, IsClosing, IsUnended, WasClosed, WasFinished};
+ghost use Rattle.std.specs.Prelude.{◌≡◌, ◌≤◌, [], All, Some, IsSome, length, IfOk, IfErr, IsTrue, IsFalse, vec_capacity};
+ghost use Rattle.tmw_c.specs.Close.{AreHeld, AreInPlace, AreOfWatch, IsClosing, IsUnended, WasClosed};
 ghost use Rattle.tmw_c.specs.Open.{AreEmpty};
 ghost use Rattle.tmw_handles.specs.HandleContent.{recorder_in, watch_in};
 ghost use Rattle.tmw_handles.specs.declared.held_watch.HeldWatch.TheVariants.{Open};
@@ -96,36 +96,24 @@ fn close_open(
         return Err((HeldWatch::Open(watch), CallStatus::Memory));
     };
     handles.swap_with_slice(&mut taken);
-    let closing = match watch.end(recorders_of(taken, recorders), writers) {
-        Ok(closing) => closing,
-        Err((watch, writers)) => return Err((
-            HeldWatch::Shared(watch, writers),
-            CallStatus::Closing,
-        )),
-    };
-    match closing.finish() {
+    match watch.end(recorders_of(taken, recorders), writers) {
         Ok(whole) => Ok(whole),
-        Err(closing) => Err((HeldWatch::Left(closing), CallStatus::Memory)),
+        Err((watch, writers)) => Err((HeldWatch::Shared(watch, writers), CallStatus::Closing)),
     }
 }
 
-/// Closes what is held, and returns what `close_open` does, also if it is a `Leftover`.
+/// Closes what is held, if it is an open watch, and returns what `close_open` does.
 fn end(
     alloc: Global,
     held: HeldWatch,
     handles: &mut [RecorderHandle],
 ) -> Result<WatchReport, (HeldWatch, CallStatus)>
     requires { AreOfWatch (Some held) handles.old }
-    ensures ok { IfOk result (λ report. WasClosed held handles.old handles.new report
-        ⊎ WasFinished held handles.old handles.new report) }
+    ensures ok { IfOk result (WasClosed held handles.old handles.new) }
     ensures err { IfErr result (λ back. IsUnended held back.0 handles.old handles.new back.1) }
 {
     match held {
         HeldWatch::Open(watch) => close_open(alloc, watch, handles),
-        HeldWatch::Left(closing) => match closing.finish() {
-            Ok(report) => Ok(report),
-            Err(closing) => Err((HeldWatch::Left(closing), CallStatus::Memory)),
-        },
         HeldWatch::Shared(watch, writers) => {
             Err((HeldWatch::Shared(watch, writers), CallStatus::Closing))
         }

@@ -1,6 +1,6 @@
 //! Judging what was recorded, by a watch's handle.
-ghost use Rattle.std.specs.Prelude.{IfOk, IfErr, IfSome, IfNone};
-ghost use Rattle.tmw_c.specs.Judge.{IsNotOpen, IsPumping, IsReporting, WasNotPumped, WasPumped, WasReported};
+ghost use Rattle.std.specs.Prelude.{◌≡◌, IfSome, IfNone};
+ghost use Rattle.tmw_c.specs.Judge.{IsNotOpen, IsPumping, IsReporting, WasPumped, WasReported};
 ghost use Rattle.tmw_c.specs.Summary.{IsSumming, WasSummed};
 ghost use Rattle.tmw_handles.specs.HandleContent.{watch_in};
 
@@ -10,18 +10,15 @@ use crate::call_status::CallStatus;
 use std::alloc::Global;
 use tmw_handles::{HeldWatch, WatchHandle};
 
-/// Judges up to `most` events, and returns how many it has judged, or why not so many.
-fn pump_held(held: &mut HeldWatch, most: u64) -> Result<u64, CallStatus>
-    ensures ok { IfOk result (λ judged. WasPumped most judged held.old held.new) }
-    ensures err { IfErr result (WasNotPumped most held.old held.new) }
+/// Judges up to `most` events by an open watch, and returns how many it has judged.
+fn pump_held(held: &mut HeldWatch, most: u64) -> Option<u64>
+    ensures some { IfSome result (λ judged. WasPumped most judged held.old held.new) }
+    ensures none { IfNone result (IsNotOpen held.old × (held.new ≡ held.old)) }
 {
     let HeldWatch::Open(watch) = held else {
-        return Err(CallStatus::Closing);
+        return None;
     };
-    match watch.pump(most) {
-        Ok(pumped) => Ok(pumped.judged),
-        Err(_) => Err(CallStatus::Memory),
-    }
+    Some(watch.pump(most).judged)
 }
 
 /// Judges up to `most` events by what the handle holds, which it holds again afterwards. `judged` changes only if the
@@ -33,14 +30,14 @@ pub fn pump(alloc: Global, watch: &mut WatchHandle, most: u64, judged: &mut u64)
     let Some(mut held) = watch.take(alloc) else {
         return CallStatus::NoHandle;
     };
-    let answer = pump_held(&mut held, most);
+    let counted = pump_held(&mut held, most);
     *watch = WatchHandle::of(held);
-    match answer {
-        Ok(count) => {
+    match counted {
+        Some(count) => {
             *judged = count;
             CallStatus::Done
         }
-        Err(status) => status,
+        None => CallStatus::Closing,
     }
 }
 

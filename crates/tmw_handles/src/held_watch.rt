@@ -1,13 +1,11 @@
 use tmw_ring::Writer;
-use tmw_watch::{Leftover, Watch};
+use tmw_watch::Watch;
 
 /// What a watch's handle holds.
 #[derive(Drop)]
 pub enum HeldWatch {
     /// A watch that is open.
     Open(Watch),
-    /// What a watch has still to judge whose ring has ended, after a failed allocation.
-    Left(Leftover),
     /// A watch whose ring has an owner beside it and its recorders, which no call makes, with what the recorders
     /// recorded by.
     Shared(Watch, Vec<Writer>),

@@ -27,10 +27,7 @@ module _ {C Done : Type 0} (Counts : CountsFor C) (Ended : Type 0) (lines after 
       (g.0 header given before r, g.1 header bounds asked given f)
   fed-behind events bytes (Err (Cut number)) g header bounds asked given before r f =
       (g.0 header given before r, g.1 header bounds asked given f)
-  fed-behind events bytes (Err Memory) g header bounds asked given before r f = (
-    record { last = g.last; read = g.read header given before r },
-    g.taken.lacks header bounds asked (given ++ events) (g.taken.takes header bounds asked given f),
-  )
+  fed-behind events bytes (Err Memory) g header bounds asked given before r f = g.taken.lacks
   fed-behind events bytes (Err Io) g header bounds asked given before r f = (g.0 header given before r, g.1 header bounds asked given f)
   fed-behind events bytes (Err TooLong) g header bounds asked given before r f =
       (g.0 header given before r, g.1 header bounds asked given f)

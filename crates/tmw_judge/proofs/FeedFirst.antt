@@ -99,20 +99,6 @@ module _ {S C : Type 0} {From : FromSource S} {Counts : CountsFor C} {a : S} {li
             (open_on header bounds asked given event was);
       }
 
-      -- memory was refused for it
-      pub feeds-lack : {c : S} {next : Lines Version} {event : Event} (Done : Type 0) (after : Judges C)
-          → ReadsNext trace_grammar From b c now next (Ok (Some event))
-          → FeedsFirst {Done = Done} From Counts (From.ended c) a c lines next judges after (Err Memory)
-      feeds-lack {c = c} {event = event} Done after r = record {
-        bytes = h.bytes ++ r.bytes;
-        events = h.events;
-        told = Tells-more From a b c h.bytes r.bytes h.told r.told;
-        fed = λ header bounds asked given earlier was judged open_before. (
-          record { last = event; read = read-one r header given earlier was },
-          open_on header bounds asked given event judged,
-        );
-      }
-
       -- the end was read
       pub feeds-end : {c : S} {next : Lines Version} {Done : Type 0} (done : Done)
           → ReadsNext trace_grammar From b c now next (Ok None)

@@ -35,7 +35,7 @@ module _ {C : Type 0} (Counts : CountsFor C) where
   read-of-fed Done Ended lines header bounds asked history bytes judges BadHeader is = is.0
   read-of-fed Done Ended lines header bounds asked history bytes judges (BadLine number) is = is.0
   read-of-fed Done Ended lines header bounds asked history bytes judges (Cut number) is = is.0
-  read-of-fed Done Ended lines header bounds asked history bytes judges Memory is = is.0
+  read-of-fed Done Ended lines header bounds asked history bytes judges Memory is = absurd is
   read-of-fed Done Ended lines header bounds asked history bytes judges Io is = is.0
   read-of-fed Done Ended lines header bounds asked history bytes judges TooLong is = is.0
 

@@ -1,5 +1,5 @@
 -- Judging up to the first final verdict: the first line is read, then events are fed, and what was told is what was read.
-use Rattle.tmw_judge.proofs.Shared.{AnswersFed, AreOpen, AreOpenBefore, AreReadFirst, AreReadFor, Asked, BadHeader, BadLine, Bounds, CountsFor, Cut, EndsSoonBehindOpen, Err, Event, FailsBehind, FeedsFirst, FromSource, HasFaultInTime, HasRead, Header, Io, IsBeginning, Judges, Lines, List, Memory, Ok, QuotesHeld, QuotesLine, ReadsBeginning, Tells, Tells-more, TextFault, ToSink, TooLong, Version, [], fault_of, format_by, front_of, inl, inr, number_of, quoted-read, refl, trace_grammar, true, unread_bytes, ℕ, ◌++◌, ◌∷◌}
+use Rattle.tmw_judge.proofs.Shared.{AnswersFed, AreOpen, AreOpenBefore, AreReadFirst, AreReadFor, Asked, BadHeader, BadLine, Bounds, CountsFor, Cut, EndsSoonBehindOpen, Err, Event, FailsBehind, FeedsFirst, FromSource, HasFaultInTime, HasRead, Header, Io, IsBeginning, Judges, Lines, List, Memory, Ok, QuotesHeld, QuotesLine, ReadsBeginning, Tells, Tells-more, TextFault, ToSink, TooLong, Version, [], fault_of, format_by, front_of, inl, inr, number_of, quoted-read, refl, trace_grammar, true, unread_bytes, ℕ, ◌++◌}
 use Rattle.tmw_judge.proofs.FirstOpen.{AreOpenBefore-none}
 
 -- what was read when memory was wanted ends soon behind whole lines, and no verdict came before the last of them
@@ -56,8 +56,7 @@ module _ {C : Type 0} (Counts : CountsFor C) where
       behind-in-time Ended header bounds asked history bytes (BadLine number) is.0.fails is.1
   fault-in-time Done Ended lines header bounds asked history bytes judges (Cut number) is =
       behind-in-time Ended header bounds asked history bytes (Cut number) is.0.fails is.1
-  fault-in-time Done Ended lines header bounds asked history bytes judges Memory is =
-      soon-open lines header bounds asked (history ++ is.0.last ∷ []) bytes is.0.read is.1
+  fault-in-time Done Ended lines header bounds asked history bytes judges Memory is = absurd is
   fault-in-time Done Ended lines header bounds asked history bytes judges Io is =
       behind-in-time Ended header bounds asked history bytes Io is.0.fails is.1
   fault-in-time Done Ended lines header bounds asked history bytes judges TooLong is =
@@ -70,7 +69,7 @@ module _ {C : Type 0} (Counts : CountsFor C) where
   read-of-first Done Ended lines header bounds asked history bytes judges BadHeader is = is.0
   read-of-first Done Ended lines header bounds asked history bytes judges (BadLine number) is = is.0
   read-of-first Done Ended lines header bounds asked history bytes judges (Cut number) is = is.0
-  read-of-first Done Ended lines header bounds asked history bytes judges Memory is = is.0
+  read-of-first Done Ended lines header bounds asked history bytes judges Memory is = absurd is
   read-of-first Done Ended lines header bounds asked history bytes judges Io is = is.0
   read-of-first Done Ended lines header bounds asked history bytes judges TooLong is = is.0
 

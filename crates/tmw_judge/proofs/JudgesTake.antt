@@ -1,5 +1,5 @@
 -- Judges take events by being fed them.
-use Rattle.tmw_judge.proofs.Shared.{AreFed, AreFedSoMany, Asked, Bounds, ByCriterion, CountsFor, Each, Event, Header, Judges, List, Monitor, OnErr, Result, TakeEvents, [], arith, fed_of, length, length-append, trace_rules, ℕ, ◌++◌, ◌+◌, ◌-◌, ◌<◌, ◌^◌, ◌∷◌}
+use Rattle.tmw_judge.proofs.Shared.{AreFed, AreFedSoMany, Asked, Bounds, ByCriterion, CountsFor, Each, Event, Header, Judges, List, Monitor, TakeEvents, [], arith, fed_of, length, length-append, trace_rules, ℕ, ◌++◌, ◌+◌, ◌-◌, ◌<◌, ◌^◌, ◌∷◌}
 use Rattle.tmw_monitor.specs.Fits.{Fits}
 use Rattle.tmw_judge.proofs.Each.{each-weaker}
 
@@ -28,6 +28,3 @@ module _ {C : Type 0} (Counts : CountsFor C) where
 pub few_fed : (header : Header) (bounds : Bounds) (asked : Asked) (history : List Event) (monitors : ByCriterion Monitor)
     → Each (λ _ monitor. fed_of monitor < 2 ^ 40) monitors → AreFed header bounds asked history monitors → length history < 2 ^ 64 - 1
 few_fed header bounds asked history monitors few fed = grind arith
-
-pub on_err : {A B : Type 0} (result : Result A B) (Is : Type 0) → Is → OnErr result Is
-on_err result Is is = grind arith

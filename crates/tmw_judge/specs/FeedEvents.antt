@@ -1,6 +1,6 @@
 -- What is read where the events of a trace are fed to its judges as their lines are read, and what the judges have taken of it.
-use Rattle.std.specs.Prelude.{◌≡◌, ◌⊎◌, ℕ, Result, Ok, Err, OnOk, OnErr, List, [], ◌∷◌, ◌++◌, length}
-use Rattle.tmw_lines.specs.ReadItems.{EndsBehind, FailsHolding, StopsBehind}
+use Rattle.std.specs.Prelude.{◌≡◌, ℕ, Result, Ok, Err, List, [], ◌∷◌, ◌++◌, length}
+use Rattle.tmw_lines.specs.ReadItems.{EndsBehind, FailsHolding}
 use Rattle.tmw_lines.specs.Lines.{HasRead, unread_bytes}
 use Rattle.tmw_lines.specs.Taker.{Taking}
 use Rattle.tmw_lines.specs.LineFeeds.{HoldsFront}
@@ -15,36 +15,17 @@ use Rattle.tmw_trace.specs.Text.{trace_grammar}
 use Rattle.tmw_trace.specs.declared.header.Header.{Header}
 use Rattle.tmw_trace.specs.declared.version.Version.{Version}
 use Rattle.tmw_defs.specs.declared.criterion.Asked.{Asked}
-use Rattle.tmw_defs.specs.declared.criterion.Asked.TheVariants as asks
-use Rattle.tmw_defs.specs.declared.criterion.Criterion.TheVariants as by
 use Rattle.tmw_monitor.specs.declared.bounds.Bounds.{Bounds}
 use Rattle.tmw_monitor.specs.declared.monitor.Monitor.{Monitor}
-use Rattle.tmw_monitor.specs.Fits.{Fits}
 use Rattle.tmw_judge.specs.declared.by_criterion.ByCriterion.{ByCriterion}
-use Rattle.tmw_judge.specs.declared.by_criterion.ByCriterion.TheVariants.{Opacity, Strict, Both}
 use Rattle.tmw_judge.specs.Tally.{AreJudged, CountsFor}
 use Rattle.tmw_judge.specs.declared.judges.Judges.{Judges}
-use Rattle.tmw_judge.specs.Judge.{AreFed, trace_rules}
+use Rattle.tmw_judge.specs.Judge.{AreFed}
 
--- Of two monitors the first has been fed this history and the event, and the second the history.
-abbrev pub IsFirstFed : Header → Bounds → Asked → List Event → Event → ByCriterion Monitor → Type 0
-IsFirstFed header bounds asked history event (Opacity monitor) = ⊥
-IsFirstFed header bounds asked history event (Strict monitor) = ⊥
-IsFirstFed header bounds asked history event (Both opacity strict) =
-    (asked ≡ asks.Both) × Fits (trace_rules header bounds by.Opacity) (history ++ event ∷ []) opacity
-    × Fits (trace_rules header bounds by.Strict) history strict
-
--- Each monitor has been fed this history, and none of them the event, or of two the first alone.
-abbrev pub LackEvent : Header → Bounds → Asked → List Event → Event → ByCriterion Monitor → Type 0
-LackEvent header bounds asked history event monitors =
-    AreFed header bounds asked history monitors ⊎ IsFirstFed header bounds asked history event monitors
-
--- From the one to the other each monitor has been fed the event, or after a failed allocation none has, or of two the first alone.
-pub record FeedsEach {Done Refusal : Type 0} (old new : ByCriterion Monitor) (event : Event) (result : Result Done Refusal) : Type 0 where
-  pub fed : OnOk result ((header : Header) (bounds : Bounds) (asked : Asked) (history : List Event)
-      → AreFed header bounds asked history old → AreFed header bounds asked (history ++ event ∷ []) new)
-  pub refused : OnErr result ((header : Header) (bounds : Bounds) (asked : Asked) (history : List Event)
-      → AreFed header bounds asked history old → LackEvent header bounds asked history event new)
+-- From the one to the other each monitor has been fed the event.
+abbrev pub FeedsEach : ByCriterion Monitor → Event → ByCriterion Monitor → Type 0
+FeedsEach old event new = (header : Header) (bounds : Bounds) (asked : Asked) (history : List Event)
+    → AreFed header bounds asked history old → AreFed header bounds asked (history ++ event ∷ []) new
 
 -- From the one to the other the judges have been fed these events.
 abbrev pub TakeEvents : {C : Type 0} → CountsFor C → Judges C → List Event → Judges C → Type 0
@@ -60,12 +41,11 @@ pub record AreFedSoMany {C : Type 0} (Counts : CountsFor C) (judges : Judges C) 
   pub fed : AreJudged Counts header bounds asked history judges
   pub counted : length history ≡ count
 
--- They have been fed the events that they took; where memory was refused for one, not each monitor has been fed it.
+-- They have been fed the events that they took, and are refused memory for none.
 abbrev pub judges_taking : {C : Type 0} → CountsFor C → Taking (Judges C) Event
 judges_taking Counts = record {
   takes = TakeEvents Counts;
-  lacks = λ old event new. (header : Header) (bounds : Bounds) (asked : Asked) (history : List Event)
-      → AreJudged Counts header bounds asked history old → LackEvent header bounds asked history event new.monitors;
+  lacks = λ _ _ _. ⊥;
   counts = AreFedSoMany Counts;
 }
 
@@ -95,14 +75,13 @@ pub record AreFedAllRead {C : Type 0} (Counts : CountsFor C) (lines : Lines Vers
   pub read : HasRead trace_grammar lines header history bytes
   pub fed : AreJudged Counts header bounds asked history judges
 
--- These are the bytes read where the judges have been fed this history: its text, and behind it nothing up to the end, the line
--- that has the fault, or for want of memory one event's line, which not each of them has been fed, and what the reader holds.
+-- These are the bytes read where the judges have been fed this history: its text, and behind it nothing up to the end, or the line that
+-- has the fault. There is no want of memory.
 abbrev pub AreReadAndFed : {C Done : Type 0} → CountsFor C → Type 0 → Lines Version → Header → Bounds → Asked → List Event → List ℕ
     → Judges C → Result Done TextFault → Type 0
 AreReadAndFed Counts Ended lines header bounds asked history bytes judges (Ok done) =
     EndsBehind trace_grammar Ended header history bytes × AreJudged Counts header bounds asked history judges
-AreReadAndFed Counts Ended lines header bounds asked history bytes judges (Err Memory) =
-    (stop : StopsBehind trace_grammar lines header history bytes) × LackEvent header bounds asked history stop.last judges.monitors
+AreReadAndFed Counts Ended lines header bounds asked history bytes judges (Err Memory) = ⊥
 AreReadAndFed Counts Ended lines header bounds asked history bytes judges (Err fault) =
     FailsHolding trace_grammar Ended lines header history bytes fault × AreJudged Counts header bounds asked history judges
 

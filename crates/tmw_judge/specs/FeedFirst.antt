@@ -1,6 +1,6 @@
 -- What is read where the events of a trace are fed to its judges up to the one at which all verdicts are final.
-use Rattle.std.specs.Prelude.{◌≡◌, ◌⊎◌, ◌++◌, ℕ, Bool, true, false, Result, Ok, Err, List, [], ◌∷◌}
-use Rattle.tmw_lines.specs.ReadItems.{EndsBehind, FailsHolding, StopsBehind}
+use Rattle.std.specs.Prelude.{◌≡◌, ◌⊎◌, ◌++◌, ℕ, Bool, true, false, Result, Ok, Err, List}
+use Rattle.tmw_lines.specs.ReadItems.{EndsBehind, FailsHolding}
 use Rattle.tmw_lines.specs.Lines.{HasRead}
 use Rattle.tmw_lines.specs.declared.lines.Lines.{Lines}
 use Rattle.tmw_lines.specs.declared.text_fault.TextFault.{TextFault}
@@ -37,13 +37,12 @@ pub record AreFedWhole {C : Type 0} (Counts : CountsFor C) (Ended : Type 0) (hea
   pub open_one : any_open (verdicts_of judges.monitors) ≡ true
 
 -- These are the bytes read where the judges have been fed this history: its text, and behind it what the reader holds, where all
--- verdicts are final; else nothing up to the end, the line that has the fault, or for want of memory one line and what is held.
+-- verdicts are final; else nothing up to the end, or the line that has the fault. There is no want of memory.
 abbrev pub AreReadFirst : {C Done : Type 0} → CountsFor C → Type 0 → Lines Version → Header → Bounds → Asked → List Event → List ℕ
     → Judges C → Result Done TextFault → Type 0
 AreReadFirst Counts Ended lines header bounds asked history bytes judges (Ok done) =
     AreFedFirst Counts lines header bounds asked history bytes judges ⊎ AreFedWhole Counts Ended header bounds asked history bytes judges
-AreReadFirst Counts Ended lines header bounds asked history bytes judges (Err Memory) =
-    (stop : StopsBehind trace_grammar lines header history bytes) × AreOpenBefore header bounds asked (history ++ stop.last ∷ [])
+AreReadFirst Counts Ended lines header bounds asked history bytes judges (Err Memory) = ⊥
 AreReadFirst Counts Ended lines header bounds asked history bytes judges (Err fault) =
     FailsHolding trace_grammar Ended lines header history bytes fault × AreOpen header bounds asked history
 

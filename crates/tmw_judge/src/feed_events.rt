@@ -21,7 +21,7 @@ impl<C: Tally> Taker<Event> for Judges<C> {
     #[inline(always)]
     fn take(&mut self, event: Event) -> Result<(), AllocError> {
         let open = any_open(&self.monitors);
-        C::feed(&mut self.monitors, event)?;
+        C::feed(&mut self.monitors, event);
         if open {
             self.counting.take(event);
         }
@@ -35,8 +35,7 @@ impl<C: Tally> Taker<Event> for Judges<C> {
 }
 
 /// Reads the remaining events, up to the source's end or the first fault, and feeds each to the judges as its line
-/// is read. The reader then returns that end or fault again. `Memory` follows a failed allocation for the event read
-/// last: at most 4,096 bytes were read after its line.
+/// is read. The reader then returns that end or fault again. It takes no memory, so `Memory` is not among its faults.
 pub fn feed_events<S: Source, C: Tally>(
     lines: &mut TraceLines,
     source: &mut S,

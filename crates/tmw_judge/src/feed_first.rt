@@ -11,8 +11,7 @@ use tmw_streams::Source;
 use tmw_trace::TraceLines;
 
 /// Reads events and feeds each to the judges, until all verdicts are final, or up to the source's end or the first fault.
-/// A read comes only where no whole line is held. `Memory` follows a failed allocation for the event read last: no read
-/// follows.
+/// A read comes only where no whole line is held. It takes no memory, so `Memory` is not among its faults.
 pub fn feed_first<S: Source, C: Tally>(
     lines: &mut TraceLines,
     source: &mut S,
@@ -28,7 +27,7 @@ pub fn feed_first<S: Source, C: Tally>(
         match lines.next(source) {
             Ok(Some(event)) => {
                 let Ok(()) = judges.take(event) else {
-                    return Err(TextFault::Memory);
+                    unreachable!();
                 };
             }
             Ok(None) => return Ok(()),

@@ -26,9 +26,8 @@ use tmw_trace::TraceLines;
 
 /// Reads a trace up to the source's end, or by `first` up to the event at which all verdicts are final, and judges each
 /// event as its line is read, by each requested criterion. No event is kept, so the memory depends on the transactions
-/// since the last cut and not on the trace's length. After a failed allocation at most 4,096 bytes were read
-/// after the last event's line. The sink for errors
-/// is told which line has a fault.
+/// since the last cut and not on the trace's length. It is taken when the first line is read: after a failed allocation at
+/// most 4,096 bytes were read after that line. The sink for errors is told which line has a fault.
 pub fn judge<S: Source, E: Sink>(
     alloc: Global,
     source: &mut S,

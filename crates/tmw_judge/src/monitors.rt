@@ -73,25 +73,25 @@ pub fn any_open(monitors: &ByCriterion<Monitor>) -> bool
     }
 }
 
-/// Feeds the event to each monitor. After a failed allocation none has taken it, or of two the first alone.
+/// Feeds the event to each monitor.
 #[inline(always)]
-pub fn feed_copy(monitors: &mut ByCriterion<Monitor>, event: Event) -> Result<(), AllocError>
+pub fn feed_copy(monitors: &mut ByCriterion<Monitor>, event: Event)
     requires { Each (λ _ monitor. fed_of monitor < 2 ^ 40) monitors.old }
-    ensures { FeedsEach monitors.old monitors.new event result }
+    ensures { FeedsEach monitors.old event monitors.new }
 {
     // A copy for the call alone, so that the event mostly stays in registers of the processor.
     let copied = Event {
         thread: event.thread,
         kind: event.kind,
     };
-    feed_each(monitors, copied)
+    feed_each(monitors, copied);
 }
 
 /// Feeds the event to each monitor, as `feed_copy` does. It is called.
 #[inline(never)]
-fn feed_each(monitors: &mut ByCriterion<Monitor>, event: Event) -> Result<(), AllocError>
+fn feed_each(monitors: &mut ByCriterion<Monitor>, event: Event)
     requires { Each (λ _ monitor. fed_of monitor < 2 ^ 40) monitors.old }
-    ensures { FeedsEach monitors.old monitors.new event result }
+    ensures { FeedsEach monitors.old event monitors.new }
 {
     match monitors {
         ByCriterion::Opacity(monitor) => {
@@ -105,7 +105,6 @@ fn feed_each(monitors: &mut ByCriterion<Monitor>, event: Event) -> Result<(), Al
             strict.take(event);
         }
     }
-    Ok(())
 }
 
 /// Returns what the monitors report of the history that they were fed.

@@ -1,7 +1,6 @@
 //! What is counted of the events that are judged: nothing, or what a history has shown.
 use crate::by_criterion::ByCriterion;
 use crate::monitors::feed_copy;
-use std::alloc::AllocError;
 use tmw_counts::{Counter, Summary};
 use tmw_events::{Event, Registers};
 use tmw_monitor::Monitor;
@@ -38,10 +37,10 @@ pub trait Tally: Drop {
             → IsFalse (is_well_formed registers (history ++ event ∷ []))
             → counts registers history self.old → counts registers history self.new };
 
-    /// Feeds an event to each monitor. After a failed allocation none has taken it, or of two the first alone.
-    fn feed(monitors: &mut ByCriterion<Monitor>, event: Event) -> Result<(), AllocError>
+    /// Feeds an event to each monitor.
+    fn feed(monitors: &mut ByCriterion<Monitor>, event: Event)
         requires { Each (λ _ monitor. fed_of monitor < 2 ^ 40) monitors.old }
-        ensures { FeedsEach monitors.old monitors.new event result };
+        ensures { FeedsEach monitors.old event monitors.new };
 
     /// Returns what the counted history has shown, if it counts.
     fn summary(&self) -> Option<Summary>
@@ -69,12 +68,12 @@ impl Tally for NoTally {
     fn take(&mut self, _event: Event) {}
 
     #[inline(always)]
-    fn feed(monitors: &mut ByCriterion<Monitor>, event: Event) -> Result<(), AllocError> {
+    fn feed(monitors: &mut ByCriterion<Monitor>, event: Event) {
         if let ByCriterion::Opacity(monitor) = monitors {
             monitor.take(event);
-            return Ok(());
+            return;
         }
-        feed_copy(monitors, event)
+        feed_copy(monitors, event);
     }
 
     fn summary(&self) -> Option<Summary> {
@@ -102,12 +101,12 @@ impl Tally for StrictNoTally {
     fn take(&mut self, _event: Event) {}
 
     #[inline(always)]
-    fn feed(monitors: &mut ByCriterion<Monitor>, event: Event) -> Result<(), AllocError> {
+    fn feed(monitors: &mut ByCriterion<Monitor>, event: Event) {
         if let ByCriterion::Strict(monitor) = monitors {
             monitor.take(event);
-            return Ok(());
+            return;
         }
-        feed_copy(monitors, event)
+        feed_copy(monitors, event);
     }
 
     fn summary(&self) -> Option<Summary> {
@@ -132,8 +131,8 @@ impl Tally for Counter {
     }
 
     #[inline(always)]
-    fn feed(monitors: &mut ByCriterion<Monitor>, event: Event) -> Result<(), AllocError> {
-        NoTally::feed(monitors, event)
+    fn feed(monitors: &mut ByCriterion<Monitor>, event: Event) {
+        NoTally::feed(monitors, event);
     }
 
     fn summary(&self) -> Option<Summary> {

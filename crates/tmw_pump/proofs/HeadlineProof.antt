@@ -1,11 +1,11 @@
 -- The headline, from the monitor's fit to the judged front.
-use Rattle.tmw_pump.proofs.Shared.{Event, Front, GivesHeadline, Headline, IsLogOf, IsVerdict, KeepsFit, List, Malformed, Opacity, OpaqueSoFar, Rules, States, Transactions, Undecided, Verdict, Violated, WriterIs, append_assoc, came, listed, refl, subst, sym, ◌++◌, ◌∙◌, ◌≡◌, arith, rules}
+use Rattle.tmw_pump.proofs.Shared.{Event, Front, GivesHeadline, Headline, IsLogOf, IsVerdict, KeepsFit, List, Malformed, Opacity, OpaqueSoFar, Rules, States, Transactions, Undecided, Verdict, Violated, WriterIs, append_assoc, refl, subst, sym, ◌++◌, ◌∙◌, ◌≡◌, arith, rules}
 use Rattle.tmw_pump.proofs.Verdicts.{opaque-fine, fine-opaque, violation-first, first-violation, verdict-is}
 
--- A log that begins with what came begins with what was judged of it.
-front_of : (log : List Event) (writers : List WriterIs) (judged held : List Event) → IsLogOf log writers (judged ++ held)
+-- A log that begins with what was judged and what is left begins with what was judged.
+front_of : (log : List Event) (writers : List WriterIs) (judged left : List Event) → IsLogOf log writers (judged ++ left)
     → IsLogOf log writers judged
-front_of log writers judged held is = grind (arith, append_assoc)
+front_of log writers judged left is = grind (arith, append_assoc)
 
 headline-verdict : (rules : Rules) (log : List Event) (writers : List WriterIs) (judged : List Event) (verdict : Verdict)
     → rules.criterion ≡ Opacity → IsLogOf log writers judged → IsVerdict rules judged verdict → Headline rules log writers judged verdict
@@ -21,15 +21,14 @@ headline-verdict rules log writers judged verdict opacity one_log exact = record
 }
 
 -- What keeps the monitor's fit gives the headline.
-pub gives_headline : (old : Front) (taken : List Event) (new : Front) → KeepsFit old new → came new ≡ taken
+pub gives_headline : (old : Front) (taken : List Event) (new : Front) → KeepsFit old new → new.judged.items ≡ taken
     → GivesHeadline old taken new.judged.items new.monitor.verdict
 gives_headline old taken new keeps all rules log writers fits one_log =
     let judged = keeps rules fits in
     headline-verdict rules log writers new.judged.items new.monitor.verdict (sym judged.criterion ∙ new.opacity)
-    (front_of log writers new.judged.items (listed new.held) (subst (IsLogOf log writers) (sym all) one_log)) judged.judged
+    (subst (IsLogOf log writers) (sym all) one_log) judged.judged
 
 -- What keeps the monitor's fit gives the headline of a log that goes on with what is left.
-pub gives_rest : (old new : Front) (left : List Event) → KeepsFit old new → GivesHeadline old (came new ++ left) new.judged.items new.monitor.verdict
+pub gives_rest : (old new : Front) (left : List Event) → KeepsFit old new → GivesHeadline old (new.judged.items ++ left) new.judged.items new.monitor.verdict
 gives_rest old new left keeps by log writers fits one_log =
-    let all = came new in
-    gives_headline old all new keeps refl by log writers fits (front_of log writers all left one_log)
+    gives_headline old new.judged.items new keeps refl by log writers fits (front_of log writers new.judged.items left one_log)

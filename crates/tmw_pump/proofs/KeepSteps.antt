@@ -1,8 +1,7 @@
 -- What is kept of the judged front, from one event to the next.
-use Rattle.tmw_pump.proofs.Shared.{Event, Fits, Front, HasCome, IsKept, IsVerdict, KeepsFit, List, Monitor, Option, Rules, StaysKept, Verdict, WasKept, [], subst, sym, verdict-one, ∥∥₁_elim, ∥∥₁_map, ◌≡◌}
+use Rattle.tmw_pump.proofs.Shared.{Event, Fits, Front, IsKept, List, Monitor, Rules, StaysKept, Verdict, WasKept, [], subst, sym, ∥∥₁_elim, ∥∥₁_map, ◌≡◌}
 use Rattle.std.specs.Global.{Vec}
 use Rattle.std.specs.Coded.{Coded-set, coded_list}
-use Rattle.tmw_pump.proofs.Turns.{fits-came}
 use Rattle.tmw_events.specs.contracts.event.Event as event
 
 -- Where the log is kept, it is what was judged.
@@ -26,21 +25,10 @@ module _ {K : Type 0} (keeps : Rules → List Event → Verdict → K → Type 0
       → ∥ WasKept keeps new after ∥₁
   was_kept old new before after was stays = ∥∥₁_map was (λ (rules, kept). (rules, stays rules kept))
 
-  -- where no event more is judged, what is kept may stay: the verdict is the same
-  pub kept-same : (old new : Front) (before after : K) → new.judged.items ≡ old.judged.items → KeepsFit old new
-      → ((rules : Rules) (history : List Event) (verdict : Verdict) → keeps rules history verdict before → keeps rules history verdict after)
+  -- room that is made leaves what is kept
+  pub kept-room : (old new : Front) (before mid after : K) → StaysKept keeps old new before mid
+      → ((rules : Rules) (history : List Event) (verdict : Verdict) → keeps rules history verdict mid → keeps rules history verdict after)
       → StaysKept keeps old new before after
-  kept-same old new before after judged fits same rules was =
-      let now = fits rules was.fits in
-      let verdict : old.monitor.verdict ≡ new.monitor.verdict =
-      verdict-one rules old.judged.items old.monitor.verdict new.monitor.verdict was.fits.judged
-      (subst (λ (l : List Event). IsVerdict rules l new.monitor.verdict) judged now.judged) in
-      record {
-        fits = now;
-        keeps_it = subst (λ (l : List Event). keeps rules l new.monitor.verdict after) (sym judged)
-            (subst (λ (v : Verdict). keeps rules old.judged.items v after) verdict (same rules old.judged.items old.monitor.verdict was.keeps_it));
-      }
-
-  -- an event that has come is not judged yet
-  pub kept-came : (event : Option Event) (old new : Front) (kept : K) → HasCome event old new → StaysKept keeps old new kept kept
-  kept-came event old new kept come = kept-same old new kept kept come.judged (fits-came event old new come) (λ rules history verdict was. was)
+  kept-room old new before mid after stays same rules was =
+      let now = stays rules was in
+      record { fits = now.fits; keeps_it = same rules new.judged.items new.monitor.verdict now.keeps_it }

@@ -1,9 +1,9 @@
 mod CountOn
 pub mod HeadlineProof
-pub mod HeldEvent
 pub mod KeepSteps
 pub mod KindsMade
 pub mod OneLog
 mod Shared
 pub mod Turns
 pub mod Verdicts
+pub mod WasFed

@@ -1,5 +1,5 @@
 -- What the proofs of this crate take from the libraries, from the crates below and from its specs.
-pub use Rattle.std.proofs.Common.{IsFalse, IsTrue, List, None, Option, Some, [], ap, append_assoc, arith, false, inl, inr, length, refl, rules, subst, sym, true, ℕ, ◌++◌, ◌+◌, ◌-◌, ◌<◌, ◌==◌, ◌^◌, ◌↔◌, ◌∙◌, ◌∷◌, ◌≡◌, ◌≤◌}
+pub use Rattle.std.proofs.Common.{IsFalse, IsTrue, List, [], ap, append_assoc, arith, false, inl, inr, length, refl, rules, subst, sym, true, ℕ, ◌++◌, ◌+◌, ◌-◌, ◌<◌, ◌==◌, ◌^◌, ◌↔◌, ◌∙◌, ◌∷◌, ◌≡◌, ◌≤◌}
 pub use Rattle.std.proofs.Math.Logic.{∥∥₁_elim, ∥∥₁_map}
 pub use Rattle.std.proofs.lemmas.Bool.{both_ways, cases_Bool, cases_lt}
 pub use Rattle.std.proofs.lemmas.List.{append-nil, length-append, length_push}
@@ -19,9 +19,10 @@ pub use Rattle.tmw_monitor.specs.Monitor.{IsOpen, criterion_of, verdict_of}
 pub use Rattle.tmw_monitor.specs.declared.monitor.Monitor.{Monitor}
 pub use Rattle.tmw_ring.specs.RingEnds.{ReaderIs, ReaderOf, WriterIs}
 pub use Rattle.tmw_ring.specs.SeatPart.{made_from}
-pub use Rattle.tmw_pump.specs.Front.{HasCome, HasJudged, KeepsFit, came}
+pub use Rattle.tmw_ring.specs.Take.{HasTaken}
+pub use Rattle.tmw_pump.specs.Front.{HasJudged, KeepsFit}
 pub use Rattle.tmw_pump.specs.Headline.{GivesHeadline, Headline, IsFirstViolation, IsLogOf, IsWithinBounds}
-pub use Rattle.tmw_pump.specs.HeldEvent.{WasCounted, WasFed, listed}
+pub use Rattle.tmw_pump.specs.WasFed.{WasCounted, WasFed}
 pub use Rattle.tmw_pump.specs.Keep.{IsKept, StaysKept, WasKept}
 pub use Rattle.tmw_pump.specs.Pump.{HasPumped, HasTakenAll, PumpIs, pump_in}
 pub use Rattle.tmw_pump.specs.Rest.{HasRested, IsRested, RestIs, all_of, rest_in}

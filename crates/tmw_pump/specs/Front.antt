@@ -1,22 +1,17 @@
 -- The judged front, and how it grows.
-use Rattle.std.specs.Prelude.{◌≡◌, ◌<◌, ◌++◌, ℕ, List, Option, Some, length}
+use Rattle.std.specs.Prelude.{◌≡◌, ◌<◌, ◌++◌, ℕ, List, length}
 use Rattle.tmw_events.specs.declared.event.Event.{Event}
 use Rattle.tmw_counts.specs.CountedPart.{part_by}
 use Rattle.tmw_defs.specs.Verdict.{Rules, IsVerdict}
 use Rattle.tmw_defs.specs.declared.verdict.Verdict.{Verdict}
 use Rattle.tmw_monitor.specs.Fits.{Fits}
-use Rattle.tmw_monitor.specs.Monitor.{IsOpen, verdict_of}
+use Rattle.tmw_monitor.specs.Monitor.{verdict_of}
 use Rattle.tmw_monitor.specs.declared.monitor.Monitor.{Monitor}
-use Rattle.tmw_pump.specs.HeldEvent.{listed}
 use Rattle.tmw_pump.specs.declared.front.Front.{Front}
 
 -- the events that were judged, in the order of the log
 abbrev pub judged_of : Front → List Event
 judged_of front = front.judged.items
-
--- the event that has come and is not judged yet, if any
-abbrev pub held_of : Front → Option Event
-held_of front = front.held
 
 -- the monitor that judges
 abbrev pub monitor_of : Front → Monitor
@@ -30,14 +25,6 @@ verdict_on front = verdict_of (monitor_of front)
 abbrev pub front_part : Front → List Event
 front_part front = part_by (verdict_on front) (judged_of front)
 
--- The verdict is final: no event changes it.
-abbrev pub HasFinalVerdict : Front → Type 0
-HasFinalVerdict front = IsOpen (monitor_of front) → ⊥
-
--- all events that came: those that were judged, and then the one that is held
-abbrev pub came : Front → List Event
-came front = judged_of front ++ listed (held_of front)
-
 -- By whatever rules the monitor had judged what was judged then, it has judged what is judged now.
 abbrev pub KeepsFit : Front → Front → Type 0
 KeepsFit old new = (rules : Rules) → Fits rules (judged_of old) (monitor_of old) → Fits rules (judged_of new) (monitor_of new)
@@ -49,21 +36,13 @@ pub record HasJudged (count : ℕ) (old new : Front) : Type 0 where
   pub judged : judged_of new ≡ judged_of old ++ more
   pub fits : KeepsFit old new
 
--- This event has come, if any: the front holds it, and has judged what it had.
-pub record HasCome (event : Option Event) (old new : Front) : Type 0 where
-  pub judged : judged_of new ≡ judged_of old
-  pub held : held_of new ≡ event
-  pub monitor : monitor_of new ≡ monitor_of old
-
 -- This is the verdict on the judged front: the monitor's, and by whatever rules the monitor has judged the front, that of the definition.
 pub record TellsVerdict (front : Front) (verdict : Verdict) : Type 0 where
   pub shown : verdict ≡ verdict_on front
   pub fits : (rules : Rules) → Fits rules (judged_of front) (monitor_of front) → IsVerdict rules (judged_of front) verdict
 
--- A call has done what it does for so many events, fewer than it was to judge, and an event is held.
-pub record WasRefusedMemory (max : ℕ) (HasDone : ℕ → Type 0) (new : Front) : Type 0 where
+-- A call has done what it does for so many events, fewer than it was to judge.
+pub record WasRefusedMemory (max : ℕ) (HasDone : ℕ → Type 0) : Type 0 where
   pub count : ℕ
   pub fewer : count < max
   pub counted : HasDone count
-  pub event : Event
-  pub held : held_of new ≡ Some event

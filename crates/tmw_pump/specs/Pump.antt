@@ -1,9 +1,9 @@
 -- What a call to pump has done.
-use Rattle.std.specs.Prelude.{◌≡◌, ◌⊎◌, ◌<◌, ℕ, List, [], ◌∷◌, None}
+use Rattle.std.specs.Prelude.{◌≡◌, ◌⊎◌, ◌<◌, ℕ, List, [], ◌∷◌}
 use Rattle.tmw_events.specs.declared.event.Event.{Event}
 use Rattle.tmw_ring.specs.RingEnds.{ReaderIs}
 use Rattle.tmw_ring.specs.Take.{HasTaken, HasFoundNone}
-use Rattle.tmw_pump.specs.Front.{HasJudged, held_of, verdict_on}
+use Rattle.tmw_pump.specs.Front.{HasJudged, verdict_on}
 use Rattle.tmw_pump.specs.declared.front.Front.{Front}
 use Rattle.tmw_pump.specs.declared.keep.Keep.{Ghosts}
 use Rattle.tmw_pump.specs.declared.pump.Pump.{Pump}
@@ -42,11 +42,10 @@ pub record HasPumped (count : ℕ) (old : PumpIs) (reader : ReaderIs) (new : Fro
   pub judged : HasJudged count (pump_front old) new
 
 -- The call has judged as many events as it was to, or fewer, and then the reader last found that the next place was not published.
--- It holds no event where it was to judge any, and has done nothing where it was to judge none.
+-- It has done nothing where it was to judge none.
 pub record IsPumped (max : ℕ) (pumped : Pumped) (old new : PumpIs) : Type 0 where
   pub last : ReaderIs
   pub counted : HasPumped pumped.judged old last (pump_front new)
   pub ended : ((pumped.judged ≡ max) × (reader_of new ≡ last)) ⊎ ((pumped.judged < max) × HasFoundNone last (reader_of new))
   pub verdict : pumped.verdict ≡ verdict_on (pump_front new)
-  pub held : 0 < max → held_of (pump_front new) ≡ None
   pub idle : max ≡ 0 → new ≡ old

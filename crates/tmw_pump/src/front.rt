@@ -1,38 +1,34 @@
-ghost use Rattle.std.specs.Prelude.{◌≡◌, ◌∷◌, ◌++◌, ◌+◌, ◌<◌, ◌≤◌, ◌^◌, [], length, Some, None, IsOk, OnOk, OnErr};
+ghost use Rattle.std.specs.Prelude.{◌≡◌, ◌∷◌, ◌++◌, ◌<◌, ◌≤◌, ◌^◌, [], length};
 ghost use Rattle.tmw_counts.specs.Summary.{IsSummary};
-ghost use Rattle.tmw_pump.specs.HeldEvent.{JudgesOpacity, WasCounted, WasFed, listed};
+ghost use Rattle.tmw_pump.specs.WasFed.{JudgesOpacity, WasCounted, WasFed};
 
 use crate::pumped::Pumped;
-use std::alloc::AllocError;
 use tmw_counts::{Counter, Summary, is_open};
 use tmw_cuts::GhostList;
 use tmw_defs::Verdict;
 use tmw_events::Event;
 use tmw_monitor::Monitor;
 
-/// The judged front, and at most one event after it, which is held. No other event is kept: the list of judged events
-/// is for clauses alone.
+/// The judged front. No event is kept: the list of judged events is for clauses alone.
 #[derive(Drop)]
 pub struct Front {
     monitor: Monitor,
     counter: Counter,
     judged: GhostList<Event>,
-    held: Option<Event>,
     pub ghost opacity: { JudgesOpacity monitor },
     pub ghost fed: { ∥ WasFed judged.items monitor ∥₁ },
     pub ghost counted: { ∥ WasCounted judged.items monitor counter ∥₁ },
-    pub ghost few: { length judged.items + length (listed held) ≤ 2 ^ 40 },
+    pub ghost few: { length judged.items ≤ 2 ^ 40 },
 }
 
 impl Front {
-    ghost use Rattle.tmw_pump.specs.Front.{HasCome, HasFinalVerdict, KeepsFit, TellsVerdict, front_part, verdict_on};
+    ghost use Rattle.tmw_pump.specs.Front.{KeepsFit, TellsVerdict, front_part, verdict_on};
 
     /// Makes a front without events, over a monitor by opacity that was fed none.
     pub(crate) fn new(monitor: Monitor) -> Front
         requires opacity { JudgesOpacity monitor }
         requires fed { WasFed [] monitor }
         ensures judged { result.judged.items ≡ [] }
-        ensures held { result.held ≡ None }
         ensures monitor { result.monitor ≡ monitor }
     {
         let counter = Counter::new(monitor.registers());
@@ -40,27 +36,14 @@ impl Front {
             monitor,
             counter,
             judged: GhostList::new(),
-            held: None,
         }
     }
 
-    /// Holds an event that has come.
-    pub(crate) fn hold(&mut self, event: Event)
+    /// Judges the next event.
+    pub(crate) fn judge(&mut self, event: Event)
         requires few { length self.old.judged.items < 2 ^ 40 }
-        ensures { HasCome (Some event) self.old self.new }
-    {
-        self.held = Some(event);
-    }
-
-    /// Judges the held event. After a failed allocation it is still held. After a final verdict the call succeeds.
-    pub(crate) fn judge(&mut self, event: Event) -> Result<(), AllocError>
-        requires { self.old.held ≡ Some event }
         ensures fits { KeepsFit self.old self.new }
-        ensures judged { OnOk result (self.new.judged.items ≡ self.old.judged.items ++ event ∷ []) }
-        ensures free { OnOk result (self.new.held ≡ None) }
-        ensures stays { OnErr result (self.new.judged.items ≡ self.old.judged.items) }
-        ensures held { OnErr result (self.new.held ≡ self.old.held) }
-        ensures after { HasFinalVerdict self.old → IsOk result }
+        ensures judged { self.new.judged.items ≡ self.old.judged.items ++ event ∷ [] }
     {
         let open = is_open(&self.monitor.verdict());
         self.monitor.take(event);
@@ -68,8 +51,6 @@ impl Front {
             let _refused = self.counter.take(event);
         }
         self.judged = self.judged.then(&Some(event));
-        self.held = None;
-        Ok(())
     }
 
     /// Returns the monitor that judges.
@@ -84,13 +65,6 @@ impl Front {
         ensures { result ≡ length self.now.judged.items }
     {
         self.monitor.fed()
-    }
-
-    /// Returns the held event, if any.
-    pub fn held(&self) -> Option<Event>
-        ensures { result ≡ self.now.held }
-    {
-        self.held
     }
 
     /// Returns the verdict on the events that were judged.

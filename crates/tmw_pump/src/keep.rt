@@ -1,6 +1,6 @@
 //! What is kept of the events that are judged.
-ghost use Rattle.std.specs.Prelude.{◌≡◌, ◌∷◌, ◌++◌, [], List, Some, None, IfOk, OnOk, OnErr};
-ghost use Rattle.tmw_pump.specs.Front.{KeepsFit, came, held_of, judged_of};
+ghost use Rattle.std.specs.Prelude.{◌≡◌, ◌<◌, ◌^◌, ◌∷◌, ◌++◌, [], List, IfOk, length};
+ghost use Rattle.tmw_pump.specs.Front.{KeepsFit, judged_of, monitor_of};
 ghost use Rattle.tmw_pump.specs.Keep.{StaysKept};
 
 use crate::front::Front;
@@ -10,7 +10,7 @@ use tmw_monitor::Monitor;
 
 /// What is kept of a history beside the monitor that judges it.
 pub trait Keep: Drop {
-    ghost use Rattle.std.specs.Prelude.{◌≡◌, List, [], ◌∷◌, ◌++◌, IfOk};
+    ghost use Rattle.std.specs.Prelude.{◌≡◌, List, [], ◌∷◌, ◌++◌, IfOk, OnErr};
     ghost use Rattle.tmw_defs.specs.Verdict.{Rules};
     ghost use Rattle.tmw_defs.specs.declared.verdict.Verdict.{Verdict};
     ghost use Rattle.tmw_events.specs.declared.event.Event.{Event};
@@ -24,13 +24,16 @@ pub trait Keep: Drop {
     ghost keeps: { Rules → List Event → Verdict → Self → Type 0 };
     /// There is room for the event that this monitor takes next, which does this with what is kept.
     ghost awaits: { Monitor → Self.Next → Self → Type 0 };
+    /// Room may be refused.
+    ghost refuses: { Type 0 };
 
     /// Makes room for the event that the monitor takes next, and returns what it does with what is kept.
     fn make_room(&mut self, monitor: &Monitor) -> Result<Self::Next, AllocError>
         ensures same { (rules : Rules) (history : List Event) (verdict : Verdict)
             → keeps rules history verdict self.old
             → keeps rules history verdict self.new }
-        ensures room { IfOk result (λ next. awaits monitor.now next self.new) };
+        ensures room { IfOk result (λ next. awaits monitor.now next self.new) }
+        ensures refused { OnErr result refuses };
 
     /// Keeps the event that the monitor has taken, for which there is room.
     fn take(&mut self, next: Self::Next, event: Event)
@@ -45,6 +48,8 @@ impl Keep for () {
     ghost keeps = { λ _ _ _ _. Unit {0} };
 
     ghost awaits = { λ _ _ _. Unit {0} };
+
+    ghost refuses = { ⊥ };
 
     fn make_room(&mut self, _monitor: &Monitor) -> Result<(), AllocError> {
         Ok(())
@@ -64,6 +69,8 @@ impl Keep for Vec<Event> {
 
     ghost awaits = { λ _ _ log. length log.items < vec_capacity log };
 
+    ghost refuses = { Unit {0} };
+
     fn make_room(&mut self, _monitor: &Monitor) -> Result<(), AllocError> {
         self.reserve(1)?;
         Ok(())
@@ -74,24 +81,14 @@ impl Keep for Vec<Event> {
     }
 }
 
-/// Judges the held event, and keeps of it what is kept. After a failed allocation it is still held.
-pub(crate) fn judge_held<K: Keep>(
-    front: &mut Front,
-    kept: &mut K,
-    event: Event,
-) -> Result<(), AllocError>
-    requires { held_of front.old ≡ Some event }
+/// Judges the next event, and keeps of it what is kept, for which there is room.
+pub(crate) fn judge_next<K: Keep>(front: &mut Front, kept: &mut K, next: K::Next, event: Event)
+    requires few { length (judged_of front.old) < 2 ^ 40 }
+    requires room { K.awaits (monitor_of front.old) next kept.old }
     ensures fits { KeepsFit front.old front.new }
     ensures kept { StaysKept K.keeps front.old front.new kept.old kept.new }
-    ensures came { came front.new ≡ came front.old }
-    ensures judged { OnOk result (judged_of front.new ≡ judged_of front.old ++ event ∷ []) }
-    ensures free { OnOk result (held_of front.new ≡ None) }
-    ensures stays { OnErr result (judged_of front.new ≡ judged_of front.old) }
-    ensures held { OnErr result (held_of front.new ≡ held_of front.old) }
+    ensures judged { judged_of front.new ≡ judged_of front.old ++ event ∷ [] }
 {
-    // Room first: once the event is judged, nothing can fail.
-    let next = kept.make_room(front.monitor())?;
-    front.judge(event)?;
+    front.judge(event);
     kept.take(next, event);
-    Ok(())
 }

@@ -1,18 +1,17 @@
 //! Judging the events of a running ring.
-ghost use Rattle.std.specs.Prelude.{◌≡◌, ◌++◌, List, [], ◌∷◌, length, All, Some, None, IfOk, OnOk, OnErr, IfSome, IfNone, IsSome, IsTrue, ◌↔◌};
+ghost use Rattle.std.specs.Prelude.{◌≡◌, List, [], ◌∷◌, length, All, IfOk, OnErr, false};
 ghost use Rattle.tmw_defs.specs.Verdict.{Rules};
 ghost use Rattle.tmw_events.specs.declared.event.Event.{Event};
 ghost use Rattle.tmw_monitor.specs.Fits.{Fits};
 ghost use Rattle.tmw_monitor.specs.Monitor.{verdict_of};
-ghost use Rattle.tmw_pump.specs.HeldEvent.{JudgesOpacity, WasFed, listed};
+ghost use Rattle.tmw_pump.specs.WasFed.{JudgesOpacity, WasFed};
 ghost use Rattle.tmw_pump.specs.Keep.{IsKept, StaysKept, WasKept};
 ghost use Rattle.tmw_ring.specs.RingEnds.{ReaderOf, WriterOf};
 ghost use Rattle.tmw_ring.specs.Meet.{HaveMet};
 ghost use Rattle.tmw_ring.specs.Settle.{AreInOrder, IsSettled};
-ghost use Rattle.tmw_ring.specs.Take.{HasFoundNone};
 
 use crate::front::Front;
-use crate::keep::{Keep, judge_held};
+use crate::keep::{Keep, judge_next};
 use crate::pumped::Pumped;
 use crate::rest::Rest;
 use std::alloc::{AllocError, Global};
@@ -23,22 +22,22 @@ use tmw_ring::{Reader, Ring, Writer};
 
 /// A pump that takes events from a running ring and judges them, by the definition of opacity (Guerraoui and Kapalka
 /// 2008, section 5) at each prefix. What it has judged is a beginning of the ring's one log: what its reader has
-/// taken, less the event that is held after a failed allocation, if any. It keeps of that what `K` keeps: a `Pump`
-/// all of it, and a `Pump<()>` nothing, so that its memory is the monitor's, however long the run.
+/// taken. It keeps of that what `K` keeps: a `Pump` all of it, and a `Pump<()>` nothing, so that its memory is the
+/// monitor's, however long the run, and no call of it lacks any.
 #[derive(Drop)]
 pub struct Pump<K: Keep = Vec<Event>> {
     reader: Reader,
     front: Front,
     kept: K,
-    // The reader has taken what was judged, and after it the held event.
-    pub ghost all: { front.judged.items ++ listed front.held ≡ reader.taken },
+    // The reader has taken what was judged.
+    pub ghost all: { front.judged.items ≡ reader.taken },
     pub ghost keeps: { ∥ WasKept K.keeps front kept ∥₁ },
 }
 
 impl<K: Keep> Pump<K> {
     ghost use Rattle.tmw_pump.specs.Headline.{IsLogOf, GivesHeadline};
-    ghost use Rattle.tmw_pump.specs.Front.{HasCome, TellsVerdict, WasRefusedMemory, held_of, judged_of, monitor_of, verdict_on};
-    ghost use Rattle.tmw_pump.specs.Pump.{HasTakenAll, HasPumped, IsPumped, pump_front, pump_in, pump_kept, reader_of};
+    ghost use Rattle.tmw_pump.specs.Front.{TellsVerdict, WasRefusedMemory, judged_of, monitor_of, verdict_on};
+    ghost use Rattle.tmw_pump.specs.Pump.{HasPumped, IsPumped, pump_front, pump_in, pump_kept, reader_of};
     ghost use Rattle.tmw_pump.specs.Rest.{all_of, left_of, rest_front, rest_in, rest_kept};
 
     /// Makes a pump of a reader that has taken nothing, a monitor by opacity that was fed nothing, and what is kept of
@@ -51,7 +50,6 @@ impl<K: Keep> Pump<K> {
             → K.keeps rules [] (verdict_of monitor) kept }
         ensures reader { reader_of (pump_in result) ≡ reader }
         ensures judged { judged_of (pump_front (pump_in result)) ≡ [] }
-        ensures held { held_of (pump_front (pump_in result)) ≡ None }
         ensures monitor { monitor_of (pump_front (pump_in result)) ≡ monitor }
         ensures kept { pump_kept result ≡ kept }
         ensures keeps { (rules : Rules) → Fits rules [] monitor
@@ -64,18 +62,19 @@ impl<K: Keep> Pump<K> {
         }
     }
 
-    /// Takes and judges up to `max` events: fewer only if the next place is not published. After a failed allocation
-    /// the event to be judged is held, and the next call judges it first; events judged before it in this call stay
-    /// judged.
+    /// Takes and judges up to `max` events: fewer only if the next place is not published. Room is made before an event
+    /// is taken, so after a failed allocation all that was taken is judged.
     pub fn pump(&mut self, ring: &Ring, max: u64) -> Result<Pumped, AllocError>
         requires { ReaderOf ring.now (reader_of (pump_in self.old)) }
         ensures of_ring { ReaderOf ring.now (reader_of (pump_in self.new)) }
         ensures ok { IfOk result (λ pumped. IsPumped max pumped (pump_in self.old)
             (pump_in self.new)) }
-        ensures idle { max ≡ 0 → self.new ≡ self.old }
+        ensures idle { max ≡ 0 → (pump_in self.new ≡ pump_in self.old)
+            × (pump_kept self.new ≡ pump_kept self.old) }
         ensures err { OnErr result (WasRefusedMemory max
             (λ count. HasPumped count (pump_in self.old) (reader_of (pump_in self.new))
-            (pump_front (pump_in self.new))) (pump_front (pump_in self.new))) }
+            (pump_front (pump_in self.new)))) }
+        ensures refused { OnErr result K.refuses }
         ensures headline { GivesHeadline (pump_front (pump_in self.old))
             (reader_of (pump_in self.new)).taken (judged_of (pump_front (pump_in self.new)))
             (verdict_on (pump_front (pump_in self.new))) }
@@ -83,33 +82,13 @@ impl<K: Keep> Pump<K> {
             (pump_front (pump_in self.new)) (pump_kept self.old) (pump_kept self.new) }
     {
         for judged in 0..max {
-            let Some(event) = self.next(ring) else {
+            let next = self.kept.make_room(self.front.monitor())?;
+            let Some(event) = ring.take(&mut self.reader) else {
                 return Ok(self.front.pumped(judged));
             };
-            judge_held(&mut self.front, &mut self.kept, event)?;
+            judge_next(&mut self.front, &mut self.kept, next, event);
         }
         Ok(self.front.pumped(max))
-    }
-
-    /// Returns the event to be judged next: the held one, or else the next of the ring, which is held from then on.
-    /// `None` if the next place is not published.
-    fn next(&mut self, ring: &Ring) -> Option<Event>
-        requires { ReaderOf ring.now self.old.reader }
-        ensures of_ring { ReaderOf ring.now self.new.reader }
-        ensures front { HasCome result self.old.front self.new.front }
-        ensures kept { StaysKept K.keeps self.old.front self.new.front self.old.kept self.new.kept }
-        ensures taken { IfSome result (λ _. (fresh : List Event)
-            × HasTakenAll self.old.reader fresh self.new.reader) }
-        ensures none { IfNone result (HasFoundNone self.old.reader self.new.reader) }
-    {
-        if let Some(event) = self.front.held() {
-            return Some(event);
-        }
-        let Some(event) = ring.take(&mut self.reader) else {
-            return None;
-        };
-        self.front.hold(event);
-        Some(event)
     }
 
     /// Returns the judged front.
@@ -126,11 +105,11 @@ impl<K: Keep> Pump<K> {
         &self.kept
     }
 
-    /// Tells whether an event has come that is not judged yet, after a failed allocation.
+    /// Tells whether an event was taken that is not judged: none ever is.
     pub fn held(&self) -> bool
-        ensures { IsTrue result ↔ IsSome (held_of (pump_front (pump_in self.now))) }
+        ensures { result ≡ false }
     {
-        self.front.held().is_some()
+        false
     }
 
     /// Returns the verdict on the judged front.
@@ -140,8 +119,7 @@ impl<K: Keep> Pump<K> {
         self.front.verdict()
     }
 
-    /// Lets the reader meet a writer: the writer's next event comes after all that both had seen. Nothing is judged,
-    /// and a held event stays held.
+    /// Lets the reader meet a writer: the writer's next event comes after all that both had seen. Nothing is judged.
     pub fn meet(&mut self, ring: &Ring, writer: &mut Writer)
         requires reader { ReaderOf ring.now (reader_of (pump_in self.old)) }
         requires writer { WriterOf ring.now writer.old }
@@ -179,7 +157,7 @@ impl<K: Keep> Pump<K> {
 }
 
 impl Pump {
-    ghost use Rattle.tmw_pump.specs.Front.{held_of, judged_of, monitor_of};
+    ghost use Rattle.tmw_pump.specs.Front.{judged_of, monitor_of};
     ghost use Rattle.tmw_pump.specs.Pump.{pump_front, pump_in, reader_of};
 
     /// Makes a pump of a reader that has taken nothing, and a monitor by opacity that was fed nothing. It keeps what
@@ -190,7 +168,6 @@ impl Pump {
         requires fed { WasFed [] monitor }
         ensures reader { reader_of (pump_in result) ≡ reader }
         ensures judged { judged_of (pump_front (pump_in result)) ≡ [] }
-        ensures held { held_of (pump_front (pump_in result)) ≡ None }
         ensures monitor { monitor_of (pump_front (pump_in result)) ≡ monitor }
     {
         Pump::keeping(Vec::new(alloc), reader, monitor)

@@ -1,10 +1,9 @@
 //! Judging what a settled ring has left.
-ghost use Rattle.std.specs.Prelude.{◌≡◌, ◌+◌, ◌++◌, [], ◌∷◌, ◌≤◌, ◌^◌, length, Some, None, IfOk, OnOk, OnErr, IfNone, IsSome, IsTrue, ◌↔◌};
-ghost use Rattle.tmw_pump.specs.HeldEvent.{listed};
+ghost use Rattle.std.specs.Prelude.{◌≡◌, ◌+◌, ◌≤◌, ◌^◌, length, IfOk, OnErr, false};
 ghost use Rattle.tmw_pump.specs.Keep.{StaysKept, WasKept};
 
 use crate::front::Front;
-use crate::keep::{Keep, judge_held};
+use crate::keep::{Keep, judge_next};
 use crate::pumped::Pumped;
 use std::alloc::AllocError;
 use tmw_defs::Verdict;
@@ -17,20 +16,18 @@ pub struct Rest<K: Keep = Vec<Event>> {
     settled: Settled,
     front: Front,
     kept: K,
-    pub ghost few: { length front.judged.items + length (listed front.held) + length settled
-        ≤ 2 ^ 40 },
+    pub ghost few: { length front.judged.items + length settled ≤ 2 ^ 40 },
     pub ghost keeps: { ∥ WasKept K.keeps front kept ∥₁ },
 }
 
 impl<K: Keep> Rest<K> {
     ghost use Rattle.tmw_pump.specs.Headline.{GivesHeadline};
-    ghost use Rattle.tmw_pump.specs.Front.{HasCome, TellsVerdict, WasRefusedMemory, held_of, judged_of, verdict_on};
+    ghost use Rattle.tmw_pump.specs.Front.{TellsVerdict, WasRefusedMemory, judged_of, verdict_on};
     ghost use Rattle.tmw_pump.specs.Rest.{HasRested, IsRested, all_of, left_of, rest_front, rest_in, rest_kept};
 
     /// Makes the rest of a pump's settled ring.
     pub(crate) fn new(settled: Settled, front: Front, kept: K) -> Rest<K>
-        requires few { length front.judged.items + length (listed front.held) + length settled
-            ≤ 2 ^ 40 }
+        requires few { length front.judged.items + length settled ≤ 2 ^ 40 }
         requires keeps { ∥ WasKept K.keeps front kept ∥₁ }
         ensures settled { result.settled ≡ settled }
         ensures front { result.front ≡ front }
@@ -43,15 +40,16 @@ impl<K: Keep> Rest<K> {
         }
     }
 
-    /// Judges up to `max` events: fewer only if all are judged. After a failed allocation the event to be judged is
-    /// held, and the next call judges it first; events judged before it in this call stay judged.
+    /// Judges up to `max` events: fewer only if all are judged. After a failed allocation those judged before it in this
+    /// call stay judged, and the next call goes on.
     pub fn pump(&mut self, max: u64) -> Result<Pumped, AllocError>
         ensures ok { IfOk result (λ pumped. IsRested max pumped (rest_in self.old)
             (rest_in self.new)) }
-        ensures idle { max ≡ 0 → self.new ≡ self.old }
+        ensures idle { max ≡ 0 → (rest_in self.new ≡ rest_in self.old)
+            × (rest_kept self.new ≡ rest_kept self.old) }
         ensures err { OnErr result (WasRefusedMemory max
-            (λ count. HasRested count (rest_in self.old) (rest_in self.new))
-            (rest_front (rest_in self.new))) }
+            (λ count. HasRested count (rest_in self.old) (rest_in self.new))) }
+        ensures refused { OnErr result K.refuses }
         ensures headline { GivesHeadline (rest_front (rest_in self.old)) (all_of (rest_in self.new))
             (judged_of (rest_front (rest_in self.new)))
             (verdict_on (rest_front (rest_in self.new))) }
@@ -59,30 +57,13 @@ impl<K: Keep> Rest<K> {
             (rest_front (rest_in self.new)) (rest_kept self.old) (rest_kept self.new) }
     {
         for judged in 0..max {
-            let Some(event) = self.next() else {
+            let next = self.kept.make_room(self.front.monitor())?;
+            let Some(event) = self.settled.take() else {
                 return Ok(self.front.pumped(judged));
             };
-            judge_held(&mut self.front, &mut self.kept, event)?;
+            judge_next(&mut self.front, &mut self.kept, next, event);
         }
         Ok(self.front.pumped(max))
-    }
-
-    /// Returns the event to be judged next: the held one, or else the next that is left, which is held from then on.
-    /// `None` if all are judged.
-    fn next(&mut self) -> Option<Event>
-        ensures front { HasCome result self.old.front self.new.front }
-        ensures kept { StaysKept K.keeps self.old.front self.new.front self.old.kept self.new.kept }
-        ensures all { all_of (rest_in self.new) ≡ all_of (rest_in self.old) }
-        ensures none { IfNone result (self.new.settled ≡ []) }
-    {
-        if let Some(event) = self.front.held() {
-            return Some(event);
-        }
-        let Some(event) = self.settled.take() else {
-            return None;
-        };
-        self.front.hold(event);
-        Some(event)
     }
 
     /// Returns the judged front.
@@ -92,11 +73,11 @@ impl<K: Keep> Rest<K> {
         &self.front
     }
 
-    /// Tells whether an event has come that is not judged yet, after a failed allocation.
+    /// Tells whether an event was taken that is not judged: none ever is.
     pub fn held(&self) -> bool
-        ensures { IsTrue result ↔ IsSome (held_of (rest_front (rest_in self.now))) }
+        ensures { result ≡ false }
     {
-        self.front.held().is_some()
+        false
     }
 
     /// Returns the verdict on the judged front.

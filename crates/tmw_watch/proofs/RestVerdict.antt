@@ -1,12 +1,10 @@
 -- From what a settled ring has left to the verdict on all of its log.
-use Rattle.tmw_watch.proofs.Shared.{All, All-permutation, AreAll, AreOf, Fits, Front, HasEnded, Headline, IsClosed, IsJudged, IsLeft, IsLogOf, IsPermutation, IsPermutation-map, IsPermutation-sym, IsPermutation-trans, IsRested, IsSettled, IsUnjudged, List, Recorder, RestIs, RingIs, WriterIs, WriterOf, [], all_of, ap, get_or, gives_rest, length, length_permutation, rest_of, subst, sym, watch_pump, writers_of, ℕ, ◌++◌, ◌<◌, ◌^◌, ◌∙◌, ◌≡◌, arith}
+use Rattle.tmw_watch.proofs.Shared.{All, All-permutation, AreAll, AreOf, Fits, Front, HasEnded, Headline, IsClosed, IsJudged, IsLogOf, IsPermutation, IsPermutation-map, IsPermutation-sym, IsPermutation-trans, IsRested, IsSettled, List, Recorder, RestIs, RingIs, WriterIs, WriterOf, [], all_of, ap, get_or, gives_rest, length, length_permutation, subst, sym, watch_pump, writers_of, ℕ, ◌++◌, ◌<◌, ◌^◌, ◌∙◌, ◌≡◌, arith}
 use Rattle.std.proofs.lemmas.List.Elements.{All-map}
-use Rattle.std.specs.Prelude.{Result, Ok, Err, IfOk}
 use Rattle.tmw_events.specs.declared.event.Event.{Event}
 use Rattle.tmw_pump.proofs.Turns.{IsFew, all_judged}
 use Rattle.tmw_pump.specs.declared.pumped.Pumped.{Pumped}
 use Rattle.tmw_ring.specs.SeatPart.{made_from}
-use Rattle.tmw_watch.specs.declared.leftover.Leftover.{Leftover}
 use Rattle.tmw_watch.specs.declared.report.WatchReport.{WatchReport}
 use Rattle.tmw_watch.specs.declared.watch.Watch.{Watch}
 
@@ -50,23 +48,13 @@ pub writers-given : (writers first : List WriterIs) (placed : List Recorder) →
 writers-given writers first placed none is = is ∙ ap (λ (l : List WriterIs). l ++ writers_of placed) none
 
 -- So is the one whose log that is: the ring has ended with these recorders.
-has_ended : (watch : Watch) (recorders : List Recorder) (writers : List WriterIs) (rest : RestIs) → writers ≡ writers_of recorders
+pub has_ended : (watch : Watch) (recorders : List Recorder) (writers : List WriterIs) (rest : RestIs) → writers ≡ writers_of recorders
     → AreAll watch.recorders recorders → IsSettled (watch_pump watch).reader writers rest.settled → rest.front ≡ (watch_pump watch).front
     → IsLogOf (all_of rest) writers (all_of rest) → HasEnded watch recorders (all_of rest)
 has_ended watch recorders writers rest are all settled front one_log = grind arith
 
--- Where a ring was settled, it has ended with these recorders.
-pub ended_settled : {E : Type 0} (settled : Result Leftover E) (watch : Watch) (recorders : List Recorder) (writers : List WriterIs)
-    → writers ≡ writers_of recorders → AreAll watch.recorders recorders
-    → IfOk settled (λ (closing : Leftover). IsSettled (watch_pump watch).reader writers (rest_of closing).settled)
-    → IfOk settled (λ (closing : Leftover). (rest_of closing).front ≡ (watch_pump watch).front)
-    → IfOk settled (λ (closing : Leftover). IsLogOf (all_of (rest_of closing)) writers (all_of (rest_of closing)))
-    → IfOk settled (λ (closing : Leftover). HasEnded watch recorders (all_of (rest_of closing)))
-ended_settled (Ok closing) watch recorders writers are all settled front one_log = grind (arith, has_ended)
-ended_settled (Err back) watch recorders writers are all settled front one_log = tt
-
 -- A ring that has ended with recorders in one order has ended with them in another.
-pub ended_again : (watch : Watch) (given placed : List Recorder) (log : List Event) → IsPermutation given placed
+ended_again : (watch : Watch) (given placed : List Recorder) (log : List Event) → IsPermutation given placed
     → HasEnded watch placed log → HasEnded watch given log
 ended_again watch given placed log same ended = record {
   all = sym {A = ℕ} (length_permutation given placed same) ∙ ended.all;
@@ -91,7 +79,19 @@ is_closed watch recorders rest report ended front judged = record {
       (subst (λ (front : Front). Fits by front.judged.items front.monitor) (sym front) fits) ended.one_log;
 }
 
--- One of which not all was judged is what is left.
-pub is_left : (watch : Watch) (recorders : List Recorder) (rest left : RestIs) → HasEnded watch recorders (all_of rest)
-    → rest.front ≡ (watch_pump watch).front → IsUnjudged rest left → IsLeft watch recorders left
-is_left watch recorders rest left ended front unjudged = grind arith
+-- A watch that is closed with recorders in one order is closed with them in another.
+pub closed_again : (watch : Watch) (given placed : List Recorder) (report : WatchReport) → IsPermutation given placed
+    → IsClosed watch placed report → IsClosed watch given report
+closed_again watch given placed report same closed = record {
+  log = closed.log;
+  ended = ended_again watch given placed closed.log same closed.ended;
+  counted = closed.counted;
+  headline = λ by fits. let is = closed.headline by fits in record {
+    one_log = log-again closed.log given placed same is.one_log;
+    opaque = is.opaque;
+    violated = is.violated;
+    wide = is.wide;
+    many = is.many;
+    malformed = is.malformed;
+  };
+}

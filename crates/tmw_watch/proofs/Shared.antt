@@ -12,7 +12,7 @@ pub use Rattle.tmw_pump.specs.Rest.{IsRested, RestIs, all_of, rest_in}
 pub use Rattle.tmw_pump.specs.declared.front.Front.{Front}
 pub use Rattle.tmw_ring.specs.RingEnds.{ReaderIs, RingIs, WriterIs, WriterOf}
 pub use Rattle.tmw_ring.specs.Settle.{AreInOrder, IsSettled}
-pub use Rattle.tmw_watch.specs.Close.{AreAll, AreNotAll, HasEnded, IsClosed, IsJudged, IsLeft, IsMissing, IsUnjudged, writers_of}
+pub use Rattle.tmw_watch.specs.Close.{AreAll, AreNotAll, HasEnded, IsClosed, IsJudged, IsMissing, writers_of}
 pub use Rattle.tmw_watch.specs.Open.{AreOf, IsNewRecorder}
-pub use Rattle.tmw_watch.specs.WatchParts.{rest_of, watch_pump}
+pub use Rattle.tmw_watch.specs.WatchParts.{watch_pump}
 pub use Rattle.tmw_watch.specs.declared.recorder.Recorder.{Recorder}

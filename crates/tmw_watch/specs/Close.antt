@@ -1,19 +1,19 @@
 -- What is left of a watch that was closed, and what is given back where it could not be.
-use Rattle.std.specs.Prelude.{◌≡◌, ◌⊎◌, ◌<◌, ◌++◌, ℕ, List, length, map, All, IsSome}
+use Rattle.std.specs.Prelude.{◌≡◌, ◌⊎◌, ◌<◌, ◌++◌, ℕ, List, length, map, All}
 use Rattle.std.specs.List.Sorted.{IsPermutation}
 use Rattle.tmw_defs.specs.Verdict.{Rules}
 use Rattle.tmw_events.specs.declared.event.Event.{Event}
 use Rattle.tmw_monitor.specs.Fits.{Fits}
-use Rattle.tmw_pump.specs.Front.{KeepsFit, held_of, judged_of, monitor_of}
+use Rattle.tmw_pump.specs.Front.{judged_of, monitor_of}
 use Rattle.tmw_pump.specs.Headline.{GivesHeadline, Headline, IsLogOf}
 use Rattle.tmw_pump.specs.Pump.{reader_of}
 use Rattle.tmw_pump.specs.Rest.{RestIs, all_of, rest_front}
 use Rattle.tmw_ring.specs.RingEnds.{WriterIs}
 use Rattle.tmw_ring.specs.Settle.{AreInOrder, IsSettled}
 use Rattle.tmw_watch.specs.Open.{AreOf}
-use Rattle.tmw_watch.specs.WatchParts.{recorder_count, rest_of, watch_front, watch_pump, watch_ring, writer_of}
+use Rattle.tmw_watch.specs.WatchParts.{recorder_count, watch_front, watch_pump, watch_ring, writer_of}
 use Rattle.tmw_watch.specs.declared.close_error.CloseError.{CloseError}
-use Rattle.tmw_watch.specs.declared.close_error.CloseError.TheVariants.{Missing, Memory, Shared, Unjudged}
+use Rattle.tmw_watch.specs.declared.close_error.CloseError.TheVariants.{Missing, Memory, Shared}
 use Rattle.tmw_watch.specs.declared.recorder.Recorder.{Recorder}
 use Rattle.tmw_watch.specs.declared.report.WatchReport.{WatchReport}
 use Rattle.tmw_watch.specs.declared.watch.Watch.{Watch}
@@ -53,12 +53,6 @@ pub record IsJudged (rest : RestIs) (report : WatchReport) : Type 0 where
   pub counted : report.events ≡ length (all_of rest)
   pub headline : GivesHeadline (rest_front rest) (all_of rest) (all_of rest) report.verdict
 
--- More may have been judged, by the same rules, and nothing was lost. An event is held, for which memory was refused.
-pub record IsUnjudged (old new : RestIs) : Type 0 where
-  pub all : all_of new ≡ all_of old
-  pub fits : KeepsFit (rest_front old) (rest_front new)
-  pub held : IsSome (held_of (rest_front new))
-
 -- The watch is closed: the one log has so many events, and the verdict is the headline's on all of it, by whatever rules the watch
 -- had judged before.
 pub record IsClosed (watch : Watch) (recorders : List Recorder) (report : WatchReport) : Type 0 where
@@ -68,14 +62,8 @@ pub record IsClosed (watch : Watch) (recorders : List Recorder) (report : WatchR
   pub headline : (rules : Rules) → Fits rules (judged_of (watch_front watch)) (monitor_of (watch_front watch))
       → Headline rules log (writers_of recorders) log report.verdict
 
--- The ring has ended, and what was not judged yet of its one log is left.
-pub record IsLeft (watch : Watch) (recorders : List Recorder) (rest : RestIs) : Type 0 where
-  pub ended : HasEnded watch recorders (all_of rest)
-  pub fits : KeepsFit (watch_front watch) (rest_front rest)
-  pub held : IsSome (held_of (rest_front rest))
-
--- What an error gives back: the watch as it was and the same recorders, or what these recorded by; or what is left to be judged. That
--- recorders are missing is answered just where they are.
+-- What an error gives back: the watch as it was and the same recorders, or what these recorded by. That recorders are missing is
+-- answered just where they are.
 abbrev pub IsUnclosed : Watch → List Recorder → CloseError → Type 0
 IsUnclosed watch recorders (Missing same back) =
     (same ≡ watch) × IsPermutation recorders back.items × AreOf (watch_ring same).value back.items
@@ -84,4 +72,3 @@ IsUnclosed watch recorders (Memory same back) =
     (same ≡ watch) × IsPermutation recorders back.items × AreOf (watch_ring same).value back.items
     × AreAll (recorder_count watch) back.items
 IsUnclosed watch recorders (Shared same back) = (same ≡ watch) × IsPermutation (writers_of recorders) back.items
-IsUnclosed watch recorders (Unjudged closing) = IsLeft watch recorders (rest_of closing)

@@ -1,10 +1,10 @@
 -- What a new watch and its recorders are.
-use Rattle.std.specs.Prelude.{◌≡◌, ◌<◌, ℕ, List, [], None, length, get_or, All}
+use Rattle.std.specs.Prelude.{◌≡◌, ◌<◌, ℕ, List, [], length, get_or, All}
 use Rattle.tmw_monitor.specs.Fits.{Fits, rules_of}
 use Rattle.tmw_ring.specs.RingEnds.{RingIs}
 use Rattle.tmw_ring.specs.NewRing.{IsNewWriter}
 use Rattle.tmw_ring_defs.specs.RingSize.{HasNumbers}
-use Rattle.tmw_pump.specs.Front.{held_of, judged_of, monitor_of}
+use Rattle.tmw_pump.specs.Front.{judged_of, monitor_of}
 use Rattle.tmw_pump.specs.Pump.{reader_of}
 use Rattle.tmw_watch.specs.WatchParts.{recorder_ring, watch_front, watch_pump, watch_ring, writer_of}
 use Rattle.tmw_watch.specs.declared.recorder.Recorder.{Recorder}
@@ -31,5 +31,4 @@ pub record IsOpened (settings : WatchSettings) (watch : Watch) (recorders : List
   pub taken : (reader_of (watch_pump watch)).taken ≡ []
   pub run : (reader_of (watch_pump watch)).run ≡ []
   pub judged : judged_of (watch_front watch) ≡ []
-  pub held : held_of (watch_front watch) ≡ None
   pub fits : Fits (rules_of settings.registers settings.start settings.bounds) [] (monitor_of (watch_front watch))

@@ -1,12 +1,10 @@
--- What clauses see of a watch, of a recorder, and of what a closed ring has left.
+-- What clauses see of a watch and of a recorder.
 use Rattle.std.specs.Prelude.{ℕ}
 use Rattle.std.specs.Global.{Global}
 use Rattle.std.specs.declared.sync.Arc.{Arc}
 use Rattle.tmw_pump.specs.Pump.{PumpIs, pump_front, pump_in}
-use Rattle.tmw_pump.specs.Rest.{RestIs, rest_in}
 use Rattle.tmw_pump.specs.declared.front.Front.{Front}
 use Rattle.tmw_ring.specs.RingEnds.{RingIs, WriterIs}
-use Rattle.tmw_watch.specs.declared.leftover.Leftover.{Leftover}
 use Rattle.tmw_watch.specs.declared.recorder.Recorder.{Recorder}
 use Rattle.tmw_watch.specs.declared.watch.Watch.{Watch}
 
@@ -33,7 +31,3 @@ recorder_ring recorder = recorder.ring
 -- the writer by which a recorder records
 abbrev pub writer_of : Recorder → WriterIs
 writer_of recorder = recorder.writer
-
--- what is left to be judged
-abbrev pub rest_of : Leftover → RestIs
-rest_of closing = rest_in closing.rest

@@ -1,4 +1,3 @@
-use crate::leftover::Leftover;
 use crate::recorder::Recorder;
 use crate::watch::Watch;
 use std::fmt;
@@ -28,19 +27,15 @@ pub enum CloseError {
         watch: Watch,
         writers: Vec<Writer>,
     },
-    /// The ring has ended, and an allocation failed before all that it had left was judged, which can be tried again.
-    #[error("an allocation failed before all was judged")]
-    Unjudged(Leftover),
 }
 
-// Watches, recorders, writers and leftovers have no `Debug`, so only the case's name is shown.
+// Watches, recorders and writers have no `Debug`, so only the case's name is shown.
 impl fmt::Debug for CloseError {
     fn fmt<W: Write>(&self, f: &mut Formatter<W>) -> Result<(), fmt::Error> {
         f.write_str(match self {
             CloseError::Missing { .. } => "Missing",
             CloseError::Memory { .. } => "Memory",
             CloseError::Shared { .. } => "Shared",
-            CloseError::Unjudged(_) => "Unjudged",
         })
     }
 }

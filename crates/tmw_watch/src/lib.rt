@@ -4,7 +4,6 @@
 
 mod close;
 mod close_error;
-mod leftover;
 mod open;
 mod recorder;
 mod recorder_order;
@@ -13,7 +12,6 @@ mod settings;
 mod watch;
 
 pub use close_error::CloseError;
-pub use leftover::Leftover;
 pub use recorder::Recorder;
 pub use report::WatchReport;
 pub use settings::WatchSettings;

@@ -1,13 +1,13 @@
 //! The end by which what the threads record is judged.
-ghost use Rattle.std.specs.Prelude.{◌≡◌, length, IfOk, OnErr, IsSome, IsTrue, ◌↔◌};
+ghost use Rattle.std.specs.Prelude.{◌≡◌, length};
 ghost use Rattle.tmw_counts.specs.Summary.{IsSummary};
-ghost use Rattle.tmw_pump.specs.Front.{TellsVerdict, WasRefusedMemory, front_part, held_of, judged_of, verdict_on};
+ghost use Rattle.tmw_pump.specs.Front.{TellsVerdict, front_part, judged_of, verdict_on};
 ghost use Rattle.tmw_pump.specs.Headline.{GivesHeadline};
-ghost use Rattle.tmw_pump.specs.Pump.{HasPumped, IsPumped, pump_in, reader_of};
+ghost use Rattle.tmw_pump.specs.Pump.{IsPumped, pump_in, reader_of};
 ghost use Rattle.tmw_ring.specs.RingEnds.{ReaderOf};
 
 use crate::report::WatchReport;
-use std::alloc::{AllocError, Global};
+use std::alloc::Global;
 use std::sync::Arc;
 use tmw_counts::Summary;
 use tmw_pump::{Pump, Pumped};
@@ -30,20 +30,18 @@ impl Watch {
     ghost use Rattle.tmw_watch.specs.WatchParts.{watch_front, watch_pump, watch_ring};
 
     /// Takes and judges up to `most` events, in the order of their places: fewer only if the next place has no event
-    /// yet. It never waits for one. After a failed allocation the event to be judged is held, and the next call
-    /// judges it first. What was judged stays judged.
-    pub fn pump(&mut self, most: u64) -> Result<Pumped, AllocError>
+    /// yet. It never waits for one, and takes no memory.
+    pub fn pump(&mut self, most: u64) -> Pumped
         ensures ring { watch_ring self.new ≡ watch_ring self.old }
-        ensures ok { IfOk result (λ pumped. IsPumped most pumped (watch_pump self.old)
-            (watch_pump self.new)) }
-        ensures err { OnErr result (WasRefusedMemory most
-            (λ count. HasPumped count (watch_pump self.old) (reader_of (watch_pump self.new))
-            (watch_front self.new)) (watch_front self.new)) }
+        ensures pumped { IsPumped most result (watch_pump self.old) (watch_pump self.new) }
         ensures headline { GivesHeadline (watch_front self.old)
             (reader_of (watch_pump self.new)).taken (judged_of (watch_front self.new))
             (verdict_on (watch_front self.new)) }
     {
-        self.pump.pump(&self.ring, most)
+        let Ok(pumped) = self.pump.pump(&self.ring, most) else {
+            unreachable!();
+        };
+        pumped
     }
 
     /// Returns how many events were judged so far, and the verdict on them.
@@ -66,12 +64,5 @@ impl Watch {
         ensures { IsSummary (front_part (watch_front self.now)) result }
     {
         self.pump.front().summary()
-    }
-
-    /// Tells whether an event was taken that is not judged yet, after a failed allocation.
-    pub fn held(&self) -> bool
-        ensures { IsTrue result ↔ IsSome (held_of (watch_front self.now)) }
-    {
-        self.pump.held()
     }
 }

@@ -1,9 +1,8 @@
-use Rattle.tmw_bench.proofs.Shared.{AllOpaque, AreEndings, AreTransactions, Event, Fits, Front, HasNumbers, HaveBegun, Headline, IsLogOf, IsVerdict, Kind, List, Option, ReaderOf, Refused, Vec, [], all_judged, ap, append_assoc, arith, came, ending_of, length, length-map, map, refl, rules_of, script_of, scripts_of, subst, sym, zeros, ℕ, ◌++◌, ◌-◌, ◌^◌, ◌∙◌, ◌≡◌}
+use Rattle.tmw_bench.proofs.Shared.{AllOpaque, AreEndings, AreTransactions, Event, Fits, Front, HasNumbers, HaveBegun, Headline, IsLogOf, IsVerdict, Kind, List, Option, ReaderOf, Refused, Vec, [], all_judged, ap, arith, ending_of, length, length-map, map, refl, rules_of, script_of, scripts_of, subst, sym, zeros, ℕ, ◌++◌, ◌-◌, ◌^◌, ◌∙◌, ◌≡◌}
 use Rattle.tmw_bench.proofs.OpaqueRounds.{all_opaque-append}
 use Rattle.tmw_bench.proofs.RoundsOver.{are_endings-map, over-log}
 use Rattle.tmw_bench.proofs.Whole.{is_benched, HasCome}
 use Rattle.tmw_drive.proofs.Workloads.{are_transactions-workload}
-use Rattle.tmw_pump.specs.HeldEvent.{listed}
 use Rattle.tmw_pump.specs.Keep.{IsKept}
 use Rattle.tmw_pump.specs.Rest.{all_of, rest_in}
 use Rattle.tmw_bench.proofs.bench.carry_out.Goals as goal
@@ -67,10 +66,8 @@ returns-clause-ok g c =
     let sized : c.len-threads.result ≡ length workload.scripts.items =
     (let one = c.len-threads.ensures in let two = workload.scripts.ok.0 in omega (arith, one, two)) in
     let was : log ≡ all_of (rest_in before) = all_judged (2 ^ 64 - 1) c.in-Ok-pump.field-0 (rest_in before) (rest_in rest) (omega arith) rest.few done.ok in
-    let all : all_of (rest_in before) ≡ came front ++ before.settled = ap (λ (f : Front). came f ++ before.settled) settled.front in
-    let whole : log ≡ reader.taken ++ before.settled = was ∙ all ∙ ap (λ (l : List Event). l ++ before.settled) left.pump.all in
-    let begins : log ≡ front.judged.items ++ (listed front.held ++ before.settled) =
-    was ∙ all ∙ append_assoc front.judged.items (listed front.held) before.settled in
+    let begins : log ≡ front.judged.items ++ before.settled = was ∙ ap (λ (f : Front). f.judged.items ++ before.settled) settled.front in
+    let whole : log ≡ reader.taken ++ before.settled = begins ∙ ap (λ (l : List Event). l ++ before.settled) left.pump.all in
     let fits : Fits rules before.front.judged.items before.front.monitor =
     subst (λ (f : Front). Fits rules f.judged.items f.monitor) (sym settled.front) after.fits in
     let judged : IsVerdict rules log verdict = (done.ok.counted.judged.fits rules fits).judged in
@@ -91,9 +88,9 @@ returns-clause-ok g c =
           (are_transactions-workload workload.registers.number scripts workload.order.items workload.is)
           (subst (λ (n : ℕ). HasNumbers settings.cells n settings.limit ring.size) (sized ∙ threads) c.in-Ok.ensures.ok.sized) come whole after.played
           (subst (AllOpaque rules begun.bounds) (sym begins)
-          (all_opaque-append rules begun.bounds front.judged.items (listed front.held ++ before.settled) after.opaque))
+          (all_opaque-append rules begun.bounds front.judged.items before.settled after.opaque))
           endings judged headline begun.counted played.within
-          (λ fewer. over-log rules scripts stops ends front (listed front.held ++ before.settled) log writers verdict refl after.stop_count endings
+          (λ fewer. over-log rules scripts stops ends front before.settled log writers verdict refl after.stop_count endings
           begins after.fits.judged headline (played.over fewer));
       kept = done.kept rules (subst (λ (f : Front). IsKept keeps rules f before.kept) (sym settled.front)
           (subst (IsKept keeps rules front) (sym settled.kept) (c.in_ok-left.ensures.kept rules (c.keeping-pump.ensures.keeps rules c.in-Ok-new.ensures.fits))));

@@ -8,7 +8,7 @@ returns-in-Ok c = record {
   held = search rules;
   gone = search rules;
   report = c.in-Ok.report;
-  ended = search rules;
+  closed = search rules;
   is_told = c.of.ensures;
 }
 

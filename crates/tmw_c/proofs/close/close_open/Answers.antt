@@ -1,7 +1,6 @@
-use Rattle.tmw_c.proofs.Shared.{AreEmpty, AreInPlace, Watch, ap, inl, inr, refl, rest_of, subst, sym, ℕ, ◌∙◌, ◌≡◌}
+use Rattle.tmw_c.proofs.Shared.{AreEmpty, AreInPlace, Watch, ap, inl, refl, subst, sym, ℕ, ◌∙◌, ◌≡◌}
 use Rattle.tmw_c.proofs.RecordersInHandles.{all_held, held_whole, of_ring_held}
 use Rattle.tmw_handles.specs.declared.held_watch.HeldWatch.TheVariants.{Shared}
-use Rattle.tmw_watch.proofs.RestVerdict.{is_closed, is_left}
 use Rattle.tmw_c.proofs.close.close_open.Goals as goal
 
 pub returns-then-not-are_in_place-clause-err : goal.returns-then-not-are_in_place-clause-err
@@ -15,12 +14,12 @@ returns-then-not-are_in_place-clause-err c = record {
 
 pub returns-in_default-clause-err : goal.returns-in_default-clause-err
 returns-in_default-clause-err c =
-    inl (record {
+    record {
       watch = c.args.watch;
       opened = refl;
       all = subst (λ (n : ℕ). AreInPlace n c.args.handles.now) c.recorders.ensures (c.if-not-are_in_place.ensures.yes refl);
       same = record { watch_same = refl; handles_same = refl };
-    })
+    }
 
 pub end-requires-clause-of_ring : goal.end-requires-clause-of_ring
 end-requires-clause-of_ring c =
@@ -51,8 +50,8 @@ returns-in-Err-clause-err c =
       theirs = c.in-Err.ensures.err.1;
     })
 
-pub returns-in-Ok-finish-clause-ok : goal.returns-in-Ok-finish-clause-ok
-returns-in-Ok-finish-clause-ok c =
+pub returns-in-Ok-end-clause-ok : goal.returns-in-Ok-end-clause-ok
+returns-in-Ok-end-clause-ok c =
     let swapped = c.swap_with_slice.ensures in
     let held = held_whole _ _ _ _ _ (swapped.other_len ∙ c.deref_mut.ensures.len) swapped.other_after c.recorders_of.ensures in
     record {
@@ -61,21 +60,5 @@ returns-in-Ok-finish-clause-ok c =
       recorders = c.recorders_of.result.items;
       placed = subst (λ (n : ℕ). AreInPlace n c.args.handles.now) c.recorders.ensures (c.if-not-are_in_place.ensures.yes refl);
       taken = record { held = held; as_many = swapped.len; gone = rw (swapped.after, c.deref_mut.ensures.value) c.in-Ok.ensures.empty.0 };
-      closed = is_closed c.args.watch c.recorders_of.result.items _ c.in-Ok-finish.whole c.in-Ok-end.ensures.ok c.in-Ok-end.ensures.front
-          c.in-Ok-finish.ensures.ok;
+      closed = c.in-Ok-end.ensures.ok;
     }
-
-pub returns-in-Err-finish-clause-err : goal.returns-in-Err-finish-clause-err
-returns-in-Err-finish-clause-err c =
-    let swapped = c.swap_with_slice.ensures in
-    let held = held_whole _ _ _ _ _ (swapped.other_len ∙ c.deref_mut.ensures.len) swapped.other_after c.recorders_of.ensures in
-    inr (inl (record {
-      watch = c.args.watch;
-      opened = refl;
-      recorders = c.recorders_of.result.items;
-      placed = subst (λ (n : ℕ). AreInPlace n c.args.handles.now) c.recorders.ensures (c.if-not-are_in_place.ensures.yes refl);
-      taken = record { held = held; as_many = swapped.len; gone = rw (swapped.after, c.deref_mut.ensures.value) c.in-Ok.ensures.empty.0 };
-      closing = c.in-Err-finish.closing;
-      left = refl;
-      is_left = is_left c.args.watch c.recorders_of.result.items _ _ c.in-Ok-end.ensures.ok c.in-Ok-end.ensures.front c.in-Err-finish.ensures.err;
-    }))

@@ -1,6 +1,6 @@
 -- While not all verdicts are final, each event that was read is fed.
 use Rattle.tmw_judge.proofs.Shared.{ap, failures_after, refl, sym, ◌∙◌, arith}
-use Rattle.tmw_judge.proofs.FeedFirst.{HasFed-none, HasFed-push, feeds-end, feeds-fault, feeds-final, feeds-lack, reads_on, room-next}
+use Rattle.tmw_judge.proofs.FeedFirst.{HasFed-none, HasFed-push, feeds-end, feeds-fault, feeds-final, reads_on, room-next}
 use Rattle.tmw_judge.proofs.feed_first.feed_first.Goals as goal
 
 pub loop-lines-init : goal.loop-lines-init
@@ -18,15 +18,6 @@ loop-lines-preserved g c = (
       c.in-Ok.ensures.taken,
   c.in-Ok-Some.ensures.failures (reads_on c.loop-lines.invariant.0 c.requires) ∙ c.loop-lines.invariant.1,
 )
-
-pub returns-in_default-clause-feeds : goal.returns-in_default-clause-feeds
-returns-in_default-clause-feeds g c =
-    feeds-lack c.loop-lines.invariant.0 (sym c.loop-lines-test.ensures) _ c.take.new.self
-    (rw c.in-Ok-Some.field-0-is at c.in-Ok-Some.ensures.reads)
-
-pub returns-in_default-clause-failures : goal.returns-in_default-clause-failures
-returns-in_default-clause-failures g c =
-    c.in-Ok-Some.ensures.failures (reads_on c.loop-lines.invariant.0 c.requires) ∙ c.loop-lines.invariant.1
 
 pub returns-in-Ok-None-clause-feeds : goal.returns-in-Ok-None-clause-feeds
 returns-in-Ok-None-clause-feeds g c =

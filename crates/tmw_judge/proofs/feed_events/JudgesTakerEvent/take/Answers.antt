@@ -1,19 +1,15 @@
 -- An event that was fed is one more, and is counted where some verdict was open.
 use Rattle.tmw_judge.proofs.Shared.{both_ways, refl, ◌∙◌}
 use Rattle.tmw_judge.proofs.CountedPart.{judged-more}
-use Rattle.tmw_judge.proofs.JudgesTake.{counted-taken, few_fed, have_room, on_err}
+use Rattle.tmw_judge.proofs.JudgesTake.{counted-taken, few_fed, have_room}
 use Rattle.tmw_judge.proofs.feed_events.JudgesTakerEvent.take.Goals as goal
-
-pub returns-in_err-feed-clause-lacks : goal.returns-in_err-feed-clause-lacks
-returns-in_err-feed-clause-lacks g c =
-    on_err c.from_residual.result _ (λ header bounds asked history was. c.in_err-feed.ensures.refused header bounds asked history was.fed)
 
 pub returns-then-open-clause-taken : goal.returns-then-open-clause-taken
 returns-then-open-clause-taken g c header bounds asked history was =
     let few = few_fed header bounds asked history c.args.self.now.monitors
     (have_room g.C.Tally.counts c.args.self.now c.requires.0 c.requires.1 c.requires.2) was.fed in
     judged-more g.C.Tally.counts header bounds asked history c.args.event c.args.self.now _ was
-    (c.in_ok-feed.ensures.fed header bounds asked history was.fed)
+    (c.feed.ensures header bounds asked history was.fed)
     (λ is formed so. c.take.ensures.formed header.registers.number history few formed so)
     (λ is ill so. c.take.ensures.ill_formed header.registers.number history few ill so)
     (λ shut. absurd (both_ways _ (c.any_open-open.ensures ∙ shut) c.if-open.true))
@@ -25,7 +21,7 @@ returns-then-open-clause-counted g c =
 pub returns-else-open-clause-taken : goal.returns-else-open-clause-taken
 returns-else-open-clause-taken g c header bounds asked history was =
     judged-more g.C.Tally.counts header bounds asked history c.args.event c.args.self.now _ was
-    (c.in_ok-feed.ensures.fed header bounds asked history was.fed)
+    (c.feed.ensures header bounds asked history was.fed)
     (λ is formed so. absurd (both_ways _ c.if-open.false (c.any_open-open.ensures ∙ is)))
     (λ is ill so. absurd (both_ways _ c.if-open.false (c.any_open-open.ensures ∙ is)))
     (λ shut. refl)

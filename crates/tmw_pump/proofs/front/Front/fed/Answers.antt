@@ -1,5 +1,5 @@
 use Rattle.tmw_pump.proofs.Shared.{◌∙◌}
-use Rattle.tmw_pump.proofs.HeldEvent.{count-fed}
+use Rattle.tmw_pump.proofs.WasFed.{count-fed}
 use Rattle.tmw_pump.proofs.front.Front.fed.Goals as goal
 
 pub returns : goal.returns

@@ -1,74 +1,64 @@
-use Rattle.tmw_pump.proofs.Shared.{HasPumped, ap, arith, err_from_is_err_and, inl, inr, pump_in, refl, subst, ℕ, ◌∙◌, ◌≡◌}
+use Rattle.tmw_pump.proofs.Shared.{Event, HasPumped, List, [], ap, arith, err_from_is_err_and, inl, inr, length_push, pump_in, refl, subst, sym, ℕ, ◌++◌, ◌∙◌, ◌∷◌, ◌≡◌}
 use Rattle.tmw_pump.proofs.HeadlineProof.{gives_headline}
-use Rattle.tmw_pump.proofs.KeepSteps.{was_kept}
-use Rattle.tmw_pump.proofs.Turns.{fits-came, pumped-came, pumped-more, pumped-next, pumped-refused}
+use Rattle.tmw_pump.proofs.KeepSteps.{kept-room, was_kept}
+use Rattle.tmw_pump.proofs.Turns.{pumped-more}
 use Rattle.tmw_pump.proofs.pump.Pump.pump.Goals as goal
 
 pub returns-in_default-clause-ok : goal.returns-in_default-clause-ok
 returns-in_default-clause-ok g c =
-    let old = pump_in c.args.self.now in
     let at = c.loop-judged in
-    let next = c.next.new.self in
     let below = c.loop-judged-test.true in
-    let come = c.next.ensures.front in
     rw c.pumped.ensures (record {
       last = at.self.reader;
-      counted = pumped-came at.judged c.next.result old at.self.reader at.self.front next.front at.invariant.1 come;
+      counted = at.invariant.1;
       ended = inr (below, c.in_default.ensures.none);
       verdict = refl;
-      held = λ _. come.held ∙ c.in_default.is;
       idle = λ none. absurd (omega (arith, none, below));
     })
 
 pub returns-in_default-clause-headline : goal.returns-in_default-clause-headline
 returns-in_default-clause-headline g c =
     let at = c.loop-judged in
-    let next = c.next.new.self in
-    gives_headline c.args.self.now.front next.reader.taken next.front
-    (λ by fits. fits-came c.next.result at.self.front next.front c.next.ensures.front by (at.invariant.1.judged.fits by fits)) next.all
+    gives_headline c.args.self.now.front c.take.new.reader.taken at.self.front at.invariant.1.judged.fits
+    (at.self.all ∙ sym c.in_default.ensures.none.taken)
 
-pub invariant_of-self : goal.invariant_of-self
-invariant_of-self g c = grind (arith, was_kept)
+pub returns-in_default-clause-kept : goal.returns-in_default-clause-kept
+returns-in_default-clause-kept g c =
+    let at = c.loop-judged in
+    kept-room g.K.Keep.keeps c.args.self.now.front at.self.front c.args.self.now.kept at.self.kept c.make_room.new.self at.invariant.2
+    c.make_room.ensures.same
 
-pub returns-in_err-judge_held-clause-err : goal.returns-in_err-judge_held-clause-err
-returns-in_err-judge_held-clause-err g c =
+pub returns-in_err-next-clause-err : goal.returns-in_err-next-clause-err
+returns-in_err-next-clause-err g c =
     let p = err_from_is_err_and c.from_residual.result c.from_residual.ensures.1 in
-    let old = pump_in c.args.self.now in
     let at = c.loop-judged in
-    let next = c.next.new.self in
-    let come = c.next.ensures.front in
-    let refused = c.in_err-judge_held.ensures in
-    rw p.1 (record {
-      count = at.judged;
-      fewer = c.loop-judged-test.true;
-      counted = pumped-refused at.judged old next.reader next.front c.judge_held.new.front
-          (pumped-next at.judged c.next.result old (pump_in at.self) (pump_in next) at.invariant.1 c.in-Some.ensures.taken come) refused.stays
-          refused.fits;
-      event = c.in-Some.event;
-      held = refused.held ∙ come.held ∙ c.in-Some.is;
-    })
+    rw p.1 (record { count = at.judged; fewer = c.loop-judged-test.true; counted = at.invariant.1 })
 
-pub returns-in_err-judge_held-clause-headline : goal.returns-in_err-judge_held-clause-headline
-returns-in_err-judge_held-clause-headline g c =
+pub returns-in_err-next-clause-headline : goal.returns-in_err-next-clause-headline
+returns-in_err-next-clause-headline g c =
     let at = c.loop-judged in
-    let next = c.next.new.self in
-    gives_headline c.args.self.now.front next.reader.taken c.judge_held.new.front
-    (λ by fits. c.judge_held.ensures.fits by
-    (fits-came c.next.result at.self.front next.front c.next.ensures.front by (at.invariant.1.judged.fits by fits)))
-    (c.judge_held.ensures.came ∙ next.all)
+    gives_headline c.args.self.now.front at.self.reader.taken at.self.front at.invariant.1.judged.fits at.self.all
+
+pub returns-in_err-next-clause-kept : goal.returns-in_err-next-clause-kept
+returns-in_err-next-clause-kept g c =
+    let at = c.loop-judged in
+    kept-room g.K.Keep.keeps c.args.self.now.front at.self.front c.args.self.now.kept at.self.kept c.make_room.new.self at.invariant.2
+    c.make_room.ensures.same
+
+pub judge_next-requires-clause-few : goal.judge_next-requires-clause-few
+judge_next-requires-clause-few g c = let took = c.in-Some.ensures.some in grind (arith, length_push, took.taken, took.few, c.loop-judged.self.all)
 
 pub loop-judged-preserved : goal.loop-judged-preserved
 loop-judged-preserved g c =
     let old = pump_in c.args.self.now in
     let at = c.loop-judged in
-    let next = c.next.new.self in
-    let done = c.in_ok-judge_held.ensures in (
-      c.next.ensures.of_ring,
-      pumped-more at.judged old next.reader next.front c.judge_held.new.front c.in-Some.event
-          (pumped-next at.judged c.next.result old (pump_in at.self) (pump_in next) at.invariant.1 c.in-Some.ensures.taken c.next.ensures.front)
-          done.judged done.fits,
-      λ rules was. done.kept rules (c.next.ensures.kept rules (at.invariant.2 rules was)),
-      λ _. done.free,
+    let done = c.judge_next.ensures in
+    let room = kept-room g.K.Keep.keeps c.args.self.now.front at.self.front c.args.self.now.kept at.self.kept c.make_room.new.self at.invariant.2
+    c.make_room.ensures.same in (
+      c.take.ensures.same,
+      pumped-more at.judged old at.self.reader c.take.new.reader at.self.front c.judge_next.new.front c.in-Some.event at.invariant.1
+          c.in-Some.ensures.some done.judged done.fits,
+      λ rules was. done.kept rules (room rules was),
       λ none. absurd (omega (arith, none)),
     )
 
@@ -83,11 +73,41 @@ returns-clause-ok g c =
       counted = subst (λ (count : ℕ). HasPumped count old new.reader new.front) all at.invariant.1;
       ended = inl (refl, refl);
       verdict = refl;
-      held = λ some. at.invariant.3 (omega (arith, some, all));
-      idle = λ none. ap pump_in (at.invariant.4 (omega (arith, none, all)));
+      idle = λ none. (at.invariant.3 (omega (arith, none, all))).0;
     })
 
 pub returns-clause-headline : goal.returns-clause-headline
 returns-clause-headline g c =
     let at = c.loop-judged in
     gives_headline c.args.self.now.front at.self.reader.taken at.self.front at.invariant.1.judged.fits at.self.all
+
+pub invariant_of-self : goal.invariant_of-self
+invariant_of-self g c =
+    let at = c.loop-judged.self in
+    let keeps = g.K.Keep.keeps in record {
+      all = at.all;
+      keeps = was_kept keeps at.front at.front at.kept c.make_room.new.self at.keeps
+          (kept-room keeps at.front at.front at.kept at.kept c.make_room.new.self (λ rules was. was) c.make_room.ensures.same);
+    }
+
+pub invariant_of-self-in_default : goal.invariant_of-self-in_default
+invariant_of-self-in_default g c =
+    let at = c.loop-judged.self in
+    let keeps = g.K.Keep.keeps in record {
+      all = at.all ∙ sym c.in_default.ensures.none.taken;
+      keeps = was_kept keeps at.front at.front at.kept c.make_room.new.self at.keeps
+          (kept-room keeps at.front at.front at.kept at.kept c.make_room.new.self (λ rules was. was) c.make_room.ensures.same);
+    }
+
+pub invariant_of-self-in-loop-judged : goal.invariant_of-self-in-loop-judged
+invariant_of-self-in-loop-judged g c =
+    let at = c.loop-judged.self in
+    let done = c.judge_next.ensures in
+    let keeps = g.K.Keep.keeps in
+    let room = kept-room keeps at.front at.front at.kept at.kept c.make_room.new.self (λ rules was. was) c.make_room.ensures.same in record {
+      all = done.judged ∙ ap (λ (xs : List Event). xs ++ c.in-Some.event ∷ []) at.all ∙ sym c.in-Some.ensures.some.taken;
+      keeps = was_kept keeps at.front c.judge_next.new.front at.kept c.judge_next.new.kept at.keeps (λ rules was. done.kept rules (room rules was));
+    }
+
+pub returns-clause-idle : goal.returns-clause-idle
+returns-clause-idle g c = λ none. c.loop-judged.invariant.3 (let within = c.loop-judged.auto.judged-end in omega (arith, none, within))

@@ -1,5 +1,5 @@
 use Rattle.tmw_watch.proofs.Shared.{IsPermutation, IsPermutation-map, Recorder, refl, rules, subst, sym, writers_of, ◌≡◌}
-use Rattle.tmw_watch.proofs.RestVerdict.{ended_again, is_closed, is_left, of_ring_placed}
+use Rattle.tmw_watch.proofs.RestVerdict.{closed_again, of_ring_placed}
 use Rattle.tmw_watch.proofs.watch.Watch.close.Goals as goal
 
 pub returns-in-Err-clause-err : goal.returns-in-Err-clause-err
@@ -31,12 +31,6 @@ returns-in-Err-end-clause-err c =
           (IsPermutation-map (λ (recorder : Recorder). recorder.writer) given placed c.in-Ok.ensures.ok),
     )
 
-pub returns-in-Ok-finish-clause-ok : goal.returns-in-Ok-finish-clause-ok
-returns-in-Ok-finish-clause-ok c =
-    let ended = ended_again c.args.self c.args.recorders.items c.in-Ok.recorders.items _ c.in-Ok.ensures.ok c.in-Ok-end.ensures.ok in
-    is_closed c.args.self c.args.recorders.items _ c.in-Ok-finish.report ended c.in-Ok-end.ensures.front c.in-Ok-finish.ensures.ok
-
-pub returns-in-Err-finish-clause-err : goal.returns-in-Err-finish-clause-err
-returns-in-Err-finish-clause-err c =
-    let ended = ended_again c.args.self c.args.recorders.items c.in-Ok.recorders.items _ c.in-Ok.ensures.ok c.in-Ok-end.ensures.ok in
-    is_left c.args.self c.args.recorders.items _ _ ended c.in-Ok-end.ensures.front c.in-Err-finish.ensures.err
+pub returns-in-Ok-end-clause-ok : goal.returns-in-Ok-end-clause-ok
+returns-in-Ok-end-clause-ok c =
+    closed_again c.args.self c.args.recorders.items c.in-Ok.recorders.items c.in-Ok-end.report c.in-Ok.ensures.ok c.in-Ok-end.ensures.ok

@@ -19,6 +19,5 @@ returns-clause-ok c =
       taken = ap (λ (reader : ReaderIs). reader.taken) pump.reader ∙ made.taken;
       run = ap (λ (reader : ReaderIs). reader.run) pump.reader ∙ made.run;
       judged = pump.judged;
-      held = pump.held;
       fits = subst (λ (monitor : Monitor). Fits rules [] monitor) (sym pump.monitor) c.in_ok-monitor.ensures.fits;
     }

@@ -1,4 +1,4 @@
 use Rattle.tmw_watch.proofs.watch.Watch.pump.Goals as goal
 
-pub returns-clause-ok : goal.returns-clause-ok
-returns-clause-ok c = c.pump.ensures.ok
+pub returns-clause-pumped : goal.returns-clause-pumped
+returns-clause-pumped c = c.in-Ok.ensures.ok

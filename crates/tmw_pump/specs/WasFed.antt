@@ -1,5 +1,5 @@
--- The event that is held, what a monitor was fed, and what was counted of that.
-use Rattle.std.specs.Prelude.{◌≡◌, ℕ, List, [], ◌∷◌, Option, Some, None}
+-- What a monitor was fed, and what was counted of that.
+use Rattle.std.specs.Prelude.{◌≡◌, ℕ, List}
 use Rattle.tmw_counts.specs.Counter.{CountsSo}
 use Rattle.tmw_counts.specs.CountedPart.{part_by}
 use Rattle.tmw_counts.specs.declared.counter.Counter.{Counter}
@@ -9,11 +9,6 @@ use Rattle.tmw_defs.specs.declared.criterion.Criterion.TheVariants.{Opacity}
 use Rattle.tmw_monitor.specs.Fits.{Fits}
 use Rattle.tmw_monitor.specs.Monitor.{IsOpen, criterion_of, verdict_of}
 use Rattle.tmw_monitor.specs.declared.monitor.Monitor.{Monitor}
-
--- the event that is held, if any, as a list
-abbrev pub listed : Option Event → List Event
-listed None = []
-listed (Some event) = event ∷ []
 
 -- The monitor judges by opacity.
 abbrev pub JudgesOpacity : Monitor → Type 0

@@ -1,12 +1,7 @@
--- What a monitor was fed before and after it is fed the held event.
-use Rattle.tmw_pump.proofs.Shared.{Event, Fits, List, Monitor, Option, Rules, Some, WasFed, arith, length, listed, ∥∥₁_elim, ∥∥₁_map, ◌+◌, ◌<◌, ◌^◌, ◌≡◌, ◌≤◌}
+-- What a monitor was fed before and after it is fed an event.
+use Rattle.tmw_pump.proofs.Shared.{Event, Fits, List, Monitor, Rules, WasFed, arith, length, ∥∥₁_elim, ∥∥₁_map, ◌<◌, ◌^◌, ◌≡◌}
 use Rattle.std.proofs.Math.Bridge.{le_prop}
 use Rattle.std.proofs.Math.Nat.{ℕ_set}
-
--- A held event leaves room for one more to be judged.
-pub few-held : (judged : List Event) (held : Option Event) (event : Event) → held ≡ Some event
-    → length judged + length (listed held) ≤ 2 ^ 40 → length judged < 2 ^ 40
-few-held judged held event is few = grind (arith, length, listed)
 
 -- The monitor has counted what was judged.
 pub room-fed : (judged : List Event) (monitor : Monitor) → ∥ WasFed judged monitor ∥₁ → length judged < 2 ^ 40 → monitor.count < 2 ^ 40
