@@ -1,6 +1,6 @@
 -- From a settled ring, whose writers have claimed whole rounds and a last one, to the log of these rounds.
-use Rattle.tmw_bench.proofs.Shared.{All-drop, All-take, AllOpaque, AllStand, Answer, AreEndings, Call, Ending, EndsRound, EndsWork, Event, FindsFrom, HasPlayed, HasPlayedLast, HaveAllPlayedLast, IsInRounds, IsLogOfAll, IsSettled, Kind, List, None, Option, ReaderIs, Refused, Rules, WriterIs, arith, cases_lt, drop, ending_of, get_or, inl, inr, kinds_of, last_bound, length, length-take-le, made_from, no_kinds, script_at, subst, sym, take, take-append-drop, true, ℕ, ◌++◌, ◌<◌, ◌∙◌, ◌≡◌, ◌≤◌, rules}
-use Rattle.tmw_bench.proofs.CutPlaces.{cutting}
+use Rattle.tmw_bench.proofs.Shared.{All-drop, All-take, AllOpaque, AllStand, Answer, AreEndings, Call, Ending, EndsRound, EndsWork, Event, FindsFrom, HasPlayed, HasPlayedLast, HaveAllPlayedLast, IsInRounds, IsLogOfAll, IsSettled, Kind, List, None, Option, ReaderIs, Refused, Rules, WriterIs, arith, cases_lt, drop, ending_of, get_or, inl, inr, kinds_of, last_bound, length, length-take-le, made_from, no_kinds, rules, script_at, subst, sym, take, take-append-drop, true, ℕ, ◌++◌, ◌<◌, ◌∙◌, ◌≡◌, ◌≤◌}
+use Rattle.tmw_bench.proofs.PlacesUpTo.{cutting}
 use Rattle.tmw_bench.proofs.OpaqueRounds.{all_opaque-take, last_bound-within}
 use Rattle.tmw_bench.proofs.RoundPlaces.{earlier_played}
 use Rattle.tmw_bench.proofs.WholeRounds.{are_whole_rounds}

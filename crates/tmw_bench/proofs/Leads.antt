@@ -1,5 +1,5 @@
 -- What the leader has heard and told, from one worker to the next.
-use Rattle.tmw_bench.proofs.Shared.{AllOpaque, AreNewLines, RoundEnd, Fits, Front, HasGoneOn, HasHeard, HasJudged, HasLedTo, HasToldStop, HaveHeardUpTo, HaveToldUpTo, IsVerdict, Line, List, OpaqueSoFar, Option, Refused, Rules, SameConsumer, SameProducer, Some, SomeToldStop, [], ap, append_assoc, arith, cases_lt, get_or, get_or-set_other, get_or-set_same, inl, inr, judged-none, length, length-append, length-set, length_push, received, sent, set, subst, sym, ℕ, ◌++◌, ◌+◌, ◌<◌, ◌∙◌, ◌∷◌, ◌≡◌, ◌≢◌, rules}
+use Rattle.tmw_bench.proofs.Shared.{AllOpaque, AreNewLines, Fits, Front, HasGoneOn, HasHeard, HasJudged, HasLedTo, HasToldStop, HaveHeardUpTo, HaveToldUpTo, IsVerdict, Line, List, OpaqueSoFar, Option, Refused, RoundEnd, Rules, SameConsumer, SameProducer, Some, SomeToldStop, [], ap, append_assoc, arith, cases_lt, get_or, get_or-set_other, get_or-set_same, inl, inr, judged-none, length, length-append, length-set, length_push, received, rules, sent, set, subst, sym, ℕ, ◌++◌, ◌+◌, ◌<◌, ◌∙◌, ◌∷◌, ◌≡◌, ◌≢◌}
 use Rattle.std.specs.Option.{IsSome}
 use Rattle.std.proofs.Math.Nat.{ne_of_lt}
 use Rattle.tmw_bench.proofs.OpaqueRounds.{all_opaque-append, all_opaque-round}

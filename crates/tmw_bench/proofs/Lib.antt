@@ -2,13 +2,13 @@ pub mod AllBack
 pub mod Between
 mod CallsLeft
 mod Claims
-pub mod CutPlaces
 pub mod InRounds
 pub mod JoinThreads
 pub mod Leads
 pub mod MadeFrom
 pub mod NeverMalformed
 pub mod OpaqueRounds
+pub mod PlacesUpTo
 pub mod Returns
 pub mod RoundPlaces
 pub mod RoundsOver

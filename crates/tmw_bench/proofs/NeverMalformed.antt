@@ -1,5 +1,5 @@
 -- A log of rounds is never malformed: each thread's events begin a run of its script, repeated.
-use Rattle.tmw_bench.proofs.Shared.{All, Answer, AreWholeRounds, Call, Ending, EndsRound, Event, Headline, IsBeginning, IsFirst, IsInRounds, IsMalformed, IsTrue, IsWholeRun, Kind, List, Malformed, Rules, Verdict, WriterIs, [], ap, append-nil, append_assoc, are_transactions, both_ways, cases_lt, get_or, get_or_past, inl, inr, is_well_formed, kinds_of, kinds_of-append, length, no_kinds, refl, script_at, subst, suc, sym, take, whole_run-append, zero, ℕ, ◌<◌, ◌∙◌, ◌≡◌, ◌≢◌, arith, rules}
+use Rattle.tmw_bench.proofs.Shared.{All, Answer, AreWholeRounds, Call, Ending, EndsRound, Event, Headline, IsBeginning, IsFirst, IsInRounds, IsMalformed, IsTrue, IsWholeRun, Kind, List, Malformed, Rules, Verdict, WriterIs, [], ap, append-nil, append_assoc, are_transactions, arith, both_ways, cases_lt, get_or, get_or_past, inl, inr, is_well_formed, kinds_of, kinds_of-append, length, no_kinds, refl, rules, script_at, subst, suc, sym, take, whole_run-append, zero, ℕ, ◌<◌, ◌∙◌, ◌≡◌, ◌≢◌}
 use Rattle.tmw_bench.proofs.InRounds.{some_writer}
 use Rattle.tmw_bench.proofs.RunsAgain.{repeated, are_transactions-repeated, beginning-append, repeated-nil}
 use Rattle.tmw_drive.specs.declared.ending.Ending.TheVariants.{Done}

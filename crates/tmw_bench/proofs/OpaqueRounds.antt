@@ -1,5 +1,5 @@
 -- That the verdict was opaque so far at each bound, as the log goes on and when it is cut.
-use Rattle.tmw_bench.proofs.Shared.{AllOpaque, Event, IsVerdict, List, OpaqueSoFar, Rules, [], arith, last_bound, length, length-append, length-take-le, subst, take, take-append-le, take-take, take_all, ℕ, ◌++◌, ◌∷◌, ◌≡◌, ◌≤◌, rules}
+use Rattle.tmw_bench.proofs.Shared.{AllOpaque, Event, IsVerdict, List, OpaqueSoFar, Rules, [], arith, last_bound, length, length-append, length-take-le, rules, subst, take, take-append-le, take-take, take_all, ℕ, ◌++◌, ◌∷◌, ◌≡◌, ◌≤◌}
 
 -- the log has come as far as the last of the rounds
 pub last_bound-within : (rules : Rules) (bounds : List ℕ) (log : List Event) → AllOpaque rules bounds log → last_bound bounds ≤ length log

@@ -1,5 +1,5 @@
 -- What workers were given, and what they have done with it.
-use Rattle.tmw_bench.proofs.Shared.{Answer, Call, GivesWithin, HasWorked, Kind, List, Option, Refused, WriterIs, [], all_stand-more, ap, get_or, get_or-append_seam, kinds_made, length, one_more, subst, sym, ℕ, ◌++◌, ◌<◌, ◌∙◌, ◌∷◌, ◌≡◌, rules}
+use Rattle.tmw_bench.proofs.Shared.{Answer, Call, GivesWithin, HasWorked, Kind, List, Option, Refused, WriterIs, [], all_stand-more, ap, get_or, get_or-append_seam, kinds_made, length, one_more, rules, subst, sym, ℕ, ◌++◌, ◌<◌, ◌∙◌, ◌∷◌, ◌≡◌}
 
 -- What was carried out with answers that the memory gives was so with answers of which there may be more.
 pub worked-more : (gives more : Call → Answer → Type 0) (script : List (List Kind)) (before writer : WriterIs) (stop : Option Refused)

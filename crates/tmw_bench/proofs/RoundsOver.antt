@@ -1,5 +1,5 @@
 -- Where no further round was begun, and how the threads have ended.
-use Rattle.tmw_bench.proofs.Shared.{AreEndings, Ending, Event, Front, Headline, IsFine, IsOver, IsVerdict, Kind, List, None, OpaqueSoFar, Option, Refused, Rules, SomeStopped, Verdict, WriterIs, arith, ending_of, get_or, get_or-map, inl, inr, length, length-append, length-map, map, subst, take-append-le, verdict-one, ℕ, ◌++◌, ◌<◌, ◌≡◌, ◌≢◌, ◌⊎◌, rules}
+use Rattle.tmw_bench.proofs.Shared.{AreEndings, Ending, Event, Front, Headline, IsFine, IsOver, IsVerdict, Kind, List, None, OpaqueSoFar, Option, Refused, Rules, SomeStopped, Verdict, WriterIs, arith, ending_of, get_or, get_or-map, inl, inr, length, length-append, length-map, map, rules, subst, take-append-le, verdict-one, ℕ, ◌++◌, ◌<◌, ◌≡◌, ◌≢◌, ◌⊎◌}
 use Rattle.tmw_bench.proofs.Whole.{some_stopped-endings}
 use Rattle.tmw_defs.specs.declared.criterion.Criterion.TheVariants.{Opacity}
 use Rattle.tmw_pump.proofs.Verdicts.{fine-opaque}

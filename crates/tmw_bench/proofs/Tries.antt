@@ -1,5 +1,6 @@
 -- The writer tries, waits, and tries again.
-use Rattle.tmw_bench.proofs.Shared.{Err, HasLooked, HasRecorded, HasTried, HasWaited, IfErr, IfOk, IsRefusal, Kind, Ok, Refused, Result, RingIs, WasRefused, WriterIs, WriterOf, sym, ℕ, ◌∙◌, ◌≡◌, arith}
+use Rattle.tmw_bench.proofs.Shared.{Err, HasTried, HasWaited, IfErr, IfOk, Kind, Ok, Refused, Result, RingIs, WasRefused, WriterIs, WriterOf, arith, sym, ℕ, ◌∙◌, ◌≡◌}
+use Rattle.tmw_ring.specs.Record.{HasLooked, HasRecorded, IsRefusal}
 
 -- A refused call has recorded nothing, and has looked at tail.
 pub has_looked-refused : (kind : Kind) (old : WriterIs) (refused : Refused) (new : WriterIs) → IsRefusal kind old refused new

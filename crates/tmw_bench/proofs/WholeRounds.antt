@@ -1,6 +1,6 @@
 -- From writers that have claimed whole rounds to the log of these rounds.
-use Rattle.tmw_bench.proofs.Shared.{All, All-drop, All-take, AllOpaque, AllStand, Answer, AreWholeRounds, Call, Event, HasPlayed, IsWholeRound, IsWholeRun, Kind, List, Rules, [], arith, cases_lt, drop, inl, inr, kinds_of, last_bound, length, length-take-le, made_from, nil_from_length, no_kinds, script_at, subst, sym, take, take-append-drop, true, ℕ, ◌<◌, ◌∷◌, ◌≡◌, ◌≤◌, rules}
-use Rattle.tmw_bench.proofs.CutPlaces.{cutting}
+use Rattle.tmw_bench.proofs.Shared.{All, All-drop, All-take, AllOpaque, AllStand, Answer, AreWholeRounds, Call, Event, HasPlayed, IsWholeRound, IsWholeRun, Kind, List, Rules, [], arith, cases_lt, drop, inl, inr, kinds_of, last_bound, length, length-take-le, made_from, nil_from_length, no_kinds, rules, script_at, subst, sym, take, take-append-drop, true, ℕ, ◌<◌, ◌∷◌, ◌≡◌, ◌≤◌}
+use Rattle.tmw_bench.proofs.PlacesUpTo.{cutting}
 use Rattle.tmw_bench.proofs.OpaqueRounds.{all_opaque-take, last_bound-within, opaque_at_last}
 use Rattle.tmw_bench.proofs.RoundPlaces.{earlier_played}
 

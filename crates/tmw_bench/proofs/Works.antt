@@ -1,5 +1,6 @@
 -- From one call to the next, and to the end of the script or to a refusal.
-use Rattle.tmw_bench.proofs.Shared.{AllStand, Answer, Call, EndsWork, FindsFrom, HasCalled, HasClaimed, HasRunSoFar, HasWorked, IsBeginning, IsNew, IsTrue, Kind, List, None, Option, Player, Plays, Refused, Some, StopsAt, WriterIs, [], answers, append-nil, append_assoc, are_transactions, are_transactions-next_left, arith, inl, inr, leaves-next_left, left_of, next_left, next_of, next_of-some, plays-goes_on, plays-new, so_far_all, so_far_called, subst, sym, tail_of, true, whole-plays, ℕ, ◌++◌, ◌∷◌, ◌≡◌, ◌≤◌, rules}
+use Rattle.tmw_bench.proofs.Shared.{AllStand, Answer, Call, EndsWork, FindsFrom, HasCalled, HasClaimed, HasRunSoFar, HasWorked, IsBeginning, IsNew, IsTrue, Kind, List, None, Option, Player, Plays, Refused, Some, StopsAt, WriterIs, [], answers, append-nil, append_assoc, are_transactions, are_transactions-next_left, arith, inl, inr, leaves-next_left, left_of, next_left, next_of, next_of-some, rules, so_far_all, so_far_called, subst, sym, tail_of, true, ℕ, ◌++◌, ◌∷◌, ◌≡◌, ◌≤◌}
+use Rattle.tmw_drive.proofs.Players.{plays-goes_on, plays-new, whole-plays}
 use Rattle.tmw_runs.proofs.Calls.{are_calls-transactions}
 use Rattle.tmw_runs.proofs.Leaves.{beginning, beginning_pending}
 use Rattle.tmw_runs.specs.ScriptRest.{Leaves}

@@ -1,19 +1,11 @@
 -- How the pump of a bench goes on, and what is kept of the log.
+use Rattle.tmw_bench.specs.Shared.{Answer, Call, HasJudged, IsKept, Kind, Registers, Settings, StaysKept, judged_of, pump_front, pump_in, pump_kept, rules_of, verdict_on, zeros}
 use Rattle.std.specs.Prelude.{ℕ, List}
 use Rattle.tmw_bench.specs.BenchHeadline.{HasBenched}
 use Rattle.tmw_bench.specs.declared.bench.Carried.{Carried}
-use Rattle.tmw_options.specs.declared.bench_settings.Settings.{Settings}
-use Rattle.tmw_defs.specs.Opaque.{zeros}
-use Rattle.tmw_events.specs.declared.event.Kind.{Kind}
-use Rattle.tmw_events.specs.declared.registers.Registers.{Registers}
-use Rattle.tmw_monitor.specs.Fits.{rules_of}
-use Rattle.tmw_pump.specs.Front.{judged_of, verdict_on, HasJudged}
-use Rattle.tmw_pump.specs.Keep.{IsKept, StaysKept}
-use Rattle.tmw_pump.specs.Pump.{pump_front, pump_in, pump_kept}
 use Rattle.tmw_pump.specs.Rest.{rest_front, rest_in, rest_kept}
 use Rattle.tmw_pump.specs.declared.keep.Keep.{Ghosts}
 use Rattle.tmw_pump.specs.declared.pump.Pump.{Pump}
-use Rattle.tmw_tm.specs.Answers.{Call, Answer}
 
 -- The pump has judged some events more, and what was kept of those before, it keeps of all.
 pub record HasGoneOn {K N : Type 0} {G : Ghosts K N} (old new : Pump K N G) : Type 0 where

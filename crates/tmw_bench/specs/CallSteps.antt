@@ -1,16 +1,8 @@
 -- What one call of a script adds to what its thread has recorded.
+use Rattle.tmw_bench.specs.Shared.{Answer, Call, GoesOn, Kind, Made, Plays, Refused, Stands, WriterIs, answers, kinds_made}
 use Rattle.std.specs.Prelude.{◌≡◌, ◌==◌, ◌≤◌, ◌<◌, ◌++◌, ◌⊎◌, IsTrue, List, [], ◌∷◌, All}
-use Rattle.tmw_defs.specs.History.{answers}
-use Rattle.tmw_drive.specs.Player.{GoesOn, Plays}
 use Rattle.tmw_drive.specs.declared.player.Player.{Player}
-use Rattle.tmw_events.specs.declared.event.Kind.{Kind}
-use Rattle.tmw_pump.specs.WriterKinds.{kinds_made}
 use Rattle.tmw_bench.specs.RecordSoon.{WasRefused}
-use Rattle.tmw_ring.specs.RingEnds.{WriterIs}
-use Rattle.tmw_ring.specs.declared.seat_part.Made.{Made}
-use Rattle.tmw_ring.specs.declared.refused.Refused.{Refused}
-use Rattle.tmw_runs.specs.AnswersStand.{Stands}
-use Rattle.tmw_tm.specs.Answers.{Call, Answer}
 use Rattle.tmw_bench.specs.Work.{tail_of}
 
 -- The writer has claimed places more, behind all that it had seen, for events of just these kinds.

@@ -1,15 +1,10 @@
 -- What the leader of a bench has done, that tells its workers where each round has ended.
+use Rattle.tmw_bench.specs.Shared.{Fits, Front, Refused, Rules, SameConsumer, SameProducer, judged_of, monitor_of, received, sent}
 use Rattle.std.specs.Prelude.{◌≡◌, ◌≤◌, ◌<◌, ◌+◌, ◌++◌, ℕ, List, [], ◌∷◌, Some, length, get_or}
-use Rattle.rtrb.specs.Ring.{received, sent, SameConsumer, SameProducer}
-use Rattle.tmw_pump.specs.Front.{judged_of, monitor_of}
 use Rattle.tmw_bench.specs.Rounds.{AllOpaque}
-use Rattle.tmw_defs.specs.Verdict.{Rules}
 use Rattle.tmw_bench.specs.Worker.{in_order}
 use Rattle.tmw_bench.specs.declared.round_end.RoundEnd.{RoundEnd}
 use Rattle.tmw_bench.specs.declared.line.Line.{Line}
-use Rattle.tmw_monitor.specs.Fits.{Fits}
-use Rattle.tmw_pump.specs.declared.front.Front.{Front}
-use Rattle.tmw_ring.specs.declared.refused.Refused.{Refused}
 
 -- The worker of this line has told this, next.
 pub record HasHeard (ended : RoundEnd) (old new : Line) : Type 0 where

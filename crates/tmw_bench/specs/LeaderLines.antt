@@ -1,14 +1,10 @@
 -- The rings between a leader and its workers, as they are opened and closed.
+use Rattle.tmw_bench.specs.Shared.{IsPair, Kind, RingIs, WriterIs, WriterOf, calls_of, received, script_at, sent}
 use Rattle.std.specs.Prelude.{◌≡◌, ◌<◌, ◌++◌, ℕ, List, [], length, get_or}
-use Rattle.rtrb.specs.Ring.{received, sent, IsPair}
-use Rattle.tmw_drive.specs.Drive.{script_at}
-use Rattle.tmw_drive.specs.Player.{calls_of}
-use Rattle.tmw_events.specs.declared.event.Kind.{Kind}
 use Rattle.tmw_bench.specs.declared.round_end.RoundEnd.{RoundEnd}
 use Rattle.tmw_bench.specs.declared.line.Line.{Line}
 use Rattle.tmw_bench.specs.declared.threads.Playing.{Playing}
 use Rattle.tmw_bench.specs.declared.worker.Worker.{Worker}
-use Rattle.tmw_ring.specs.RingEnds.{RingIs, WriterIs, WriterOf}
 
 -- A new worker with this writer, and the line to it.
 pub record IsOpened (writer : WriterIs) (worker : Worker) (line : Line) : Type 0 where

@@ -1,10 +1,7 @@
 -- What a thread has tried to record: how its record calls ended.
+use Rattle.tmw_bench.specs.Shared.{Answered, Kind, Refused, WriterIs}
 use Rattle.std.specs.Prelude.{◌≡◌, ◌≤◌, ◌++◌, ℕ, List, Result, Ok, Err}
-use Rattle.tmw_events.specs.declared.event.Kind.{Kind}
-use Rattle.tmw_ring.specs.RingEnds.{WriterIs}
 use Rattle.tmw_ring.specs.Record.{HasRecorded, IsRefusal}
-use Rattle.tmw_ring.specs.declared.refused.Refused.{Refused}
-use Rattle.tmw_ring_defs.specs.declared.ring_step.Answered.{Answered}
 
 -- The writer's last record call, of this kind, was refused so.
 pub record WasRefused (kind : Kind) (refused : Refused) (writer : WriterIs) : Type 0 where

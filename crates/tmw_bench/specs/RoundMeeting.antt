@@ -1,6 +1,6 @@
 -- What a writer sees between two rounds.
+use Rattle.tmw_bench.specs.Shared.{WriterIs}
 use Rattle.std.specs.Prelude.{◌≡◌, ◌≤◌, ℕ}
-use Rattle.tmw_ring.specs.RingEnds.{WriterIs}
 
 -- The writer has claimed nothing since, and all that it had seen comes before this length of the log, which it has seen now.
 pub record HasMet (tail : ℕ) (old new : WriterIs) : Type 0 where

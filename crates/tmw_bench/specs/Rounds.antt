@@ -1,20 +1,7 @@
 -- What the writers have claimed, round by round, and the log that it makes: one round after another.
+use Rattle.tmw_bench.specs.Shared.{AllStand, Answer, Call, Done, Ending, Event, IsVerdict, IsWholeRun, Kind, Made, OpaqueSoFar, Refused, Rules, Stopped, WriterIs, kinds_made, script_at}
 use Rattle.std.specs.Prelude.{◌≡◌, ◌≤◌, ◌<◌, ◌++◌, ℕ, true, List, [], ◌∷◌, Option, Some, None, length, get_or, take, All}
-use Rattle.tmw_defs.specs.Verdict.{Rules, IsVerdict}
-use Rattle.tmw_defs.specs.declared.verdict.Verdict.TheVariants.{OpaqueSoFar}
-use Rattle.tmw_drive.specs.Drive.{script_at}
-use Rattle.tmw_drive.specs.declared.ending.Ending.{Ending}
-use Rattle.tmw_drive.specs.declared.ending.Ending.TheVariants.{Done, Stopped}
-use Rattle.tmw_events.specs.declared.event.Event.{Event}
-use Rattle.tmw_events.specs.declared.event.Kind.{Kind}
-use Rattle.tmw_pump.specs.WriterKinds.{kinds_made}
-use Rattle.tmw_ring.specs.RingEnds.{WriterIs}
 use Rattle.tmw_ring.specs.SeatPart.{made_from}
-use Rattle.tmw_ring.specs.declared.seat_part.Made.{Made}
-use Rattle.tmw_ring.specs.declared.refused.Refused.{Refused}
-use Rattle.tmw_runs.specs.Runs.{IsWholeRun}
-use Rattle.tmw_runs.specs.AnswersStand.{AllStand}
-use Rattle.tmw_tm.specs.Answers.{Call, Answer}
 use Rattle.tmw_bench.specs.Work.{EndsWork, FindsFrom}
 
 -- A bound is the length of the log when a round has ended. Bounds are listed with the last round's first.

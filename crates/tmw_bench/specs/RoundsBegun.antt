@@ -1,17 +1,8 @@
 -- How a bench stands after so many rounds were begun.
+use Rattle.tmw_bench.specs.Shared.{Answer, AreInOrder, Call, Fits, Front, Kind, OpaqueSoFar, ReaderIs, ReaderOf, Refused, RingIs, Rules, WriterIs, WriterOf, judged_of, monitor_of, verdict_on}
 use Rattle.std.specs.Prelude.{◌≡◌, ◌≢◌, ◌+◌, ◌⊎◌, ℕ, List, Option, length, All}
-use Rattle.tmw_pump.specs.Front.{judged_of, monitor_of, verdict_on}
 use Rattle.tmw_bench.specs.WorkerConditions.{SomeStop}
 use Rattle.tmw_bench.specs.Rounds.{AllOpaque, HaveAllPlayedLast}
-use Rattle.tmw_defs.specs.Verdict.{Rules}
-use Rattle.tmw_defs.specs.declared.verdict.Verdict.TheVariants.{OpaqueSoFar}
-use Rattle.tmw_events.specs.declared.event.Kind.{Kind}
-use Rattle.tmw_monitor.specs.Fits.{Fits}
-use Rattle.tmw_pump.specs.declared.front.Front.{Front}
-use Rattle.tmw_ring.specs.RingEnds.{RingIs, WriterIs, ReaderIs, WriterOf, ReaderOf}
-use Rattle.tmw_ring.specs.Settle.{AreInOrder}
-use Rattle.tmw_ring.specs.declared.refused.Refused.{Refused}
-use Rattle.tmw_tm.specs.Answers.{Call, Answer}
 
 -- After a round: the reader and the writers of one ring are back, and what was recorded are whole rounds, which ended at these
 -- bounds, and one more, to its end or up to where threads were stopped. At each bound the verdict was opaque so far.

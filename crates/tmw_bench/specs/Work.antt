@@ -1,15 +1,8 @@
 -- What a thread records that carries its script out, and how far it comes.
+use Rattle.tmw_bench.specs.Shared.{AllStand, Answer, Call, IsBeginning, IsWholeRun, Kind, Made, Refused, WriterIs, kinds_made}
 use Rattle.std.specs.Prelude.{◌≡◌, ◌≤◌, ◌<◌, ◌++◌, ℕ, true, List, [], ◌∷◌, Option, Some, None, All}
-use Rattle.tmw_events.specs.declared.event.Kind.{Kind}
-use Rattle.tmw_pump.specs.WriterKinds.{kinds_made}
 use Rattle.tmw_bench.specs.RecordSoon.{WasRefused}
-use Rattle.tmw_ring.specs.RingEnds.{WriterIs}
-use Rattle.tmw_ring.specs.declared.seat_part.Made.{Made}
-use Rattle.tmw_ring.specs.declared.refused.Refused.{Refused}
 use Rattle.tmw_ring.specs.declared.refused.Refused.TheVariants.{Full, Spent}
-use Rattle.tmw_runs.specs.Runs.{IsWholeRun, IsBeginning}
-use Rattle.tmw_runs.specs.AnswersStand.{AllStand}
-use Rattle.tmw_tm.specs.Answers.{Call, Answer}
 
 -- These events are the run of the script up to the next one, the record of which was refused so. They are no whole run, since no
 -- whole run is a proper beginning of another.

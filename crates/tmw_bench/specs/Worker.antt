@@ -1,14 +1,10 @@
 -- What a worker has done that plays its script round after round.
+use Rattle.tmw_bench.specs.Shared.{Answer, Call, Kind, Refused, RingIs, SameConsumer, SameProducer, WriterIs, WriterOf, received, sent}
 use Rattle.std.specs.Prelude.{◌≡◌, ◌≤◌, ◌++◌, ℕ, List, [], ◌∷◌, Option, length}
-use Rattle.rtrb.specs.Ring.{received, sent, SameConsumer, SameProducer}
 use Rattle.tmw_bench.specs.Rounds.{HasPlayedLast, IsReady}
-use Rattle.tmw_events.specs.declared.event.Kind.{Kind}
 use Rattle.tmw_bench.specs.declared.round_end.RoundEnd.{RoundEnd}
 use Rattle.tmw_bench.specs.declared.worker.Worker.{Worker}
-use Rattle.tmw_ring.specs.RingEnds.{RingIs, WriterIs, WriterOf}
-use Rattle.tmw_ring.specs.declared.refused.Refused.{Refused}
 use Rattle.tmw_bench.specs.RoundMeeting.{HasOnlySeen}
-use Rattle.tmw_tm.specs.Answers.{Call, Answer}
 
 -- The writer is as it was, but has seen so many places, and no fewer than before.
 pub record HasSeen (bound : ℕ) (old new : WriterIs) : Type 0 where

@@ -1,12 +1,8 @@
 -- What workers are given, and how a bench may fail.
+use Rattle.tmw_bench.specs.Shared.{Answer, Call, Kind, Refused, are_transactions, script_at}
 use Rattle.std.specs.Prelude.{◌≡◌, ◌<◌, ℕ, List, Option, Some, IsTrue, length, get_or}
 use Rattle.tmw_bench.specs.declared.fault.BenchFault.{BenchFault}
 use Rattle.tmw_bench.specs.declared.fault.BenchFault.TheVariants.{Registers, Ring, Memory, Spawn}
-use Rattle.tmw_drive.specs.Drive.{script_at}
-use Rattle.tmw_events.specs.declared.event.Kind.{Kind}
-use Rattle.tmw_ring.specs.declared.refused.Refused.{Refused}
-use Rattle.tmw_runs.specs.Scripts.{are_transactions}
-use Rattle.tmw_tm.specs.Answers.{Call, Answer}
 
 -- Each answer that the first relation gives, the other gives too.
 abbrev pub GivesWithin : (Call → Answer → Type 0) → (Call → Answer → Type 0) → Type 0

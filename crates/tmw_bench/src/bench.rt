@@ -1,7 +1,7 @@
+ghost use Rattle.tmw_bench.specs.Shared.{scripts_of};
 ghost use Rattle.std.specs.Prelude.{◌≤◌, length, IfOk, IfErr};
 ghost use Rattle.tmw_bench.specs.BenchHeadline.{IsBenched, IsHunted, IsNoBench};
 ghost use Rattle.tmw_bench.specs.BenchKeep.{IsCarriedOut};
-ghost use Rattle.tmw_runs.specs.Scripts.{scripts_of};
 
 use crate::bench_keep::BenchKeep;
 use crate::bench_result::BenchResult;

@@ -1,6 +1,6 @@
 //! The rings between a leader and its workers, when the workers have come back.
+ghost use Rattle.tmw_bench.specs.Shared.{IsPair};
 ghost use Rattle.std.specs.Prelude.{◌≡◌, IfOk, length, map};
-ghost use Rattle.rtrb.specs.Ring.{IsPair};
 ghost use Rattle.tmw_bench.specs.LeaderLines.{AreClosed, ArePairs, IsClosed};
 
 use crate::line::Line;

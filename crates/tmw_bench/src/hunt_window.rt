@@ -1,5 +1,3 @@
-ghost use Rattle.std.specs.Prelude.{◌≡◌, List, [], ◌∷◌, ◌++◌, IfOk};
-
 use crate::bench_keep::BenchKeep;
 use crate::progress::Progress;
 use std::alloc::{AllocError, Global};

@@ -1,9 +1,7 @@
 //! Judging a ring up to a length of its log.
+ghost use Rattle.tmw_bench.specs.Shared.{ReaderOf, judged_of, pump_front, pump_in, reader_of};
 ghost use Rattle.std.specs.Prelude.{◌≡◌, ◌+◌, ◌≤◌, length, IfOk, OnOk};
-ghost use Rattle.tmw_pump.specs.Pump.{pump_front, pump_in, reader_of};
-ghost use Rattle.tmw_pump.specs.Front.{judged_of};
 ghost use Rattle.tmw_bench.specs.BenchKeep.{HasGoneOn};
-ghost use Rattle.tmw_ring.specs.RingEnds.{ReaderOf};
 
 use crate::bench_keep::BenchKeep;
 use crate::waits::pause;

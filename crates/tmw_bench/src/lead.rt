@@ -1,13 +1,8 @@
 //! The leader, which judges what the workers record, and tells them where each round has ended.
+ghost use Rattle.tmw_bench.specs.Shared.{Fits, OpaqueSoFar, ReaderOf, Rules, judged_of, monitor_of, pump_front, pump_in, reader_of, verdict_on};
 ghost use Rattle.std.specs.Prelude.{◌≡◌, ◌≢◌, ◌≤◌, ◌<◌, ◌⊎◌, [], length, IfOk, OnOk};
-ghost use Rattle.tmw_defs.specs.Verdict.{Rules};
-ghost use Rattle.tmw_defs.specs.declared.verdict.Verdict.TheVariants.{OpaqueSoFar};
-ghost use Rattle.tmw_pump.specs.Pump.{pump_front, pump_in, reader_of};
-ghost use Rattle.tmw_pump.specs.Front.{judged_of, monitor_of, verdict_on};
 ghost use Rattle.tmw_bench.specs.BenchKeep.{HasGoneOn};
 ghost use Rattle.tmw_bench.specs.Lead.{AreNewLines, HasLed, SomeToldStop};
-ghost use Rattle.tmw_monitor.specs.Fits.{Fits};
-ghost use Rattle.tmw_ring.specs.RingEnds.{ReaderOf};
 
 use crate::bench_keep::BenchKeep;
 use crate::judge_turns::judge_up_to;

@@ -1,9 +1,8 @@
 //! The leader's ends of the lines to its workers.
+ghost use Rattle.tmw_bench.specs.Shared.{ReaderOf, pump_in, reader_of};
 ghost use Rattle.std.specs.Prelude.{length, IfOk, OnOk, IsTrue, IsSome};
-ghost use Rattle.tmw_pump.specs.Pump.{pump_in, reader_of};
 ghost use Rattle.tmw_bench.specs.Lead.{HasHeard, HaveHeardUpTo, HaveToldUpTo, SomeToldStop};
 ghost use Rattle.tmw_bench.specs.BenchKeep.{HasGoneOn};
-ghost use Rattle.tmw_ring.specs.RingEnds.{ReaderOf};
 
 use crate::bench_keep::BenchKeep;
 use crate::orders::Orders;

@@ -1,10 +1,8 @@
 //! All rounds, by workers that live as long.
+ghost use Rattle.tmw_bench.specs.Shared.{StaysKept, pump_front, pump_in, pump_kept, scripts_of};
 ghost use Rattle.std.specs.Prelude.{IfOk, IfErr};
-ghost use Rattle.tmw_pump.specs.Pump.{pump_front, pump_in, pump_kept};
-ghost use Rattle.tmw_pump.specs.Keep.{StaysKept};
-ghost use Rattle.tmw_bench.specs.AllRounds.{CanPlay, HasPlayed};
+ghost use Rattle.tmw_bench.specs.PlayRounds.{CanPlay, HasPlayed};
 ghost use Rattle.tmw_bench.specs.WorkerConditions.{IsOfThreads};
-ghost use Rattle.tmw_runs.specs.Scripts.{scripts_of};
 
 use crate::bench_keep::BenchKeep;
 use crate::bench_stage::BenchStage;

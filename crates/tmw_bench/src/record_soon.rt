@@ -1,5 +1,5 @@
+ghost use Rattle.tmw_bench.specs.Shared.{WriterOf};
 ghost use Rattle.std.specs.Prelude.{◌≡◌};
-ghost use Rattle.tmw_ring.specs.RingEnds.{WriterOf};
 ghost use Rattle.tmw_bench.specs.RecordSoon.{HasTried};
 
 use crate::signals::Signals;

@@ -1,10 +1,9 @@
 //! A thread for each worker, which gives the worker back.
+ghost use Rattle.tmw_bench.specs.Shared.{are_transactions, calls_of, scripts_of};
 ghost use Rattle.std.specs.Prelude.{◌≡◌, ◌<◌, ℕ, length, get_or, IfOk, IfErr, IsTrue};
 ghost use Rattle.tmw_bench.specs.WorkerConditions.{AreTransactions, GivesWithin, IsOfThreads};
-ghost use Rattle.tmw_drive.specs.Player.{calls_of};
 ghost use Rattle.tmw_bench.specs.LeaderLines.{AreNewWorkers, IsNewWorker, IsPromised, promised_ring, promised_script, promised_worker};
 ghost use Rattle.tmw_bench.specs.Worker.{HasPlayedOn};
-ghost use Rattle.tmw_runs.specs.Scripts.{are_transactions, scripts_of};
 
 use crate::bench_stage::BenchStage;
 use crate::fault::BenchFault;

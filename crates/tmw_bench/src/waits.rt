@@ -1,7 +1,6 @@
 //! What a worker waits for between two rounds, and its leader.
+ghost use Rattle.tmw_bench.specs.Shared.{SameConsumer, SameProducer, WriterOf, received, sent};
 ghost use Rattle.std.specs.Prelude.{◌≡◌, ◌≤◌, [], ◌∷◌, ◌++◌, IfSome, IfNone};
-ghost use Rattle.rtrb.specs.Ring.{received, sent, SameConsumer, SameProducer};
-ghost use Rattle.tmw_ring.specs.RingEnds.{WriterOf};
 ghost use Rattle.tmw_bench.specs.Worker.{HasSeen};
 
 use crate::orders::Orders;

@@ -1,10 +1,7 @@
+ghost use Rattle.tmw_bench.specs.Shared.{WriterOf, answers, are_transactions, calls_of};
 ghost use Rattle.std.specs.Prelude.{◌≡◌, ◌==◌, ◌+◌, ◌<◌, ◌^◌, ℕ, IsTrue, IfSome, IfNone};
-ghost use Rattle.tmw_defs.specs.History.{answers};
 ghost use Rattle.tmw_drive.specs.FreshTx.{IsFresh};
-ghost use Rattle.tmw_drive.specs.Player.{calls_of};
 ghost use Rattle.tmw_events.specs.declared.event.Kind.TheVariants.{A};
-ghost use Rattle.tmw_ring.specs.RingEnds.{WriterOf};
-ghost use Rattle.tmw_runs.specs.Scripts.{are_transactions};
 ghost use Rattle.tmw_bench.specs.CallSteps.{HasCalled, StopsAt};
 ghost use Rattle.tmw_bench.specs.Work.{HasWorked};
 

@@ -1,9 +1,6 @@
 //! A worker, which plays its script round after round.
+ghost use Rattle.tmw_bench.specs.Shared.{WriterOf, are_transactions, calls_of, received, sent};
 ghost use Rattle.std.specs.Prelude.{◌≡◌, ℕ, [], IsTrue};
-ghost use Rattle.rtrb.specs.Ring.{received, sent};
-ghost use Rattle.tmw_drive.specs.Player.{calls_of};
-ghost use Rattle.tmw_ring.specs.RingEnds.{WriterOf};
-ghost use Rattle.tmw_runs.specs.Scripts.{are_transactions};
 ghost use Rattle.tmw_bench.specs.WorkerConditions.{GivesWithin};
 ghost use Rattle.tmw_bench.specs.Worker.{HasPlayedOn};
 

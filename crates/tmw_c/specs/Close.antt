@@ -1,4 +1,5 @@
 -- How a call to close a watch is answered.
+use Rattle.tmw_c.specs.Shared.{HasNumber, HeldRecorder, HeldWatch, IsClosed, Open, Recorder, RecorderHandle, Shared, Watch, recorder_count, recorder_in, recorder_ring, watch_ring, writers_of}
 use Rattle.std.specs.Prelude.{◌≡◌, ◌⊎◌, ◌<◌, ℕ, List, Option, Some, None, length, get_or, All}
 use Rattle.std.specs.Global.{Vec}
 use Rattle.tmw_c.specs.Judge.{IsNotOpen, IsTold}
@@ -6,17 +7,8 @@ use Rattle.tmw_c.specs.Open.{AreEmpty}
 use Rattle.tmw_c.specs.declared.call_status.CallStatus.{CallStatus}
 use Rattle.tmw_c.specs.declared.call_status.CallStatus.TheVariants.{Done, NoHandle, Missing, Memory, Closing}
 use Rattle.tmw_c.specs.declared.c_verdict.CVerdict.{CVerdict}
-use Rattle.tmw_handles.specs.HandleContent.{HasNumber, recorder_in}
-use Rattle.tmw_handles.specs.declared.held_recorder.HeldRecorder.{HeldRecorder}
-use Rattle.tmw_handles.specs.declared.held_watch.HeldWatch.{HeldWatch}
-use Rattle.tmw_handles.specs.declared.held_watch.HeldWatch.TheVariants.{Open, Shared}
-use Rattle.tmw_handles.specs.declared.recorder_handle.RecorderHandle.{RecorderHandle}
 use Rattle.tmw_ring.specs.RingEnds.{RingIs, WriterIs}
-use Rattle.tmw_watch.specs.Close.{IsClosed, writers_of}
-use Rattle.tmw_watch.specs.WatchParts.{recorder_count, recorder_ring, watch_ring}
-use Rattle.tmw_watch.specs.declared.recorder.Recorder.{Recorder}
 use Rattle.tmw_watch.specs.declared.report.WatchReport.{WatchReport}
-use Rattle.tmw_watch.specs.declared.watch.Watch.{Watch}
 
 -- There are so many handles, and each holds the recorder of the number that is its place.
 pub record AreInPlace (count : ℕ) (handles : List RecorderHandle) : Type 0 where

@@ -1,19 +1,12 @@
 -- How a call to judge, or to tell what was judged, is answered.
+use Rattle.tmw_c.specs.Shared.{Closed, GivesHeadline, HeldWatch, Malformed, OpaqueSoFar, Open, Shared, StrictSoFar, TellsVerdict, Undecided, Verdict, Violated, Watch, judged_of, verdict_on, watch_front, watch_pump, watch_ring}
 use Rattle.std.specs.Prelude.{◌≡◌, ℕ, Option, Some, None, length}
 use Rattle.tmw_c.specs.declared.call_status.CallStatus.{CallStatus}
 use Rattle.tmw_c.specs.declared.call_status.CallStatus.TheVariants.{Done, NoHandle, Closing}
 use Rattle.tmw_c.specs.declared.c_verdict.CVerdict.{CVerdict}
-use Rattle.tmw_defs.specs.declared.verdict.Verdict.{Verdict}
-use Rattle.tmw_defs.specs.declared.verdict.Verdict.TheVariants.{OpaqueSoFar, StrictSoFar, Violated, Undecided, Malformed}
 use Rattle.tmw_defs.specs.declared.verdict.Why.TheVariants.{Transactions, States}
-use Rattle.tmw_handles.specs.declared.held_watch.HeldWatch.{HeldWatch}
-use Rattle.tmw_handles.specs.declared.held_watch.HeldWatch.TheVariants.{Open, Shared, Closed}
-use Rattle.tmw_pump.specs.Front.{TellsVerdict, judged_of, verdict_on}
-use Rattle.tmw_pump.specs.Headline.{GivesHeadline}
 use Rattle.tmw_pump.specs.Pump.{IsPumped, reader_of}
 use Rattle.tmw_pump.specs.declared.pumped.Pumped.{Pumped}
-use Rattle.tmw_watch.specs.WatchParts.{watch_front, watch_pump, watch_ring}
-use Rattle.tmw_watch.specs.declared.watch.Watch.{Watch}
 
 -- the number of a verdict; a watch judges by opacity alone, so that 4 is not told
 abbrev pub verdict_number : Verdict → ℕ

@@ -1,7 +1,6 @@
 -- Which kind of event a letter, a register and a value ask for.
+use Rattle.tmw_c.specs.Shared.{A, C, K, Kind, N, R, T, V, W, X}
 use Rattle.std.specs.Prelude.{◌≡◌, ◌≤◌, ◌<◌, ◌⊎◌, ℕ}
-use Rattle.tmw_events.specs.declared.event.Kind.{Kind}
-use Rattle.tmw_events.specs.declared.event.Kind.TheVariants.{R, V, W, K, T, C, X, A, N}
 
 -- the letter of a kind, as a trace has it
 abbrev pub letter_of : Kind → ℕ

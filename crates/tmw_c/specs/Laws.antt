@@ -1,18 +1,10 @@
 -- That at most one kind is asked for, and that what is recorded by turns is never malformed.
+use Rattle.tmw_c.specs.Shared.{HasEnded, Headline, IsByTurns, Kind, Malformed, Recorder, Verdict, Watch, writer_of, writers_of}
 use Rattle.std.specs.Prelude.{◌≡◌, ◌≢◌, ℕ, List, All}
 use Rattle.tmw_c.specs.Kinds.{AsksFor}
 use Rattle.tmw_defs.specs.Verdict.{Rules}
-use Rattle.tmw_defs.specs.declared.verdict.Verdict.{Verdict}
-use Rattle.tmw_defs.specs.declared.verdict.Verdict.TheVariants.{Malformed}
 use Rattle.tmw_events.specs.declared.event.Event.{Event}
-use Rattle.tmw_events.specs.declared.event.Kind.{Kind}
-use Rattle.tmw_pump.specs.Headline.{Headline}
 use Rattle.tmw_pump.specs.WriterKinds.{kinds_made}
-use Rattle.tmw_runs.specs.ByTurns.{IsByTurns}
-use Rattle.tmw_watch.specs.Close.{HasEnded, writers_of}
-use Rattle.tmw_watch.specs.WatchParts.{writer_of}
-use Rattle.tmw_watch.specs.declared.recorder.Recorder.{Recorder}
-use Rattle.tmw_watch.specs.declared.watch.Watch.{Watch}
 
 -- A letter, a register and a value ask for one kind at most.
 abbrev pub OneKindLaw : Type 0

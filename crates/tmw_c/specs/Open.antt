@@ -1,19 +1,14 @@
 -- How a call to open a watch is answered.
+use Rattle.tmw_c.specs.Shared.{HeldRecorder, Open, Recorder, RecorderHandle, Watch, recorder_in, watch_in}
 use Rattle.std.specs.Prelude.{◌≡◌, ◌≤◌, ◌<◌, ℕ, List, Option, Some, None, length, get_or, slice_index, All}
 use Rattle.tmw_c.specs.declared.call_status.CallStatus.{CallStatus}
 use Rattle.tmw_c.specs.declared.call_status.CallStatus.TheVariants.{Done, FullHandle, BadRegisters, BadStart, BadBounds, BadSize, BadLimit, Memory}
 use Rattle.tmw_c.specs.declared.c_settings.CSettings.{CSettings}
 use Rattle.tmw_events.specs.declared.registers.Registers.{Registers}
-use Rattle.tmw_handles.specs.HandleContent.{recorder_in, watch_in}
-use Rattle.tmw_handles.specs.declared.held_recorder.HeldRecorder.{HeldRecorder}
-use Rattle.tmw_handles.specs.declared.held_watch.HeldWatch.TheVariants.{Open}
-use Rattle.tmw_handles.specs.declared.recorder_handle.RecorderHandle.{RecorderHandle}
 use Rattle.tmw_handles.specs.declared.watch_handle.WatchHandle.{WatchHandle}
 use Rattle.tmw_ring_defs.specs.RingSize.{HasRoom, HasLimit}
 use Rattle.tmw_watch.specs.Open.{IsOpened}
-use Rattle.tmw_watch.specs.declared.recorder.Recorder.{Recorder}
 use Rattle.tmw_watch.specs.declared.settings.WatchSettings.{WatchSettings}
-use Rattle.tmw_watch.specs.declared.watch.Watch.{Watch}
 
 -- The memory has 1 to 8 registers.
 pub record HasRegisters (wanted : CSettings) : Type 0 where

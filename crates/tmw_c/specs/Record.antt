@@ -1,13 +1,10 @@
 -- How a call to record is answered.
+use Rattle.tmw_c.specs.Shared.{HasRecorded, HeldRecorder, IsRefusal, Kind, recorder_ring, writer_of}
 use Rattle.std.specs.Prelude.{◌≡◌, ℕ, Option, Some, None}
 use Rattle.tmw_c.specs.Kinds.{AsksFor, IsNoLetter, IsNoRegister}
 use Rattle.tmw_c.specs.declared.call_status.CallStatus.{CallStatus}
 use Rattle.tmw_c.specs.declared.call_status.CallStatus.TheVariants.{Done, NoHandle, Full, Spent, BadKind, BadRegister}
-use Rattle.tmw_events.specs.declared.event.Kind.{Kind}
-use Rattle.tmw_handles.specs.declared.held_recorder.HeldRecorder.{HeldRecorder}
-use Rattle.tmw_ring.specs.Record.{HasRecorded, IsRefusal}
 use Rattle.tmw_ring.specs.declared.refused.Refused.TheVariants.{Full as IsFull, Spent as IsSpent}
-use Rattle.tmw_watch.specs.WatchParts.{recorder_ring, writer_of}
 
 -- The status says why no kind is asked for.
 abbrev pub IsUnasked : (registers letter register : ℕ) → CallStatus → Type 0

@@ -1,12 +1,11 @@
 -- How a call that asks for room for several records is answered.
+use Rattle.tmw_c.specs.Shared.{HeldRecorder, writer_of}
 use Rattle.std.specs.Prelude.{◌≡◌, ◌⊎◌, ℕ, Option, Some, None}
 use Rattle.tmw_c.specs.Record.{IsSameEnd}
 use Rattle.tmw_c.specs.declared.call_status.CallStatus.{CallStatus}
 use Rattle.tmw_c.specs.declared.call_status.CallStatus.TheVariants.{Done, NoHandle, Full, Spent}
-use Rattle.tmw_handles.specs.declared.held_recorder.HeldRecorder.{HeldRecorder}
 use Rattle.tmw_ring.specs.Room.{HasFoundRoom, LacksRoom}
 use Rattle.tmw_ring.specs.declared.refused.Refused.TheVariants.{Full as IsFull, Spent as IsSpent}
-use Rattle.tmw_watch.specs.WatchParts.{writer_of}
 
 -- So many records find room.
 pub record FindsRoom (records : ℕ) (old new : HeldRecorder) : Type 0 where

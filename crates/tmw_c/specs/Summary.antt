@@ -1,4 +1,5 @@
 -- How a call to tell what was shown is answered.
+use Rattle.tmw_c.specs.Shared.{HeldWatch, Open, Watch, front_part, watch_front}
 use Rattle.std.specs.Prelude.{◌≡◌, ℕ, Bool, true, false, Option, Some, None}
 use Rattle.tmw_c.specs.Judge.{HoldsNotOpen}
 use Rattle.tmw_c.specs.declared.c_counts.CCounts.{CCounts}
@@ -6,11 +7,6 @@ use Rattle.tmw_c.specs.declared.call_status.CallStatus.{CallStatus}
 use Rattle.tmw_c.specs.declared.call_status.CallStatus.TheVariants.{Done, NoHandle, Closing}
 use Rattle.tmw_counts.specs.Summary.{IsSummary}
 use Rattle.tmw_counts.specs.declared.summary.Summary.{Summary}
-use Rattle.tmw_handles.specs.declared.held_watch.HeldWatch.{HeldWatch}
-use Rattle.tmw_handles.specs.declared.held_watch.HeldWatch.TheVariants.{Open}
-use Rattle.tmw_pump.specs.Front.{front_part}
-use Rattle.tmw_watch.specs.WatchParts.{watch_front}
-use Rattle.tmw_watch.specs.declared.watch.Watch.{Watch}
 
 -- 1 for yes and 0 for no
 abbrev pub flag_of : Bool → ℕ

@@ -1,4 +1,5 @@
 -- How a call is answered that carries a transaction out, an event at a time.
+use Rattle.tmw_c.specs.Shared.{A, Follows, HasRecorded, HeldRecorder, IsPlaced, Kind, writer_of}
 use Rattle.std.specs.Prelude.{◌≡◌, ◌⊎◌, ◌<◌, ◌+◌, ◌++◌, ℕ, Bool, true, false, List, [], ◌∷◌, Option, Some, None, length, get_or}
 use Rattle.tmw_c.specs.Kinds.{AsksFor, IsNoLetter, IsNoRegister}
 use Rattle.tmw_c.specs.Record.{IsSameEnd, WasFull, WasSpent}
@@ -8,13 +9,7 @@ use Rattle.tmw_c.specs.declared.c_turn.Call.{Call}
 use Rattle.tmw_c.specs.declared.c_turn.CTurn.{CTurn}
 use Rattle.tmw_c.specs.declared.turn_calls.Recorded.{Recorded}
 use Rattle.tmw_defs.specs.History.{answers}
-use Rattle.tmw_events.specs.declared.event.Kind.{Kind}
-use Rattle.tmw_events.specs.declared.event.Kind.TheVariants.{A}
-use Rattle.tmw_handles.specs.declared.held_recorder.HeldRecorder.{HeldRecorder}
-use Rattle.tmw_ring.specs.Record.{HasRecorded}
 use Rattle.tmw_runs.specs.Runs.{is_abort}
-use Rattle.tmw_runs.specs.ByTurns.{Follows, IsPlaced}
-use Rattle.tmw_watch.specs.WatchParts.{writer_of}
 
 -- The event brings the transaction of this call from turn to turn: behind whatever brings it to the old turn, it brings it to the new.
 abbrev pub GoesOn : (count : ℕ) → (call recorded : Kind) → (old new : CTurn) → Type 0

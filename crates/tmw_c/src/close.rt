@@ -1,9 +1,8 @@
 //! Closing a watch with its recorders, by their handles.
+ghost use Rattle.tmw_c.specs.Shared.{Open, recorder_in, watch_in};
 ghost use Rattle.std.specs.Prelude.{◌≡◌, ◌≤◌, [], All, Some, IsSome, length, IfOk, IfErr, IsTrue, IsFalse, vec_capacity};
 ghost use Rattle.tmw_c.specs.Close.{AreHeld, AreInPlace, AreOfWatch, IsClosing, IsUnended, WasClosed};
 ghost use Rattle.tmw_c.specs.Open.{AreEmpty};
-ghost use Rattle.tmw_handles.specs.HandleContent.{recorder_in, watch_in};
-ghost use Rattle.tmw_handles.specs.declared.held_watch.HeldWatch.TheVariants.{Open};
 
 use crate::c_verdict::CVerdict;
 use crate::call_status::CallStatus;

@@ -1,4 +1,5 @@
 //! What a C program calls. Each function's number says how it was answered.
+ghost use Rattle.tmw_c.specs.Shared.{recorder_in, watch_in};
 ghost use Rattle.std.specs.Prelude.{◌≡◌, None};
 ghost use Rattle.tmw_c.specs.Close.{AreOfWatch, IsClosing};
 ghost use Rattle.tmw_c.specs.Judge.{IsPumping, IsReporting};
@@ -7,7 +8,6 @@ ghost use Rattle.tmw_c.specs.Record.{IsRecording};
 ghost use Rattle.tmw_c.specs.RecordRoom.{IsAsking};
 ghost use Rattle.tmw_c.specs.Statuses.{Tells};
 ghost use Rattle.tmw_c.specs.Summary.{IsSumming};
-ghost use Rattle.tmw_handles.specs.HandleContent.{recorder_in, watch_in};
 
 use crate::c_counts::CCounts;
 use crate::c_settings::CSettings;

@@ -1,8 +1,8 @@
 //! Judging what was recorded, by a watch's handle.
+ghost use Rattle.tmw_c.specs.Shared.{watch_in};
 ghost use Rattle.std.specs.Prelude.{◌≡◌, IfSome, IfNone};
 ghost use Rattle.tmw_c.specs.Judge.{IsNotOpen, IsPumping, IsReporting, WasPumped, WasReported};
 ghost use Rattle.tmw_c.specs.Summary.{IsSumming, WasSummed};
-ghost use Rattle.tmw_handles.specs.HandleContent.{watch_in};
 
 use crate::c_counts::CCounts;
 use crate::c_verdict::CVerdict;

@@ -1,9 +1,9 @@
 //! A function for each kind of event. It records as the function that takes a letter does, and tells no place.
 #![tactic(auto, using(crate::proofs::StatusNumbers::tells))]
 
+ghost use Rattle.tmw_c.specs.Shared.{recorder_in};
 ghost use Rattle.tmw_c.specs.Record.{IsRecordingUntold};
 ghost use Rattle.tmw_c.specs.Statuses.{Tells};
-ghost use Rattle.tmw_handles.specs.HandleContent.{recorder_in};
 
 // Bodies name letters by these; clauses have their numbers, which nothing in the program can change.
 use crate::event_letters::{A, C, K, N, R, T, V, W, X};

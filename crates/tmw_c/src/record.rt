@@ -1,7 +1,7 @@
 //! Recording by a handle.
+ghost use Rattle.tmw_c.specs.Shared.{recorder_in};
 ghost use Rattle.std.specs.Prelude.{IfOk, IfErr};
 ghost use Rattle.tmw_c.specs.Record.{HasRecordedAsked, HasRefused, IsRecording, IsRecordingUntold, IsSameEnd};
-ghost use Rattle.tmw_handles.specs.HandleContent.{recorder_in};
 
 use crate::call_status::CallStatus;
 use crate::event_letters::asked;

@@ -1,7 +1,7 @@
 //! Asking for room for several records by a handle.
+ghost use Rattle.tmw_c.specs.Shared.{recorder_in};
 ghost use Rattle.tmw_c.specs.Record.{IsSameEnd};
 ghost use Rattle.tmw_c.specs.RecordRoom.{Finds, IsAsking};
-ghost use Rattle.tmw_handles.specs.HandleContent.{recorder_in};
 
 use crate::call_status::CallStatus;
 use tmw_handles::{HeldRecorder, RecorderHandle};

@@ -1,8 +1,8 @@
 //! Carrying a transaction out by a handle, an event at a time.
-ghost use Rattle.std.specs.Prelude.{◌≡◌, ◌<◌, IfOk, IfErr, length};
+ghost use Rattle.tmw_c.specs.Shared.{recorder_in};
+ghost use Rattle.std.specs.Prelude.{◌≡◌, ◌<◌, IfOk, IfErr};
 ghost use Rattle.tmw_c.specs.Record.{IsSameEnd};
 ghost use Rattle.tmw_c.specs.TurnCalls.{GoesOnBy, HasAnswered, HasCalled, HasNotAnswered, HasNotCalled, IsAnswering, IsCalling};
-ghost use Rattle.tmw_handles.specs.HandleContent.{recorder_in};
 
 use crate::c_turn::{CTurn, Call};
 use crate::call_status::CallStatus;

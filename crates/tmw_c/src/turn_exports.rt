@@ -1,7 +1,7 @@
 //! Functions by which a C program carries a transaction out: it makes each call itself, and tells the answer.
+ghost use Rattle.tmw_c.specs.Shared.{recorder_in};
 ghost use Rattle.tmw_c.specs.Statuses.{Tells};
 ghost use Rattle.tmw_c.specs.TurnCalls.{IsAnswering, IsCalling};
-ghost use Rattle.tmw_handles.specs.HandleContent.{recorder_in};
 
 use crate::c_turn::{CTurn, Call};
 use crate::turn_calls;

@@ -1,5 +1,5 @@
 -- Histories with which nothing is wrong by one of the criteria that are asked for: their prefixes are such too.
-use Rattle.tmw_judge.proofs.Shared.{AreFed, AreOpen, AreOpenBefore, AreReports, Asked, Both, Bounds, ByCriterion, Event, Header, List, Monitor, Opacity, Report, Strict, Verdict, [], any_open, arith, fine_of, inl, inr, is_open, length-push, or_cases, refl, subst, take, take-push, told_verdicts, trace_rules, true, verdict_of, verdicts_of, ℕ, ◌++◌, ◌∷◌, ◌≡◌, rules}
+use Rattle.tmw_judge.proofs.Shared.{AreFed, AreOpen, AreOpenBefore, AreReports, Asked, Both, Bounds, ByCriterion, Event, Header, List, Monitor, Opacity, Report, Strict, Verdict, [], any_open, arith, fine_of, inl, inr, is_open, length-push, or_cases, refl, rules, subst, take, take-push, told_verdicts, trace_rules, true, verdict_of, verdicts_of, ℕ, ◌++◌, ◌∷◌, ◌≡◌}
 use Rattle.std.proofs.lemmas.List.{length-take, take-take}
 use Rattle.tmw_defs.specs.declared.verdict.Verdict.TheVariants.{OpaqueSoFar, StrictSoFar}
 use Rattle.tmw_defs.specs.Verdict.{AreFine, IsVerdict, Rules}

@@ -1,8 +1,5 @@
 -- A run of `judge` that ends at no verdict and counts nothing answers by its reports alone.
-use Rattle.tmw_judge.proofs.Shared.{JudgeResult, AnswersBy, AnswersTrace, Asked, Bounds, ByCriterion, Err, Event, FromSource, HasSummary, IsPut, JudgesBytes, JudgesWith, List, Ok, Option, Report, Result, Summary, ToSink, append-nil, counted_part, false, judged_lines, judged_status, plain, refl, report_lines, report_status, subst, summary_lines, told_verdicts, ℕ, ◌++◌, ◌∙◌, ◌≡◌, arith}
-use Rattle.std.specs.Prelude.{Bool}
-use Rattle.tmw_judge.specs.Answer.{lacking_lines}
-use Rattle.tmw_judge.specs.Tally.{all_open}
+use Rattle.tmw_judge.proofs.Shared.{AnswersBy, AnswersTrace, Asked, Bool, Bounds, ByCriterion, Err, Event, FromSource, HasSummary, IsPut, JudgeResult, JudgesBytes, JudgesWith, List, Ok, Option, Report, Result, Summary, ToSink, all_open, append-nil, arith, counted_part, false, judged_lines, judged_status, lacking_lines, plain, refl, report_lines, report_status, subst, summary_lines, told_verdicts, ℕ, ◌++◌, ◌∙◌, ◌≡◌}
 use Rattle.tmw_report.specs.declared.fault.Fault.{Fault}
 use Rattle.tmw_report.specs.CommandRun.{answer_status, answer_text, failures_after_answer}
 

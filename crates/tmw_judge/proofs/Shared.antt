@@ -1,5 +1,5 @@
 -- What the proofs of this crate take from the libraries, from the crates below and from its specs.
-pub use Rattle.std.proofs.Common.{Bool, Err, IfErr, IfOk, IsFalse, IsTrue, List, None, Ok, OnErr, Option, Result, Some, [], ap, append-nil, append_assoc, arith, false, inl, inr, length, length-append, refl, rules, subst, suc, sym, true, zero, ℕ, ◌++◌, ◌+◌, ◌-◌, ◌<◌, ◌^◌, ◌||◌, ◌∙◌, ◌∷◌, ◌≡◌, ◌≤◌}
+pub use Rattle.std.proofs.Common.{Bool, Err, IfErr, IfOk, IsFalse, IsTrue, List, None, Ok, OnErr, Option, Result, Some, [], ap, append-nil, append_assoc, arith, false, inl, inr, length, length-append, refl, rules, subst, sym, true, ℕ, ◌++◌, ◌+◌, ◌-◌, ◌<◌, ◌^◌, ◌||◌, ◌∙◌, ◌∷◌, ◌≡◌, ◌≤◌}
 pub use Rattle.std.proofs.lemmas.Bool.{both_ways, cases_Bool, or_cases}
 pub use Rattle.std.specs.Prelude.{take}
 pub use Rattle.tmw_counts.proofs.CountedPart.{as_formed, as_formed-le, fine_of, step, take_whole}
@@ -9,9 +9,9 @@ pub use Rattle.tmw_defs.proofs.WindowsProof.{length-push, take-push, take_all-pu
 pub use Rattle.tmw_defs.specs.declared.criterion.Asked.{Asked}
 pub use Rattle.tmw_defs.specs.declared.verdict.Verdict.{Verdict}
 pub use Rattle.tmw_events.specs.declared.event.Event.{Event}
-pub use Rattle.tmw_lines.specs.ReadItems.{AreReadFor, FailsBehind, FailsHolding}
-pub use Rattle.tmw_lines.specs.Lines.{FailsAtLine, HasRead, IsReading, ReadsNext, format_by, unread, unread_bytes}
 pub use Rattle.tmw_lines.specs.LineFeeds.{front_of}
+pub use Rattle.tmw_lines.specs.Lines.{FailsAtLine, HasRead, IsReading, ReadsNext, format_by, unread, unread_bytes}
+pub use Rattle.tmw_lines.specs.ReadItems.{AreReadFor, FailsBehind, FailsHolding}
 pub use Rattle.tmw_lines.specs.TextFault.{HasTextFault, failures_after}
 pub use Rattle.tmw_lines.specs.declared.lines.Lines.{Lines}
 pub use Rattle.tmw_lines.specs.declared.text_fault.TextFault.{TextFault}
@@ -20,23 +20,23 @@ pub use Rattle.tmw_monitor.specs.Monitor.{fed_of, verdict_of}
 pub use Rattle.tmw_monitor.specs.declared.bounds.Bounds.{Bounds}
 pub use Rattle.tmw_monitor.specs.declared.monitor.Monitor.{Monitor}
 pub use Rattle.tmw_report.proofs.Quotes.{quoted-first, quoted-read}
-pub use Rattle.tmw_report.specs.SendText.{IsPut, fault_of}
 pub use Rattle.tmw_report.specs.Quote.{QuotesLine, number_of}
 pub use Rattle.tmw_report.specs.QuotesHeld.{QuotesHeld}
+pub use Rattle.tmw_report.specs.SendText.{IsPut, fault_of}
 pub use Rattle.tmw_streams.proofs.Transfers.{Tells-more, Tells-none}
 pub use Rattle.tmw_streams.specs.Streams.{FromSource, ToSink}
 pub use Rattle.tmw_streams.specs.Transfers.{Tells}
 pub use Rattle.tmw_trace.specs.Text.{trace_grammar}
 pub use Rattle.tmw_trace.specs.declared.header.Header.{Header}
 pub use Rattle.tmw_trace.specs.declared.version.Version.{Version}
-pub use Rattle.tmw_judge.specs.Answer.{AnswersBy, AreOpen, AreOpenBefore, EndsSoonBehindOpen, HasFaultFor, HasFaultInTime, IsAnswer, IsReadFor, JudgesWith, judged_lines, judged_status, plain, summary_lines, told_verdicts}
+pub use Rattle.tmw_judge.specs.Answer.{AnswersBy, AreOpen, AreOpenBefore, EndsSoonBehindOpen, HasFaultFor, HasFaultInTime, IsAnswer, IsReadFor, JudgesWith, judged_lines, judged_status, lacking_lines, plain, summary_lines, told_verdicts}
 pub use Rattle.tmw_judge.specs.ByCriterion.{Each}
-pub use Rattle.tmw_judge.specs.Tally.{AreJudged, CountsFor, HasSummary, any_open, counted_of, counted_part, verdicts_of}
 pub use Rattle.tmw_judge.specs.FeedEvents.{AreFedAllRead, AreFedSoMany, AreReadAndFed, FeedsEvents, IsBeginning, ReadsBeginning, TakeEvents, judges_taking}
 pub use Rattle.tmw_judge.specs.FeedFirst.{AnswersFed, AreJudgesOf, AreReadFirst, FeedsFirst, FeedsFor}
 pub use Rattle.tmw_judge.specs.Judge.{AnswersTrace, AreFed, AreReports, JudgesBytes, report_lines, report_status, trace_rules}
-pub use Rattle.tmw_judge.specs.declared.judge_result.JudgeResult.{JudgeResult}
+pub use Rattle.tmw_judge.specs.Tally.{AreJudged, CountsFor, HasSummary, all_open, any_open, counted_of, counted_part, verdicts_of}
 pub use Rattle.tmw_judge.specs.declared.by_criterion.ByCriterion.{ByCriterion}
 pub use Rattle.tmw_judge.specs.declared.by_criterion.ByCriterion.TheVariants.{Both, Opacity, Strict}
+pub use Rattle.tmw_judge.specs.declared.judge_result.JudgeResult.{JudgeResult}
 pub use Rattle.tmw_judge.specs.declared.judges.Judges.{Judges}
 pub use Rattle.tmw_judge.specs.declared.report.Report.{Report}

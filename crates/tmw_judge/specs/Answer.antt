@@ -1,29 +1,9 @@
 -- What `judge` answers, by its options: from the bytes that its source tells to the lines that its sink takes and the exit status.
+use Rattle.tmw_judge.specs.Shared.{AnswersTextFault, AreEvents, Asked, Bounds, EndsSoon, Event, FailsBehind, Fault, FromSource, HasFirstLineFault, HasTextFault, Header, IsRemarkedRun, IsVerdict, Memory, RemarksTrace, Summary, TellsBroken, TextFault, ToSink, Verdict, trace_grammar, trace_text}
 use Rattle.std.specs.Prelude.{◌≡◌, ◌⊎◌, ◌++◌, ◌&&◌, ◌||◌, ◌<◌, ◌≤◌, ℕ, Bool, true, false, List, [], length, take, Option, Some, None, Result, Ok, Err, if◌then◌else◌}
-use Rattle.tmw_lines.specs.ReadItems.{FailsBehind}
-use Rattle.tmw_lines.specs.TextFault.{EndsSoon, HasFirstLineFault, HasTextFault}
-use Rattle.tmw_lines.specs.declared.text_fault.TextFault.{TextFault}
-use Rattle.tmw_lines.specs.declared.text_fault.TextFault.TheVariants.{Memory}
-use Rattle.tmw_streams.specs.Streams.{FromSource, ToSink}
-use Rattle.tmw_events.specs.declared.event.Event.{Event}
-use Rattle.tmw_trace.specs.Text.{trace_grammar, trace_text, AreEvents}
-use Rattle.tmw_trace.specs.declared.header.Header.{Header}
-use Rattle.tmw_defs.specs.declared.criterion.Asked.{Asked}
-use Rattle.tmw_defs.specs.declared.criterion.Asked.TheVariants as asks
-use Rattle.tmw_defs.specs.declared.criterion.Criterion.TheVariants as by
-use Rattle.tmw_defs.specs.declared.verdict.Verdict.{Verdict}
 use Rattle.tmw_defs.specs.declared.verdict.Verdict.TheVariants.{OpaqueSoFar, StrictSoFar, Malformed, Undecided}
-use Rattle.tmw_defs.specs.Verdict.{IsVerdict}
-use Rattle.tmw_counts.specs.declared.summary.Summary.{Summary}
-use Rattle.tmw_monitor.specs.BrokenRule.{TellsBroken}
-use Rattle.tmw_monitor.specs.declared.bounds.Bounds.{Bounds}
 use Rattle.tmw_monitor.specs.declared.broken_rule.BrokenRule.{BrokenRule}
-use Rattle.tmw_report.specs.declared.fault.Fault.{Fault}
-use Rattle.tmw_report.specs.CommandRun.{AnswersTextFault}
-use Rattle.tmw_report.specs.Quote.{RemarksTrace}
-use Rattle.tmw_report.specs.Remark.{IsRemarkedRun}
 use Rattle.tmw_report.specs.declared.remark.Remark.{Remark}
-use Rattle.tmw_report.specs.declared.remark.Remark.TheVariants.{Broken as IsBroken, NothingShown, Undecided as IsUndecided}
 use Rattle.tmw_report.specs.SummaryLine.{summary_text}
 use Rattle.tmw_judge.specs.Lacks.{lacks_if}
 use Rattle.tmw_judge.specs.declared.judge_result.JudgeResult.{JudgeResult}
@@ -33,6 +13,9 @@ use Rattle.tmw_options.specs.declared.judge_options.JudgeOptions.{JudgeOptions}
 use Rattle.tmw_judge.specs.declared.report.Report.{Report}
 use Rattle.tmw_judge.specs.Tally.{all_open, any_open, counted_part, HasSummary}
 use Rattle.tmw_judge.specs.Judge.{AreReports, report_lines, report_status, trace_rules}
+use Rattle.tmw_defs.specs.declared.criterion.Asked.TheVariants as asks
+use Rattle.tmw_defs.specs.declared.criterion.Criterion.TheVariants as by
+use Rattle.tmw_report.specs.declared.remark.Remark.TheVariants.{Broken as IsBroken, NothingShown, Undecided as IsUndecided}
 
 abbrev pub told_verdicts : ByCriterion Report → ByCriterion Verdict
 told_verdicts (Opacity report) = Opacity report.verdict

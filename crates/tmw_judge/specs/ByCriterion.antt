@@ -1,11 +1,10 @@
 -- What is had for each of the criteria that are asked for, say a monitor.
+use Rattle.tmw_judge.specs.Shared.{Asked, Criterion}
 use Rattle.std.specs.Prelude.{◌≡◌}
-use Rattle.tmw_defs.specs.declared.criterion.Asked.{Asked}
-use Rattle.tmw_defs.specs.declared.criterion.Asked.TheVariants as asks
-use Rattle.tmw_defs.specs.declared.criterion.Criterion.{Criterion}
-use Rattle.tmw_defs.specs.declared.criterion.Criterion.TheVariants as by
 use Rattle.tmw_judge.specs.declared.by_criterion.ByCriterion.{ByCriterion}
 use Rattle.tmw_judge.specs.declared.by_criterion.ByCriterion.TheVariants.{Opacity, Strict, Both}
+use Rattle.tmw_defs.specs.declared.criterion.Asked.TheVariants as asks
+use Rattle.tmw_defs.specs.declared.criterion.Criterion.TheVariants as by
 
 -- The criteria that it is had for.
 abbrev pub asked_of : {T : Type 0} → ByCriterion T → Asked

@@ -1,22 +1,8 @@
 -- What is read where the events of a trace are fed to its judges as their lines are read, and what the judges have taken of it.
+use Rattle.tmw_judge.specs.Shared.{Asked, Bounds, EndsBehind, Event, FailsHolding, FromSource, HasFirstLineFault, HasRead, Header, Lines, Memory, Monitor, Tells, TextFault, Version, trace_grammar, unread_bytes}
 use Rattle.std.specs.Prelude.{◌≡◌, ℕ, Result, Ok, Err, List, [], ◌∷◌, ◌++◌, length}
-use Rattle.tmw_lines.specs.ReadItems.{EndsBehind, FailsHolding}
-use Rattle.tmw_lines.specs.Lines.{HasRead, unread_bytes}
 use Rattle.tmw_lines.specs.Taker.{Taking}
 use Rattle.tmw_lines.specs.LineFeeds.{HoldsFront}
-use Rattle.tmw_lines.specs.TextFault.{HasFirstLineFault}
-use Rattle.tmw_lines.specs.declared.lines.Lines.{Lines}
-use Rattle.tmw_lines.specs.declared.text_fault.TextFault.{TextFault}
-use Rattle.tmw_lines.specs.declared.text_fault.TextFault.TheVariants.{Memory}
-use Rattle.tmw_streams.specs.Streams.{FromSource}
-use Rattle.tmw_streams.specs.Transfers.{Tells}
-use Rattle.tmw_events.specs.declared.event.Event.{Event}
-use Rattle.tmw_trace.specs.Text.{trace_grammar}
-use Rattle.tmw_trace.specs.declared.header.Header.{Header}
-use Rattle.tmw_trace.specs.declared.version.Version.{Version}
-use Rattle.tmw_defs.specs.declared.criterion.Asked.{Asked}
-use Rattle.tmw_monitor.specs.declared.bounds.Bounds.{Bounds}
-use Rattle.tmw_monitor.specs.declared.monitor.Monitor.{Monitor}
 use Rattle.tmw_judge.specs.declared.by_criterion.ByCriterion.{ByCriterion}
 use Rattle.tmw_judge.specs.Tally.{AreJudged, CountsFor}
 use Rattle.tmw_judge.specs.declared.judges.Judges.{Judges}

@@ -1,20 +1,6 @@
 -- What is read where the events of a trace are fed to its judges up to the one at which all verdicts are final.
+use Rattle.tmw_judge.specs.Shared.{AnswersTextFault, AreEvents, Asked, Bounds, EndsBehind, Event, FailsHolding, Fault, FromSource, HasRead, Header, Lines, Memory, Tells, TextFault, Version, trace_grammar}
 use Rattle.std.specs.Prelude.{◌≡◌, ◌⊎◌, ◌++◌, ℕ, Bool, true, false, Result, Ok, Err, List}
-use Rattle.tmw_lines.specs.ReadItems.{EndsBehind, FailsHolding}
-use Rattle.tmw_lines.specs.Lines.{HasRead}
-use Rattle.tmw_lines.specs.declared.lines.Lines.{Lines}
-use Rattle.tmw_lines.specs.declared.text_fault.TextFault.{TextFault}
-use Rattle.tmw_lines.specs.declared.text_fault.TextFault.TheVariants.{Memory}
-use Rattle.tmw_streams.specs.Streams.{FromSource}
-use Rattle.tmw_streams.specs.Transfers.{Tells}
-use Rattle.tmw_events.specs.declared.event.Event.{Event}
-use Rattle.tmw_trace.specs.Text.{trace_grammar, AreEvents}
-use Rattle.tmw_trace.specs.declared.header.Header.{Header}
-use Rattle.tmw_trace.specs.declared.version.Version.{Version}
-use Rattle.tmw_defs.specs.declared.criterion.Asked.{Asked}
-use Rattle.tmw_monitor.specs.declared.bounds.Bounds.{Bounds}
-use Rattle.tmw_report.specs.CommandRun.{AnswersTextFault}
-use Rattle.tmw_report.specs.declared.fault.Fault.{Fault}
 use Rattle.tmw_judge.specs.Tally.{any_open, AreJudged, CountsFor, verdicts_of}
 use Rattle.tmw_judge.specs.Answer.{AreOpen, AreOpenBefore, HasFaultFor, IsReadFor}
 use Rattle.tmw_judge.specs.FeedEvents.{FeedsEvents}

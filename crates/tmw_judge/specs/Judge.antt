@@ -1,19 +1,6 @@
 -- What `judge` without options promises: from the bytes that its source tells to the lines that its sink takes and the exit status.
+use Rattle.tmw_judge.specs.Shared.{AnswersTextFault, AreEvents, Asked, Bounds, Criterion, Event, Fault, Fits, FromSource, HasTextFault, Header, IsCommandRun, IsVerdict, Monitor, Rules, ToSink, both_status, report_text, rules_for, strict_text, trace_grammar, trace_text, verdict_status}
 use Rattle.std.specs.Prelude.{◌≡◌, ◌++◌, ℕ, List, length, Result, Ok, Err}
-use Rattle.tmw_lines.specs.TextFault.{HasTextFault}
-use Rattle.tmw_trace.specs.Text.{trace_grammar, trace_text, AreEvents}
-use Rattle.tmw_events.specs.declared.event.Event.{Event}
-use Rattle.tmw_trace.specs.declared.header.Header.{Header}
-use Rattle.tmw_defs.specs.declared.criterion.Asked.{Asked}
-use Rattle.tmw_defs.specs.declared.criterion.Criterion.{Criterion}
-use Rattle.tmw_defs.specs.Verdict.{Rules, IsVerdict}
-use Rattle.tmw_monitor.specs.declared.bounds.Bounds.{Bounds}
-use Rattle.tmw_monitor.specs.declared.monitor.Monitor.{Monitor}
-use Rattle.tmw_monitor.specs.Fits.{Fits, rules_for}
-use Rattle.tmw_report.specs.declared.fault.Fault.{Fault}
-use Rattle.tmw_report.specs.Lines.{report_text, strict_text, verdict_status, both_status}
-use Rattle.tmw_report.specs.CommandRun.{AnswersTextFault, IsCommandRun}
-use Rattle.tmw_streams.specs.Streams.{FromSource, ToSink}
 use Rattle.tmw_judge.specs.declared.by_criterion.ByCriterion.{ByCriterion}
 use Rattle.tmw_judge.specs.declared.by_criterion.ByCriterion.TheVariants.{Opacity, Strict, Both}
 use Rattle.tmw_judge.specs.declared.report.Report.{Report}

@@ -1,6 +1,6 @@
 -- Why a run in which nothing is wrong can't show much, by the words of the bench in C.
+use Rattle.tmw_judge.specs.Shared.{Summary}
 use Rattle.std.specs.Prelude.{ℕ, ◌==◌, ◌/◌, Bool, true, false, List, [], codes, nat_lt, if◌then◌else◌}
-use Rattle.tmw_counts.specs.declared.summary.Summary.{Summary}
 use Rattle.tmw_defs.specs.declared.counts.Counts.{Counts}
 use Rattle.tmw_judge.specs.declared.meeting.Meeting.{Meeting}
 use Rattle.tmw_judge.specs.declared.meeting.Meeting.TheVariants.{Alone, Apart, Together}

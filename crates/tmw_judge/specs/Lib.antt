@@ -4,4 +4,5 @@ pub mod FeedEvents
 pub mod FeedFirst
 pub mod Judge
 pub mod Lacks
+mod Shared
 pub mod Tally

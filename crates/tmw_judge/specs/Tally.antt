@@ -1,16 +1,9 @@
 -- Which events of a trace are counted beside their verdict: those up to the verdict's event, before it where the history is malformed,
 -- or all. With two verdicts the larger number of them is counted.
+use Rattle.tmw_judge.specs.Shared.{Asked, Bounds, Event, Header, Monitor, Summary, Verdict, verdict_of}
 use Rattle.std.specs.Prelude.{ℕ, Bool, true, false, ◌&&◌, ◌||◌, List, length, max, take, Option, Some, None}
-use Rattle.tmw_events.specs.declared.event.Event.{Event}
-use Rattle.tmw_trace.specs.declared.header.Header.{Header}
-use Rattle.tmw_defs.specs.declared.criterion.Asked.{Asked}
-use Rattle.tmw_defs.specs.declared.verdict.Verdict.{Verdict}
 use Rattle.tmw_counts.specs.CountedPart.{counted_by, is_open}
 use Rattle.tmw_counts.specs.Summary.{IsSummary}
-use Rattle.tmw_counts.specs.declared.summary.Summary.{Summary}
-use Rattle.tmw_monitor.specs.declared.bounds.Bounds.{Bounds}
-use Rattle.tmw_monitor.specs.declared.monitor.Monitor.{Monitor}
-use Rattle.tmw_monitor.specs.Monitor.{verdict_of}
 use Rattle.tmw_judge.specs.declared.by_criterion.ByCriterion.{ByCriterion}
 use Rattle.tmw_judge.specs.declared.by_criterion.ByCriterion.TheVariants.{Opacity, Strict, Both}
 use Rattle.tmw_judge.specs.declared.judges.Judges.{Judges}

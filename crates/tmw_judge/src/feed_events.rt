@@ -1,7 +1,5 @@
+ghost use Rattle.tmw_judge.specs.Shared.{HasFailed, IsOver, Memory, reading_failures};
 ghost use Rattle.std.specs.Prelude.{◌≡◌, ◌≢◌, ◌++◌, IfErr, OnOk};
-ghost use Rattle.tmw_lines.specs.Lines.{IsOver, HasFailed};
-ghost use Rattle.tmw_lines.specs.TextFault.{reading_failures};
-ghost use Rattle.tmw_lines.specs.declared.text_fault.TextFault.TheVariants.{Memory};
 ghost use Rattle.tmw_judge.specs.FeedEvents.{AreFedAllRead, FeedsEvents, judges_taking};
 ghost use Rattle.std.proofs.Common.{append_assoc, append-nil};
 

@@ -1,5 +1,5 @@
+ghost use Rattle.tmw_judge.specs.Shared.{reading_failures};
 ghost use Rattle.std.specs.Prelude.{◌≡◌};
-ghost use Rattle.tmw_lines.specs.TextFault.{reading_failures};
 ghost use Rattle.tmw_judge.specs.FeedEvents.{AreFedAllRead};
 ghost use Rattle.tmw_judge.specs.FeedFirst.{FeedsFirst};
 

@@ -1,12 +1,8 @@
+ghost use Rattle.tmw_judge.specs.Shared.{IsNew, RemarksFault, Tells, failures_after_answer, reading_failures};
 ghost use Rattle.std.specs.Prelude.{◌≡◌, ℕ, List};
-ghost use Rattle.tmw_streams.specs.Transfers.{Tells};
-ghost use Rattle.tmw_lines.specs.Lines.{IsNew};
-ghost use Rattle.tmw_lines.specs.TextFault.{reading_failures};
 ghost use Rattle.tmw_judge.specs.Answer.{Answers, AnswersBy};
 ghost use Rattle.tmw_judge.specs.FeedEvents.{AreFedAllRead, ReadsBeginning};
 ghost use Rattle.tmw_judge.specs.FeedFirst.{AnswersFed, FeedsFor};
-ghost use Rattle.tmw_report.specs.CommandRun.{failures_after_answer};
-ghost use Rattle.tmw_report.specs.Quote.{RemarksFault};
 
 use crate::feed_events::feed_events;
 use crate::feed_first::feed_first;

@@ -1,8 +1,7 @@
+ghost use Rattle.tmw_judge.specs.Shared.{Remarks, fault_line};
 ghost use Rattle.std.specs.Prelude.{◌≡◌, ◌⊎◌};
 ghost use Rattle.tmw_report.specs.declared.fault.Fault.TheVariants.{Memory};
-ghost use Rattle.tmw_report.specs.Lines.{fault_line};
 ghost use Rattle.tmw_report.specs.SendText.{IsPut};
-ghost use Rattle.tmw_report.specs.Remark.{Remarks};
 ghost use Rattle.tmw_judge.specs.Answer.{judged_lines, judged_status, remark_of, JudgesWith};
 ghost use Rattle.tmw_judge.specs.Judge.{JudgesBytes};
 

@@ -1,13 +1,6 @@
 //! The monitors that judge a trace: one for each requested criterion.
-ghost use Rattle.std.specs.Prelude.{◌≡◌, ◌<◌, ◌^◌, List, [], ◌∷◌, ◌++◌, IfOk};
-ghost use Rattle.tmw_defs.specs.Verdict.{Rules};
-ghost use Rattle.tmw_defs.specs.declared.criterion.Asked.{Asked};
-ghost use Rattle.tmw_events.specs.declared.event.Event.{Event};
-ghost use Rattle.tmw_monitor.specs.BrokenRule.{TellsBroken};
-ghost use Rattle.tmw_monitor.specs.Fits.{Fits};
-ghost use Rattle.tmw_monitor.specs.Monitor.{fed_of};
-ghost use Rattle.tmw_monitor.specs.declared.bounds.Bounds.{Bounds};
-ghost use Rattle.tmw_trace.specs.declared.header.Header.{Header};
+ghost use Rattle.tmw_judge.specs.Shared.{Asked, Bounds, Event, Fits, Header, Rules, TellsBroken, fed_of};
+ghost use Rattle.std.specs.Prelude.{◌≡◌, ◌<◌, ◌^◌, List, [], IfOk};
 ghost use Rattle.tmw_judge.specs.ByCriterion.{Each};
 ghost use Rattle.tmw_judge.specs.Tally.{any_open, verdicts_of};
 ghost use Rattle.tmw_judge.specs.FeedEvents.{FeedsEach};

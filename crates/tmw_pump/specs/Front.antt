@@ -1,12 +1,6 @@
 -- The judged front, and how it grows.
+use Rattle.tmw_pump.specs.Shared.{Event, Fits, IsVerdict, Monitor, Rules, Verdict, part_by, verdict_of}
 use Rattle.std.specs.Prelude.{◌≡◌, ◌<◌, ◌++◌, ℕ, List, length}
-use Rattle.tmw_events.specs.declared.event.Event.{Event}
-use Rattle.tmw_counts.specs.CountedPart.{part_by}
-use Rattle.tmw_defs.specs.Verdict.{Rules, IsVerdict}
-use Rattle.tmw_defs.specs.declared.verdict.Verdict.{Verdict}
-use Rattle.tmw_monitor.specs.Fits.{Fits}
-use Rattle.tmw_monitor.specs.Monitor.{verdict_of}
-use Rattle.tmw_monitor.specs.declared.monitor.Monitor.{Monitor}
 use Rattle.tmw_pump.specs.declared.front.Front.{Front}
 
 -- the events that were judged, in the order of the log

@@ -1,15 +1,11 @@
 -- The headline: what the verdict on the judged front says, in the field's words, of one log of the ring.
+use Rattle.tmw_pump.specs.Shared.{Event, Fits, HasMany, IsFirst, IsMalformed, IsTooMany, IsTooWide, Rules, Verdict, WriterIs}
 use Rattle.std.specs.Prelude.{◌≡◌, ◌≤◌, ◌<◌, ◌↔◌, ◌++◌, ℕ, List, length, take, All, IsTrue}
-use Rattle.tmw_events.specs.declared.event.Event.{Event}
 use Rattle.tmw_defs.specs.History.{is_well_formed}
 use Rattle.tmw_defs.specs.Opaque.{IsFinalOpaque, IsOpaque}
-use Rattle.tmw_defs.specs.Verdict.{Rules, HasMany, IsMalformed, IsTooWide, IsTooMany, IsFirst}
 use Rattle.tmw_defs.specs.Windows.{HasWide}
-use Rattle.tmw_defs.specs.declared.verdict.Verdict.{Verdict}
 use Rattle.tmw_defs.specs.declared.verdict.Verdict.TheVariants.{OpaqueSoFar, Violated, Undecided, Malformed}
 use Rattle.tmw_defs.specs.declared.verdict.Why.TheVariants.{Transactions, States}
-use Rattle.tmw_monitor.specs.Fits.{Fits}
-use Rattle.tmw_ring.specs.RingEnds.{WriterIs}
 use Rattle.tmw_ring.specs.SeatPart.{made_from}
 use Rattle.tmw_pump.specs.Front.{judged_of, monitor_of}
 use Rattle.tmw_pump.specs.declared.front.Front.{Front}

@@ -1,11 +1,6 @@
 -- What is kept of the judged front.
+use Rattle.tmw_pump.specs.Shared.{Event, Fits, IsVerdict, Monitor, Rules, Verdict, verdict_of}
 use Rattle.std.specs.Prelude.{◌++◌, ◌∷◌, [], List}
-use Rattle.tmw_defs.specs.Verdict.{IsVerdict, Rules}
-use Rattle.tmw_defs.specs.declared.verdict.Verdict.{Verdict}
-use Rattle.tmw_events.specs.declared.event.Event.{Event}
-use Rattle.tmw_monitor.specs.Fits.{Fits}
-use Rattle.tmw_monitor.specs.Monitor.{verdict_of}
-use Rattle.tmw_monitor.specs.declared.monitor.Monitor.{Monitor}
 use Rattle.tmw_pump.specs.Front.{judged_of, monitor_of, verdict_on}
 use Rattle.tmw_pump.specs.declared.front.Front.{Front}
 

@@ -3,5 +3,6 @@ pub mod Headline
 pub mod Keep
 pub mod Pump
 pub mod Rest
+mod Shared
 pub mod WasFed
 pub mod WriterKinds

@@ -1,7 +1,6 @@
 -- What a call to pump has done.
+use Rattle.tmw_pump.specs.Shared.{Event, ReaderIs}
 use Rattle.std.specs.Prelude.{◌≡◌, ◌⊎◌, ◌<◌, ℕ, List, [], ◌∷◌}
-use Rattle.tmw_events.specs.declared.event.Event.{Event}
-use Rattle.tmw_ring.specs.RingEnds.{ReaderIs}
 use Rattle.tmw_ring.specs.Take.{HasTaken, HasFoundNone}
 use Rattle.tmw_pump.specs.Front.{HasJudged, verdict_on}
 use Rattle.tmw_pump.specs.declared.front.Front.{Front}

@@ -1,6 +1,6 @@
 -- What a call to pump has done with what a settled ring has left.
+use Rattle.tmw_pump.specs.Shared.{Event}
 use Rattle.std.specs.Prelude.{◌≡◌, ◌++◌, ◌≤◌, ◌<◌, ℕ, List, []}
-use Rattle.tmw_events.specs.declared.event.Event.{Event}
 use Rattle.tmw_pump.specs.Front.{HasJudged, judged_of, verdict_on}
 use Rattle.tmw_pump.specs.declared.front.Front.{Front}
 use Rattle.tmw_pump.specs.declared.pumped.Pumped.{Pumped}

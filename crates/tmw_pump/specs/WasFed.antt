@@ -1,14 +1,9 @@
 -- What a monitor was fed, and what was counted of that.
+use Rattle.tmw_pump.specs.Shared.{Event, Fits, IsOpen, Monitor, Rules, criterion_of, part_by, verdict_of}
 use Rattle.std.specs.Prelude.{◌≡◌, ℕ, List}
 use Rattle.tmw_counts.specs.Counter.{CountsSo}
-use Rattle.tmw_counts.specs.CountedPart.{part_by}
 use Rattle.tmw_counts.specs.declared.counter.Counter.{Counter}
-use Rattle.tmw_events.specs.declared.event.Event.{Event}
-use Rattle.tmw_defs.specs.Verdict.{Rules}
 use Rattle.tmw_defs.specs.declared.criterion.Criterion.TheVariants.{Opacity}
-use Rattle.tmw_monitor.specs.Fits.{Fits}
-use Rattle.tmw_monitor.specs.Monitor.{IsOpen, criterion_of, verdict_of}
-use Rattle.tmw_monitor.specs.declared.monitor.Monitor.{Monitor}
 
 -- The monitor judges by opacity.
 abbrev pub JudgesOpacity : Monitor → Type 0

@@ -1,12 +1,8 @@
 //! Judging the events of a running ring.
+ghost use Rattle.tmw_pump.specs.Shared.{Event, Fits, ReaderOf, Rules, WriterOf, verdict_of};
 ghost use Rattle.std.specs.Prelude.{◌≡◌, List, [], ◌∷◌, length, All, IfOk, OnErr, false};
-ghost use Rattle.tmw_defs.specs.Verdict.{Rules};
-ghost use Rattle.tmw_events.specs.declared.event.Event.{Event};
-ghost use Rattle.tmw_monitor.specs.Fits.{Fits};
-ghost use Rattle.tmw_monitor.specs.Monitor.{verdict_of};
 ghost use Rattle.tmw_pump.specs.WasFed.{JudgesOpacity, WasFed};
 ghost use Rattle.tmw_pump.specs.Keep.{IsKept, StaysKept, WasKept};
-ghost use Rattle.tmw_ring.specs.RingEnds.{ReaderOf, WriterOf};
 ghost use Rattle.tmw_ring.specs.Meet.{HaveMet};
 ghost use Rattle.tmw_ring.specs.Settle.{AreInOrder, IsSettled};
 

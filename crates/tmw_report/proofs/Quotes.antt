@@ -1,5 +1,5 @@
 -- What is told of a line that has a fault, by what a reader of a trace holds of it, is what is told of the line with its number.
-use Rattle.tmw_report.proofs.Shared.{Err, IsSent, List, Ok, Puts, QuotesLine, Result, Some, ap, arith, fault_of, inl, inr, is_empty_header, length, length-take, nat_lt, number_of, quoted, refl, sym, take, take-take, trace_grammar, trace_text, version_digit, version_in, wrong_of, ℕ, ◌++◌, ◌+◌, ◌==◌, ◌∙◌, ◌≡◌}
+use Rattle.tmw_report.proofs.Shared.{Err, IsSent, List, Ok, Puts, QuotesHeld, QuotesLine, Result, Some, ap, arith, fault_of, inl, inr, is_empty_header, length, length-take, nat_lt, number_of, quoted, refl, sym, take, take-take, trace_grammar, trace_text, version_digit, version_in, wrong_of, ℕ, ◌++◌, ◌+◌, ◌==◌, ◌∙◌, ◌≡◌}
 use Rattle.std.proofs.lemmas.Bool.Decides.{nat_tests}
 use Rattle.tmw_lines.specs.ReadItems.{AreReadFor, FailsHolding}
 use Rattle.tmw_lines.specs.Lines.{format_by, unread_bytes}
@@ -14,7 +14,6 @@ use Rattle.tmw_events.specs.declared.event.Event.{Event}
 use Rattle.tmw_trace.specs.GrammarInjectivity.{trace_naming}
 use Rattle.tmw_trace.specs.declared.header.Header.{Header}
 use Rattle.tmw_trace.specs.declared.version.Version.{Version}
-use Rattle.tmw_report.specs.QuotesHeld.{QuotesHeld}
 use Rattle.tmw_report.specs.declared.fault.Fault.{Fault}
 
 pub sent-put : {E A X : Type 0} (Errors : ToSink E) (old new : E) (text : List ℕ) (result : Result A X)

@@ -1,10 +1,8 @@
 -- What a run of a command does: from the bytes that its source tells to what its sink takes and the exit status.
+use Rattle.tmw_report.specs.Shared.{FromSource, Tells, TextFault, ToSink}
 use Rattle.std.specs.Prelude.{◌≡◌, ℕ, List, Result, Ok, Err}
-use Rattle.tmw_streams.specs.Transfers.{Tells}
-use Rattle.tmw_lines.specs.declared.text_fault.TextFault.{TextFault}
 use Rattle.tmw_report.specs.Lines.{fault_line}
 use Rattle.tmw_report.specs.SendText.{IsPut, fault_of, failures_behind}
-use Rattle.tmw_streams.specs.Streams.{FromSource, ToSink}
 use Rattle.tmw_report.specs.declared.fault.Fault.{Fault}
 
 -- This answers a text by a fault that the text has.

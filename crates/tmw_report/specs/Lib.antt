@@ -4,4 +4,5 @@ pub mod Quote
 pub mod QuotesHeld
 pub mod Remark
 pub mod SendText
+mod Shared
 pub mod SummaryLine

@@ -1,7 +1,7 @@
 -- The lines that the program writes, each with its line feed, and its exit status. Each line is compact JSON with its keys
 -- in byte order.
+use Rattle.tmw_report.specs.Shared.{decimal}
 use Rattle.std.specs.Prelude.{ℕ, Bool, true, false, List, [], ◌++◌, ◌||◌, codes, if◌then◌else◌}
-use Rattle.std.specs.Fmt.{decimal}
 use Rattle.tmw_defs.specs.declared.criterion.Criterion.{Criterion}
 use Rattle.tmw_defs.specs.declared.criterion.Criterion.TheVariants.{Opacity, Strict}
 use Rattle.tmw_defs.specs.declared.verdict.Verdict.{Verdict}

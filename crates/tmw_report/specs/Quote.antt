@@ -1,9 +1,7 @@
 -- What the sink for errors is told of a fault that is at a line of a trace: which line, what is wrong with it, and how it begins.
+use Rattle.tmw_report.specs.Shared.{ToSink, decimal, line, line_at}
 use Rattle.std.specs.Prelude.{◌≡◌, ◌==◌, ◌&&◌, ◌||◌, ◌++◌, ◌+◌, ◌/◌, ◌%◌, ℕ, Bool, false, List, [], ◌∷◌, length, take, get_or, nat_le, nat_lt, Option, Some, None, Result, Ok, Err, codes, if◌then◌else◌}
-use Rattle.std.specs.Fmt.{decimal}
 use Rattle.std.specs.List.{flat_map}
-use Rattle.tmw_lines.specs.LineFeeds.{line, line_at}
-use Rattle.tmw_streams.specs.Streams.{ToSink}
 use Rattle.tmw_report.specs.SendText.{IsSent}
 use Rattle.tmw_report.specs.Remark.{Remarks}
 use Rattle.tmw_report.specs.declared.fault.Fault.{Fault}

@@ -1,8 +1,6 @@
 -- What is told of a line that has a fault, by what the reader of a trace holds of it.
+use Rattle.tmw_report.specs.Shared.{ToSink, line, version_digit}
 use Rattle.std.specs.Prelude.{◌≡◌, ℕ, List, Option, Some, None}
-use Rattle.tmw_lines.specs.LineFeeds.{line}
-use Rattle.tmw_streams.specs.Streams.{ToSink}
-use Rattle.tmw_trace.specs.Text.{version_digit}
 use Rattle.tmw_trace.specs.declared.version.Version.{Version}
 use Rattle.tmw_report.specs.SendText.{IsSent}
 use Rattle.tmw_report.specs.Quote.{quote_text}

@@ -1,7 +1,6 @@
 -- What a command tells on the sink for errors of a run beside its report.
+use Rattle.tmw_report.specs.Shared.{FromSource, ToSink, decimal}
 use Rattle.std.specs.Prelude.{◌≡◌, ◌++◌, ℕ, Bool, List, Option, Some, None, Result, Ok, Err, codes, if◌then◌else◌}
-use Rattle.std.specs.Fmt.{decimal}
-use Rattle.tmw_streams.specs.Streams.{FromSource, ToSink}
 use Rattle.tmw_report.specs.CommandRun.{IsCommandRun}
 use Rattle.tmw_report.specs.SendText.{IsSent}
 use Rattle.tmw_report.specs.declared.fault.Fault.{Fault}

@@ -1,11 +1,9 @@
 -- What a sink takes as an answer, and the exit status that goes with it.
+use Rattle.tmw_report.specs.Shared.{Takes, TakesBeginning, TextFault, ToSink, one_more}
 use Rattle.std.specs.Prelude.{◌≡◌, ◌⊎◌, ℕ, List}
-use Rattle.tmw_streams.specs.Transfers.{Takes, TakesBeginning, one_more}
-use Rattle.tmw_lines.specs.declared.text_fault.TextFault.{TextFault}
-use Rattle.tmw_lines.specs.declared.text_fault.TextFault.TheVariants.{BadHeader as IsBadHeader, BadLine as IsBadLine, Cut as IsCut, Memory as WantsMemory, Io as IsIo, TooLong as IsTooLong}
-use Rattle.tmw_streams.specs.Streams.{ToSink}
 use Rattle.tmw_report.specs.declared.fault.Fault.{Fault}
 use Rattle.tmw_report.specs.declared.fault.Fault.TheVariants.{BadHeader, BadLine, Cut, Memory, Io, TooLong}
+use Rattle.tmw_lines.specs.declared.text_fault.TextFault.TheVariants.{BadHeader as IsBadHeader, BadLine as IsBadLine, Cut as IsCut, Memory as WantsMemory, Io as IsIo, TooLong as IsTooLong}
 
 -- The sink took the text, and the status is the one that goes with it.
 pub record IsWritten {K : Type 0} (To : ToSink K) (old new : K) (text : List ℕ) (wanted status : ℕ) : Type 0 where

@@ -1,6 +1,6 @@
 -- The line that tells what a history has shown: compact JSON with its keys in byte order, and a line feed.
+use Rattle.tmw_report.specs.Shared.{decimal}
 use Rattle.std.specs.Prelude.{ℕ, List, ◌++◌, codes}
-use Rattle.std.specs.Fmt.{decimal}
 use Rattle.serde_json.specs.Data.{Data, Members, member, no_members, number, object, unsigned}
 use Rattle.tmw_defs.specs.declared.counts.Counts.{Counts}
 

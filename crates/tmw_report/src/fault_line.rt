@@ -1,5 +1,5 @@
-ghost use Rattle.std.specs.Prelude.{◌++◌, decimal};
-ghost use Rattle.tmw_streams.specs.Transfers.{Puts};
+ghost use Rattle.tmw_report.specs.Shared.{Puts, decimal};
+ghost use Rattle.std.specs.Prelude.{◌++◌};
 ghost use Rattle.tmw_report.specs.Lines.{fault_line};
 
 use crate::fault::Fault;

@@ -1,11 +1,9 @@
-ghost use Rattle.std.specs.Prelude.{◌≡◌, ◌<◌, ◌++◌, option_map};
+ghost use Rattle.tmw_report.specs.Shared.{Puts, front_of, version_digit};
+ghost use Rattle.std.specs.Prelude.{◌≡◌, ◌<◌};
 ghost use Rattle.tmw_lines.specs.Lines.{format_by, unread_bytes};
-ghost use Rattle.tmw_lines.specs.LineFeeds.{front_of};
 ghost use Rattle.tmw_report.specs.SendText.{fault_of};
-ghost use Rattle.tmw_report.specs.Quote.{escaped, escaped_byte, hex_digit, is_empty_header, number_of, quote_end, quoted, quote_text, wrong_of};
+ghost use Rattle.tmw_report.specs.Quote.{escaped, escaped_byte, hex_digit, is_empty_header, number_of, quote_end, quoted, wrong_of};
 ghost use Rattle.tmw_report.specs.QuotesHeld.{QuotesHeld, text_of};
-ghost use Rattle.tmw_streams.specs.Transfers.{Puts};
-ghost use Rattle.tmw_trace.specs.Text.{version_digit};
 
 use crate::fault::Fault;
 use crate::fault_answer::fault_of;

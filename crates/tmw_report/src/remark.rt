@@ -1,5 +1,5 @@
+ghost use Rattle.tmw_report.specs.Shared.{Puts};
 ghost use Rattle.std.specs.Prelude.{◌≡◌};
-ghost use Rattle.tmw_streams.specs.Transfers.{Puts};
 ghost use Rattle.tmw_report.specs.Remark.{Remarks, nothing_shown_if, remark_text};
 
 use crate::fault_line::put_numbered;

@@ -1,15 +1,8 @@
 -- What is left of a watch that was closed, and what is given back where it could not be.
+use Rattle.tmw_watch.specs.Shared.{AreInOrder, Fits, GivesHeadline, Headline, IsLogOf, IsPermutation, IsSettled, RestIs, WriterIs, all_of, judged_of, monitor_of, reader_of, rest_front}
 use Rattle.std.specs.Prelude.{◌≡◌, ◌⊎◌, ◌<◌, ◌++◌, ℕ, List, length, map, All}
-use Rattle.std.specs.List.Sorted.{IsPermutation}
 use Rattle.tmw_defs.specs.Verdict.{Rules}
 use Rattle.tmw_events.specs.declared.event.Event.{Event}
-use Rattle.tmw_monitor.specs.Fits.{Fits}
-use Rattle.tmw_pump.specs.Front.{judged_of, monitor_of}
-use Rattle.tmw_pump.specs.Headline.{GivesHeadline, Headline, IsLogOf}
-use Rattle.tmw_pump.specs.Pump.{reader_of}
-use Rattle.tmw_pump.specs.Rest.{RestIs, all_of, rest_front}
-use Rattle.tmw_ring.specs.RingEnds.{WriterIs}
-use Rattle.tmw_ring.specs.Settle.{AreInOrder, IsSettled}
 use Rattle.tmw_watch.specs.Open.{AreOf}
 use Rattle.tmw_watch.specs.WatchParts.{recorder_count, watch_front, watch_pump, watch_ring, writer_of}
 use Rattle.tmw_watch.specs.declared.close_error.CloseError.{CloseError}

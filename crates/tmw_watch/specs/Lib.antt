@@ -1,3 +1,4 @@
 pub mod Close
 pub mod Open
+mod Shared
 pub mod WatchParts

@@ -1,11 +1,6 @@
 -- What a new watch and its recorders are.
+use Rattle.tmw_watch.specs.Shared.{Fits, HasNumbers, IsNewWriter, RingIs, judged_of, monitor_of, reader_of, rules_of}
 use Rattle.std.specs.Prelude.{◌≡◌, ◌<◌, ℕ, List, [], length, get_or, All}
-use Rattle.tmw_monitor.specs.Fits.{Fits, rules_of}
-use Rattle.tmw_ring.specs.RingEnds.{RingIs}
-use Rattle.tmw_ring.specs.NewRing.{IsNewWriter}
-use Rattle.tmw_ring_defs.specs.RingSize.{HasNumbers}
-use Rattle.tmw_pump.specs.Front.{judged_of, monitor_of}
-use Rattle.tmw_pump.specs.Pump.{reader_of}
 use Rattle.tmw_watch.specs.WatchParts.{recorder_ring, watch_front, watch_pump, watch_ring, writer_of}
 use Rattle.tmw_watch.specs.declared.recorder.Recorder.{Recorder}
 use Rattle.tmw_watch.specs.declared.settings.WatchSettings.{WatchSettings}

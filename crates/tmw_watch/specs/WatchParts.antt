@@ -1,10 +1,9 @@
 -- What clauses see of a watch and of a recorder.
+use Rattle.tmw_watch.specs.Shared.{PumpIs, RingIs, WriterIs, pump_front, pump_in}
 use Rattle.std.specs.Prelude.{ℕ}
 use Rattle.std.specs.Global.{Global}
 use Rattle.std.specs.declared.sync.Arc.{Arc}
-use Rattle.tmw_pump.specs.Pump.{PumpIs, pump_front, pump_in}
 use Rattle.tmw_pump.specs.declared.front.Front.{Front}
-use Rattle.tmw_ring.specs.RingEnds.{RingIs, WriterIs}
 use Rattle.tmw_watch.specs.declared.recorder.Recorder.{Recorder}
 use Rattle.tmw_watch.specs.declared.watch.Watch.{Watch}
 

@@ -1,10 +1,6 @@
 //! The end of a watch, once all its recorders have come back.
+ghost use Rattle.tmw_watch.specs.Shared.{AreInOrder, IsLogOf, IsSettled, WriterOf, all_of, left_of, reader_of, rest_front, rest_in};
 ghost use Rattle.std.specs.Prelude.{◌≡◌, ◌+◌, ◌++◌, ◌≤◌, [], All, length, IfOk, IfErr, vec_len, vec_capacity};
-ghost use Rattle.tmw_pump.specs.Headline.{IsLogOf};
-ghost use Rattle.tmw_pump.specs.Pump.{reader_of};
-ghost use Rattle.tmw_pump.specs.Rest.{all_of, left_of, rest_front, rest_in};
-ghost use Rattle.tmw_ring.specs.RingEnds.{WriterOf};
-ghost use Rattle.tmw_ring.specs.Settle.{AreInOrder, IsSettled};
 ghost use Rattle.tmw_watch.specs.Close.{AreAll, IsClosed, IsJudged, IsUnclosed, writers_of};
 ghost use Rattle.tmw_watch.specs.Open.{AreOf};
 ghost use Rattle.tmw_watch.specs.WatchParts.{recorder_count, watch_front, watch_pump, watch_ring};

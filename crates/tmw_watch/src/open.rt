@@ -1,7 +1,6 @@
 //! A new watch, with all its recorders.
+ghost use Rattle.tmw_watch.specs.Shared.{AreNewWriters, IsNoRing};
 ghost use Rattle.std.specs.Prelude.{◌≡◌, ◌<◌, ℕ, length, get_or, IfOk, IfErr};
-ghost use Rattle.tmw_ring.specs.NewRing.{AreNewWriters};
-ghost use Rattle.tmw_ring_defs.specs.RingSize.{IsNoRing};
 ghost use Rattle.tmw_watch.specs.Open.{AreOf, IsNewRecorder, IsOpened};
 
 use crate::recorder::Recorder;

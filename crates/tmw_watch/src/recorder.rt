@@ -1,6 +1,6 @@
 //! The end by which one thread records.
+ghost use Rattle.tmw_watch.specs.Shared.{WriterOf};
 ghost use Rattle.std.specs.Prelude.{◌≡◌, IfOk, IfErr};
-ghost use Rattle.tmw_ring.specs.RingEnds.{WriterOf};
 ghost use Rattle.tmw_ring.specs.Record.{HasRecorded, IsRefusal};
 ghost use Rattle.tmw_ring.specs.Room.{HasFoundRoom, LacksRoom};
 

@@ -1,10 +1,7 @@
 //! The end by which what the threads record is judged.
+ghost use Rattle.tmw_watch.specs.Shared.{GivesHeadline, IsPumped, ReaderOf, TellsVerdict, front_part, judged_of, pump_in, reader_of, verdict_on};
 ghost use Rattle.std.specs.Prelude.{◌≡◌, length};
 ghost use Rattle.tmw_counts.specs.Summary.{IsSummary};
-ghost use Rattle.tmw_pump.specs.Front.{TellsVerdict, front_part, judged_of, verdict_on};
-ghost use Rattle.tmw_pump.specs.Headline.{GivesHeadline};
-ghost use Rattle.tmw_pump.specs.Pump.{IsPumped, pump_in, reader_of};
-ghost use Rattle.tmw_ring.specs.RingEnds.{ReaderOf};
 
 use crate::report::WatchReport;
 use std::alloc::Global;

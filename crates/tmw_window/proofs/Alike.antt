@@ -1,5 +1,5 @@
 -- What is shown of a history, as a history of its own from each of its states, is judged like it.
-use Rattle.tmw_window.proofs.Shared.{Contains, Event, HasMany, HasWide, IsFinalBy, IsFine, IsFirst, IsTrue, IsVerdict, IsViolated, List, Malformed, OpaqueSoFar, Rules, State, States, StrictSoFar, Transactions, Undecided, Verdict, Violated, WindowLaw, [], ap, arith, cases_lt, false, formed-final, from_state, inl, inr, is_well_formed, length, outcome-final, refl, shown_length, subst, sym, take, take-length, transactions, true, ℕ, ◌+◌, ◌-◌, ◌<◌, ◌∙◌, ◌≡◌, ◌≤◌, rules}
+use Rattle.tmw_window.proofs.Shared.{Contains, Event, HasMany, HasWide, IsFinalBy, IsFine, IsFirst, IsTrue, IsVerdict, IsViolated, List, Malformed, OpaqueSoFar, Rules, State, States, StrictSoFar, Transactions, Undecided, Verdict, Violated, WindowLaw, [], ap, arith, cases_lt, false, formed-final, from_state, inl, inr, is_well_formed, length, outcome-final, refl, rules, shown_length, subst, sym, take, take-length, transactions, true, ℕ, ◌+◌, ◌-◌, ◌<◌, ◌∙◌, ◌≡◌, ◌≤◌}
 use Rattle.tmw_window.proofs.Single.{single}
 use Rattle.tmw_window.proofs.Part.{IsPart, shown-part, shown-within, long, formed-part, narrow-part, uncut-part, none-fine, violated-each, all-violated, some-state, all-formed, wide-events, wide-end}
 

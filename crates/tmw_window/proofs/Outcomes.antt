@@ -1,5 +1,6 @@
 -- The outcomes of a well-formed history that begins with a state of the run are states of the run.
-use Rattle.tmw_window.proofs.Shared.{All, Bool, Criterion, Event, FitsKind, FitsRegisters, IsTrue, List, Opacity, Placed, State, Strict, Txn, [], add_event, after, and_from, and_parts, false, is_text, is_well_formed, list_all, list_all-append, operations, outcomes_by, refl, slice_index_or, subst, sym, transactions, transactions_from, true, ℕ, ◌+◌, ◌∙◌, ◌∷◌, ◌≡◌, arith}
+use Rattle.tmw_window.proofs.Shared.{All, Bool, Criterion, Event, FitsKind, FitsRegisters, IsTrue, List, Placed, State, Txn, [], add_event, after, and_from, and_parts, arith, false, is_text, is_well_formed, list_all, list_all-append, operations, outcomes_by, refl, slice_index_or, subst, sym, transactions, transactions_from, true, ℕ, ◌+◌, ◌∙◌, ◌∷◌, ◌≡◌}
+use Rattle.tmw_defs.specs.declared.criterion.Criterion.TheVariants.{Opacity, Strict}
 use Rattle.std.proofs.lemmas.List.Sums.{list_all-from_AllPass}
 use Rattle.tmw_defs.specs.Outcomes.{end_state}
 use Rattle.tmw_defs.proofs.Completions.{list_all-held}

@@ -1,5 +1,5 @@
 -- The events from a history's last cut on, and the whole.
-use Rattle.tmw_window.proofs.Shared.{Contains, Event, HasMany, HasWide, HasWide_push, IsFinalBy, IsFine, IsLastCut, IsShown, IsTrue, IsVerdict, IsViolated, List, Rules, State, Verdict, [], ap, ap₂, arith, cases_lt, drop, drop-append-le, final-outcome, formed-final, from_state, get_or, inl, inr, is_cut, is_cut-append, is_well_formed, length, length-drop, length-take-le, outcomes_by, refl, shown_length, subst, sums_up-new, sym, take, take-add, take-append-drop, take-length, take-take, take_more, transactions, ℕ, ◌&&◌, ◌++◌, ◌+◌, ◌-◌, ◌<◌, ◌↔◌, ◌∙◌, ◌∷◌, ◌≡◌, ◌≤◌, rules}
+use Rattle.tmw_window.proofs.Shared.{Contains, Event, HasMany, HasWide, HasWide_push, IsFinalBy, IsFine, IsLastCut, IsShown, IsTrue, IsVerdict, IsViolated, List, Rules, State, Verdict, [], ap, ap₂, arith, cases_lt, drop, drop-append-le, final-outcome, formed-final, from_state, get_or, inl, inr, is_cut, is_cut-append, is_well_formed, length, length-drop, length-take-le, outcomes_by, refl, rules, shown_length, subst, sums_up-new, sym, take, take-add, take-append-drop, take-length, take-take, take_more, transactions, ℕ, ◌&&◌, ◌++◌, ◌+◌, ◌-◌, ◌<◌, ◌↔◌, ◌∙◌, ◌∷◌, ◌≡◌, ◌≤◌}
 use Rattle.tmw_window.proofs.Behind.{formed-append, formed-behind, HasWide-behind, final-behind}
 
 -- the events from a history's last cut before its length m on, up to that length, with its outcomes at the cut

@@ -1,5 +1,5 @@
 -- The states from which a window that is shown begins are states of the run.
-use Rattle.tmw_window.proofs.Shared.{All-take, Event, FitsKind, IsFine, IsTrue, IsVerdict, List, Rules, StatesLaw, Verdict, arith, formed-final, is_well_formed, length, shown_length, take, ℕ, ◌-◌, ◌<◌, ◌≤◌, rules}
+use Rattle.tmw_window.proofs.Shared.{All-take, Event, FitsKind, IsFine, IsTrue, IsVerdict, List, Rules, StatesLaw, Verdict, arith, formed-final, is_well_formed, length, rules, shown_length, take, ℕ, ◌-◌, ◌<◌, ◌≤◌}
 use Rattle.tmw_window.proofs.Outcomes.{outcome_kept}
 use Rattle.tmw_window.proofs.Part.{shown-part, shown-within}
 

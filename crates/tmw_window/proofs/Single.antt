@@ -1,5 +1,5 @@
 -- What is shown of a history that begins from a single state has the history's verdict, at its end.
-use Rattle.tmw_window.proofs.Shared.{Contains, Event, HasWide, IsFinalBy, IsFine, IsFirst, IsMalformed, IsTooMany, IsTooWide, IsTrue, IsVerdict, IsViolated, List, Malformed, OpaqueSoFar, Rules, State, States, StrictSoFar, Transactions, Undecided, Verdict, Violated, [], ap, arith, at_end, cases_lt, cut_law, false, formed-final, from_state, get_or, inl, inr, is_cut, is_cut-append, is_well_formed, length, outcomes_by, refl, shown_length, subst, sym, take, take-length, true, ℕ, ◌&&◌, ◌+◌, ◌-◌, ◌<◌, ◌∙◌, ◌∷◌, ◌≡◌, ◌≤◌, rules}
+use Rattle.tmw_window.proofs.Shared.{Contains, Event, HasWide, IsFinalBy, IsFine, IsFirst, IsMalformed, IsTooMany, IsTooWide, IsTrue, IsVerdict, IsViolated, List, Malformed, OpaqueSoFar, Rules, State, States, StrictSoFar, Transactions, Undecided, Verdict, Violated, [], ap, arith, at_end, cases_lt, cut_law, false, formed-final, from_state, get_or, inl, inr, is_cut, is_cut-append, is_well_formed, length, outcomes_by, refl, rules, shown_length, subst, sym, take, take-length, true, ℕ, ◌&&◌, ◌+◌, ◌-◌, ◌<◌, ◌∙◌, ◌∷◌, ◌≡◌, ◌≤◌}
 use Rattle.tmw_window.proofs.Behind.{formed-append, formed-behind, HasWide-behind}
 use Rattle.tmw_window.proofs.Part.{IsPart, whole, long, formed-whole, final-part, final-events, none-fine, violated-each, wide-end, fine-before}
 

@@ -1,5 +1,6 @@
 -- A `LastWindow` takes events by being fed them.
-use Rattle.tmw_window.proofs.Shared.{Event, LastWindow, OnOk, Result, [], arith, length-append, ℕ, ◌+◌, ◌<◌, ◌^◌, ◌∷◌}
+use Rattle.tmw_window.proofs.Shared.{Event, OnOk, Result, [], arith, length-append, ℕ, ◌+◌, ◌<◌, ◌^◌, ◌∷◌}
+use Rattle.tmw_window.specs.declared.last_window.LastWindow.{LastWindow}
 use Rattle.tmw_window.specs.WindowTaker.{WatchesSoMany, window_taking}
 
 -- it has room for an event

@@ -1,5 +1,6 @@
 -- What is shown of a history with an event more.
-use Rattle.tmw_window.proofs.Shared.{AreFine, AreLastOutcomes, Contains, Criterion, Event, IsFalse, IsFine, IsFirst, IsLastCut, IsMalformed, IsShown, IsTooMany, IsTooWide, IsTrue, IsVerdict, IsViolated, KeepsSame, KeepsShown, KeptWindow, List, Malformed, OpaqueSoFar, Rules, State, States, StrictSoFar, Transactions, Undecided, Verdict, Violated, [], ap, arith, before_shown, between, between-open, cases_lt, drop, drop_all, false, formed-final, inl, inr, is_cut, length, length-push, length-take-le, outcomes_by, shown_length, so_far, so_far-fine, subst, sums_up-new, sym, take, take-length, take-push, take-take, take_all, true, verdict-one, ℕ, ◌++◌, ◌+◌, ◌-◌, ◌<◌, ◌↔◌, ◌∙◌, ◌∷◌, ◌≡◌, ◌≤◌, rules}
+use Rattle.tmw_window.proofs.Shared.{AreFine, AreLastOutcomes, Contains, Criterion, Event, IsFalse, IsFine, IsFirst, IsLastCut, IsMalformed, IsShown, IsTooMany, IsTooWide, IsTrue, IsVerdict, IsViolated, KeepsSame, KeepsShown, List, Malformed, OpaqueSoFar, Rules, State, States, StrictSoFar, Transactions, Undecided, Verdict, Violated, [], ap, arith, before_shown, between, between-open, cases_lt, drop, drop_all, false, formed-final, inl, inr, is_cut, length, length-push, length-take-le, outcomes_by, rules, shown_length, so_far, so_far-fine, subst, sums_up-new, sym, take, take-length, take-push, take-take, take_all, true, verdict-one, ℕ, ◌++◌, ◌+◌, ◌-◌, ◌<◌, ◌↔◌, ◌∙◌, ◌∷◌, ◌≡◌, ◌≤◌}
+use Rattle.tmw_window.specs.declared.kept_window.KeptWindow.{KeptWindow}
 use Rattle.tmw_monitor.proofs.Final.{verdict-stays}
 
 -- what is wrong first with a history, and was not before its last event, is so at its whole length

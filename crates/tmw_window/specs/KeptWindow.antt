@@ -1,16 +1,9 @@
 -- How the last window of a history is kept beside the monitor that judges it.
+use Rattle.tmw_window.specs.Shared.{AreLastOutcomes, Event, Fits, IsOpen, Monitor, Rules, Verdict, members}
 use Rattle.std.specs.Prelude.{◌≡◌, ◌<◌, ℕ, List, length, IsTrue, IsFalse}
 use Rattle.std.specs.Vec.{vec_capacity}
-use Rattle.tmw_cuts.specs.Members.{members}
 use Rattle.tmw_cuts.specs.declared.states.States.{States}
 use Rattle.tmw_defs.specs.Cuts.{is_cut}
-use Rattle.tmw_defs.specs.Verdict.{Rules}
-use Rattle.tmw_defs.specs.declared.verdict.Verdict.{Verdict}
-use Rattle.tmw_events.specs.declared.event.Event.{Event}
-use Rattle.tmw_monitor.specs.Fits.{Fits}
-use Rattle.tmw_monitor.specs.HoldsOpen.{AreLastOutcomes}
-use Rattle.tmw_monitor.specs.Monitor.{IsOpen}
-use Rattle.tmw_monitor.specs.declared.monitor.Monitor.{Monitor}
 use Rattle.tmw_window.specs.ShownEvents.{IsShown}
 use Rattle.tmw_window.specs.declared.kept_window.KeptWindow.{KeptWindow}
 use Rattle.tmw_window.specs.declared.window_change.WindowChange.{WindowChange}

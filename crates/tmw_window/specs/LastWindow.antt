@@ -1,10 +1,6 @@
 -- Which history a `LastWindow` stands for.
+use Rattle.tmw_window.specs.Shared.{Event, Fits, Monitor, Rules, verdict_of}
 use Rattle.std.specs.Prelude.{List}
-use Rattle.tmw_events.specs.declared.event.Event.{Event}
-use Rattle.tmw_defs.specs.Verdict.{Rules}
-use Rattle.tmw_monitor.specs.Fits.{Fits}
-use Rattle.tmw_monitor.specs.Monitor.{verdict_of}
-use Rattle.tmw_monitor.specs.declared.monitor.Monitor.{Monitor}
 use Rattle.tmw_window.specs.KeptWindow.{KeepsShown}
 use Rattle.tmw_window.specs.declared.kept_window.KeptWindow.{KeptWindow}
 use Rattle.tmw_window.specs.declared.last_window.LastWindow.{LastWindow}

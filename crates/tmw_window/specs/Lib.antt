@@ -1,5 +1,6 @@
 pub mod KeptWindow
 pub mod LastWindow
+mod Shared
 pub mod ShownEvents
 pub mod ShownWindow
 pub mod StatesLaw

@@ -1,12 +1,7 @@
 -- What is shown of a history: its last window, up to where something is wrong, and the states from which that window begins.
+use Rattle.tmw_window.specs.Shared.{AreLastOutcomes, Event, Malformed, OpaqueSoFar, Rules, State, StrictSoFar, Undecided, Verdict, Violated}
 use Rattle.std.specs.Prelude.{◌≡◌, ◌-◌, ℕ, List, length, take}
-use Rattle.tmw_events.specs.declared.event.Event.{Event}
-use Rattle.tmw_defs.specs.declared.verdict.Verdict.{Verdict}
-use Rattle.tmw_defs.specs.declared.verdict.Verdict.TheVariants.{OpaqueSoFar, StrictSoFar, Violated, Undecided, Malformed}
-use Rattle.tmw_defs.specs.Opaque.{State}
-use Rattle.tmw_defs.specs.Verdict.{Rules}
 use Rattle.tmw_defs.specs.Windows.{between}
-use Rattle.tmw_monitor.specs.HoldsOpen.{AreLastOutcomes}
 
 -- The length at which something is wrong with a history of so many events, or else that of the whole.
 abbrev pub shown_length : ℕ → Verdict → ℕ

@@ -1,8 +1,6 @@
 -- What a `ShownWindow` says of a history.
+use Rattle.tmw_window.specs.Shared.{Event, IsVerdict, Rules, members}
 use Rattle.std.specs.Prelude.{◌≡◌, List, length}
-use Rattle.tmw_events.specs.declared.event.Event.{Event}
-use Rattle.tmw_defs.specs.Verdict.{Rules, IsVerdict}
-use Rattle.tmw_cuts.specs.Members.{members}
 use Rattle.tmw_monitor.specs.BrokenRule.{TellsBroken}
 use Rattle.tmw_window.specs.ShownEvents.{IsShown}
 use Rattle.tmw_window.specs.declared.shown_window.ShownWindow.{ShownWindow}

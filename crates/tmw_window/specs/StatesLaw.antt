@@ -1,11 +1,7 @@
 -- The law of the states from which a window that is shown begins: each is one with which a trace of the run can begin.
+use Rattle.tmw_window.specs.Shared.{Contains, Event, IsVerdict, Rules, State, Verdict, list_all}
 use Rattle.std.specs.Prelude.{◌≡◌, ◌==◌, ◌<◌, ◌^◌, ℕ, List, length, drop, All, IsTrue}
-use Rattle.std.specs.List.{Contains, list_all}
 use Rattle.tmw_events.specs.Text.{FitsKind}
-use Rattle.tmw_events.specs.declared.event.Event.{Event}
-use Rattle.tmw_defs.specs.declared.verdict.Verdict.{Verdict}
-use Rattle.tmw_defs.specs.Opaque.{State}
-use Rattle.tmw_defs.specs.Verdict.{Rules, IsVerdict}
 use Rattle.tmw_window.specs.ShownEvents.{IsShown}
 
 -- The state gives each of eight registers a value of 64 bits, and 0 to those that a run of so many registers doesn't have.

@@ -1,12 +1,7 @@
 -- The law of the window that is shown: as a history of its own, from each of the states from which it begins.
+use Rattle.tmw_window.specs.Shared.{Contains, Event, IsVerdict, IsViolated, Malformed, OpaqueSoFar, Rules, State, StrictSoFar, Undecided, Verdict, Violated}
 use Rattle.std.specs.Prelude.{◌≡◌, ◌↔◌, ◌<◌, ◌≤◌, ℕ, List, [], ◌∷◌, length}
-use Rattle.std.specs.List.{Contains}
-use Rattle.tmw_events.specs.declared.event.Event.{Event}
-use Rattle.tmw_defs.specs.declared.verdict.Verdict.{Verdict}
-use Rattle.tmw_defs.specs.declared.verdict.Verdict.TheVariants.{OpaqueSoFar, StrictSoFar, Violated, Undecided, Malformed}
 use Rattle.tmw_defs.specs.History.{transactions}
-use Rattle.tmw_defs.specs.Opaque.{State}
-use Rattle.tmw_defs.specs.Verdict.{Rules, IsViolated, IsVerdict}
 use Rattle.tmw_window.specs.ShownEvents.{IsShown}
 
 -- What a history is judged by that begins with this state, and else as another.

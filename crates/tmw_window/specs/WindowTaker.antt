@@ -1,8 +1,7 @@
 -- What a `LastWindow` has taken of the events that it is fed as their lines are read.
+use Rattle.tmw_window.specs.Shared.{Event, Rules}
 use Rattle.std.specs.Prelude.{◌≡◌, ℕ, List, ◌++◌, length}
 use Rattle.tmw_lines.specs.Taker.{Taking}
-use Rattle.tmw_events.specs.declared.event.Event.{Event}
-use Rattle.tmw_defs.specs.Verdict.{Rules}
 use Rattle.tmw_window.specs.LastWindow.{Watches}
 use Rattle.tmw_window.specs.declared.last_window.LastWindow.{LastWindow}
 

@@ -1,10 +1,5 @@
-ghost use Rattle.std.specs.Prelude.{◌≡◌, List, [], ◌∷◌, ◌++◌, IfOk, IsOk, OnOk};
-ghost use Rattle.tmw_events.specs.declared.event.Event.{Event};
-ghost use Rattle.tmw_defs.specs.Verdict.{Rules, IsVerdict};
-ghost use Rattle.tmw_defs.specs.declared.verdict.Verdict.{Verdict};
-ghost use Rattle.tmw_monitor.specs.Fits.{Fits};
-ghost use Rattle.tmw_monitor.specs.Monitor.{IsOpen, verdict_of};
-ghost use Rattle.tmw_monitor.specs.declared.monitor.Monitor.{Monitor};
+ghost use Rattle.tmw_window.specs.Shared.{Event, Fits, IsOpen, IsVerdict, Monitor, Rules, Verdict, verdict_of};
+ghost use Rattle.std.specs.Prelude.{◌≡◌, List, [], ◌∷◌, ◌++◌, IfOk, IsOk};
 
 use crate::shown_window::ShownWindow;
 use crate::window_change::WindowChange;

@@ -1,9 +1,5 @@
+ghost use Rattle.tmw_window.specs.Shared.{Event, IsOpen, IsVerdict, Rules, fed_of, members, rules_for};
 ghost use Rattle.std.specs.Prelude.{◌≡◌, ◌<◌, ◌^◌, List, [], ◌∷◌, ◌++◌, IfOk, IsOk, OnOk, OnErr, length};
-ghost use Rattle.tmw_events.specs.declared.event.Event.{Event};
-ghost use Rattle.tmw_defs.specs.Verdict.{Rules, IsVerdict};
-ghost use Rattle.tmw_cuts.specs.Members.{members};
-ghost use Rattle.tmw_monitor.specs.Fits.{rules_for};
-ghost use Rattle.tmw_monitor.specs.Monitor.{IsOpen, fed_of};
 
 use crate::kept_window::KeptWindow;
 use crate::shown_window::ShownWindow;

@@ -1,5 +1,7 @@
 -- The last window of the log is kept.
-use Rattle.tmw_bench.proofs.Shared.{Fits, Front, HasBenched, IsSummary, Verdict, ap, front_part, part_by, rules_of, scripts_of, subst, sym, verdict-one, zeros, ◌∙◌, ◌≡◌}
+use Rattle.tmw_bench.proofs.Shared.{Fits, Front, HasBenched, Verdict, ap, front_part, rules_of, scripts_of, subst, sym, verdict-one, zeros, ◌∙◌, ◌≡◌}
+use Rattle.tmw_counts.specs.Summary.{IsSummary}
+use Rattle.tmw_counts.specs.CountedPart.{part_by}
 use Rattle.tmw_monitor.specs.declared.monitor.Monitor.{Monitor}
 use Rattle.tmw_window.specs.KeptWindow.{KeepsShown}
 use Rattle.tmw_bench.proofs.bench.hunt.Goals as goal

@@ -1,4 +1,4 @@
-use Rattle.tmw_bench.proofs.Shared.{AreClosed, ArePairs, IsAfter, Line, List, Option, Refused, SomeStop, SomeToldStop, WriterIs, inl, inr, length, length-map, map, script_of, scripts_of, subst, sym, ◌∙◌, ◌≡◌, arith}
+use Rattle.tmw_bench.proofs.Shared.{AreClosed, ArePairs, IsAfter, Line, List, Option, Refused, SomeStop, SomeToldStop, WriterIs, arith, inl, inr, length, length-map, map, script_of, scripts_of, subst, sym, ◌∙◌, ◌≡◌}
 use Rattle.tmw_bench.proofs.AllBack.{is_after-gathered, new_lines, new_workers, pairs, some_stop-gathered}
 use Rattle.tmw_bench.proofs.JoinThreads.{back_count, come_back, given_back, led_to}
 use Rattle.tmw_bench.proofs.Starts.{Back}

@@ -1,6 +1,6 @@
+use Rattle.tmw_bench.proofs.Shared.{rules}
 use Rattle.tmw_bench.proofs.Tries.{tried}
 use Rattle.tmw_bench.proofs.record_soon.record_soon.Goals as goal
-use Rattle.tmw_bench.proofs.Shared.{rules}
 
 pub returns-in_default-clause-tried : goal.returns-in_default-clause-tried
 returns-in_default-clause-tried c = search (rules, tried)

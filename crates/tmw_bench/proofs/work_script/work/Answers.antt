@@ -1,4 +1,4 @@
-use Rattle.tmw_bench.proofs.Shared.{Answer, Call, calls_of, sym, ◌∙◌, arith, rules}
+use Rattle.tmw_bench.proofs.Shared.{Answer, Call, arith, calls_of, rules, sym, ◌∙◌}
 use Rattle.tmw_bench.proofs.CallsLeft.{calls_left-goes_on}
 use Rattle.tmw_bench.proofs.Works.{played-called, played-new, worked-none_left, worked-refused}
 use Rattle.tmw_bench.proofs.work_script.work.Goals as goal

@@ -1,5 +1,5 @@
 -- While not all verdicts are final, each event that was read is fed.
-use Rattle.tmw_judge.proofs.Shared.{ap, failures_after, refl, sym, ◌∙◌, arith}
+use Rattle.tmw_judge.proofs.Shared.{ap, arith, failures_after, refl, sym, ◌∙◌}
 use Rattle.tmw_judge.proofs.FeedFirst.{HasFed-none, HasFed-push, feeds-end, feeds-fault, feeds-final, reads_on, room-next}
 use Rattle.tmw_judge.proofs.feed_first.feed_first.Goals as goal
 

@@ -1,5 +1,5 @@
 -- The counter takes an event exactly where the history stays well-formed.
-use Rattle.tmw_judge.proofs.Shared.{Event, IfErr, IfOk, List, OnErr, Result, [], both_ways, length, ℕ, ◌++◌, ◌-◌, ◌<◌, ◌^◌, ◌∷◌, ◌≡◌, arith}
+use Rattle.tmw_judge.proofs.Shared.{Event, IfErr, IfOk, List, OnErr, Result, [], arith, both_ways, length, ℕ, ◌++◌, ◌-◌, ◌<◌, ◌^◌, ◌∷◌, ◌≡◌}
 use Rattle.tmw_counts.specs.Counter.{CountsSo}
 use Rattle.tmw_counts.specs.declared.counter.Counter.{Counter}
 use Rattle.tmw_wellformed.specs.Faults.{Refuses}

@@ -1,7 +1,5 @@
 -- The quoted line came after what is wrong with it, or an empty line was told.
-use Rattle.tmw_report.proofs.Shared.{List, Puts, Puts-front, Puts-more, codes, decimal, false, is_empty_header, quoted, refl, subst, sym, true, version_digit, wrong_of, ℕ, ◌++◌, ◌∙◌, ◌≡◌}
-use Rattle.tmw_report.specs.Quote.{empty_text}
-use Rattle.tmw_report.specs.QuotesHeld.{text_of}
+use Rattle.tmw_report.proofs.Shared.{List, Puts, Puts-front, Puts-more, codes, decimal, empty_text, false, is_empty_header, quoted, refl, subst, sym, text_of, true, version_digit, wrong_of, ℕ, ◌++◌, ◌∙◌, ◌≡◌}
 use Rattle.tmw_report.specs.declared.quote.Quote.{Quote}
 use Rattle.tmw_report.proofs.quote.QuoteTextsTextsQuote.put_text.Goals as goal
 

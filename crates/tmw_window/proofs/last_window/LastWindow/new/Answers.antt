@@ -1,5 +1,5 @@
 -- Before the first event nothing is shown.
-use Rattle.tmw_window.proofs.Shared.{rules_for}
+use Rattle.tmw_monitor.specs.Fits.{rules_for}
 use Rattle.tmw_window.proofs.last_window.LastWindow.new.Goals as goal
 
 pub returns : goal.returns

@@ -1,7 +1,7 @@
 -- An event that was fed is one more.
+use Rattle.tmw_window.proofs.Shared.{arith}
 use Rattle.tmw_window.proofs.WindowTaker.{counted-taken, has_room}
 use Rattle.tmw_window.proofs.window_taker.LastWindowTakerEvent.take.Goals as goal
-use Rattle.tmw_window.proofs.Shared.{arith}
 
 pub feed-requires : goal.feed-requires
 feed-requires c = record { room = has_room c.args.self.now c.requires.0 c.requires.1 c.requires.2 }

@@ -1,18 +1,10 @@
 -- Rounds that workers play: what they need, and what they leave.
+use Rattle.tmw_bench.specs.Shared.{Answer, Call, Fits, Kind, PumpIs, ReaderOf, Refused, RingIs, Rules, WriterIs, judged_of, monitor_of, pump_front, reader_of, scripts_of}
 use Rattle.std.specs.Prelude.{◌≡◌, ◌≤◌, ◌<◌, ℕ, [], List, Option, length}
 use Rattle.std.specs.Global.{Vec}
 use Rattle.tmw_bench.specs.RoundsBegun.{HaveBegun, IsOver}
 use Rattle.tmw_bench.specs.WorkerConditions.{AreTransactions, GivesWithin}
-use Rattle.tmw_defs.specs.Verdict.{Rules}
-use Rattle.tmw_events.specs.declared.event.Kind.{Kind}
-use Rattle.tmw_monitor.specs.Fits.{Fits}
-use Rattle.tmw_pump.specs.Front.{judged_of, monitor_of}
-use Rattle.tmw_pump.specs.Pump.{PumpIs, pump_front, reader_of}
-use Rattle.tmw_ring.specs.RingEnds.{ReaderOf, RingIs, WriterIs}
 use Rattle.tmw_ring.specs.NewRing.{AreNewWriters}
-use Rattle.tmw_ring.specs.declared.refused.Refused.{Refused}
-use Rattle.tmw_runs.specs.Scripts.{scripts_of}
-use Rattle.tmw_tm.specs.Answers.{Call, Answer}
 
 -- The memory gives no answer but those that are wanted. The pump has judged nothing, and by some rules its monitor fits that. Its reader
 -- and the new writers are the ring's. There is a writer for each script, which is one of transactions, and there is a round.
