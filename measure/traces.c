@@ -23,7 +23,7 @@ struct profile {
     bool bench, outcomes;
 };
 
-/* The last two numbers of wide and of blind keep the outcomes at a cut below 64. */
+/* The last number of blind keeps the outcomes at a cut below 64. */
 static const struct profile profiles[] = {
     {"serial", 1, 1, 1, 4, 8, 5, 1000000, false, false},
     {"calm", 2, 4, 1, 4, 8, 5, 1000000, false, false},
@@ -47,6 +47,10 @@ struct transaction {
 };
 
 static uint64_t state, memory[8], events;
+
+/* At most so many values each register may hold at the last cut, and whether one has written it since. */
+static unsigned values_of[8];
+static bool is_written[8];
 
 static unsigned draw(unsigned below) {
     state ^= state << 13;
@@ -98,8 +102,15 @@ static void commit(struct transaction *t, unsigned thread) {
         end(t, thread, 'A');
         return;
     }
-    for (unsigned r = 0; r < 8; r++)
-        if (t->has_written[r]) memory[r] = t->written[r];
+    for (unsigned r = 0; r < 8; r++) {
+        if (t->has_written[r]) {
+            memory[r] = t->written[r];
+            values_of[r] = is_written[r] ? values_of[r] + 1 : 1;
+            is_written[r] = true;
+        } else if (t->has_read[r] && !is_written[r]) {
+            values_of[r] = 1;
+        }
+    }
     end(t, thread, 'C');
 }
 
@@ -129,6 +140,27 @@ static void go_on(struct transaction *t, unsigned thread, const struct profile *
     }
 }
 
+/* At a cut: whether there may be more outcomes than the 64 that are judged. */
+static bool may_be_many(const struct profile *p) {
+    unsigned most = 1;
+    for (unsigned r = 0; r < p->registers; r++) {
+        unsigned values = values_of[r] < p->values ? values_of[r] : p->values;
+        is_written[r] = false;
+        most *= values ? values : 1;
+    }
+    return most > 64;
+}
+
+/* A transaction alone that reads all registers: it leaves one outcome. */
+static void read_all(const struct profile *p) {
+    for (unsigned r = 0; r < p->registers; r++) {
+        printf("0 R %u\n0 V %" PRIu64 "\n", r, memory[r]);
+        values_of[r] = 1;
+    }
+    puts("0 T\n0 C");
+    events += 2 * p->registers + 2;
+}
+
 static void run_round(const struct profile *p) {
     struct transaction all[8];
     unsigned going[8], count = p->least + draw(p->most - p->least + 1);
@@ -148,6 +180,8 @@ static void run_round(const struct profile *p) {
         if (all[thread].later) all[thread] = (struct transaction){.left = p->fewest};
         else going[at] = going[--count];
     }
+    /* (in the bench no write is blind, and so there is one outcome) */
+    if (!p->bench && may_be_many(p)) read_all(p);
 }
 
 /* So many blind writers of the register, which all overlap: any of them may be the last. */
