@@ -22,13 +22,13 @@ export GLIBC_TUNABLES=glibc.cpu.hwcaps=-AVX2,-AVX_Fast_Unaligned_Load,-ERMS,-AVX
 # The most instructions an event, for each kind of run, by each of these words after `judge`.
 words=('' '--criterion strict' '--criterion both' '--first' '--summary')
 limits='
-serial    82.3 82.0 184.5 243.3 229.4
-calm      159.2 158.6 337.8 320.3 304.8
-wide      142.6 139.9 300.6 304.2 288.9
-long      79.6 79.1 165.3 252.0 225.9
-blind     300.8 300.6 637.8 435.8 445.9
-bench     88.5 88.3 191.9 255.4 234.9
-outcomes  529.4 494.7 1039.4 696.3 675.8
+serial    83.6 83.6 185.1 274.7 228.0
+calm      162.8 162.4 343.4 353.6 305.8
+wide      145.6 143.0 304.6 337.2 289.2
+long      80.9 80.9 165.8 284.6 224.7
+blind     302.4 302.5 639.5 464.8 444.7
+bench     90.0 90.0 193.4 287.3 233.8
+outcomes  526.6 492.0 1032.0 724.0 670.4
 '
 
 mode=check
