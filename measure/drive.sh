@@ -7,7 +7,7 @@
 # a transaction each, call by call in turn, over registers of their own, so none aborts and no window has more than two transactions. A line
 # for each of the two runs has: whether the trace was requested, the seconds (the best of RUNS runs), calls a second, the peak memory in
 # KiB, and the report. A last line has the seconds of reading the workload alone, as the run of one whose order is empty. If PEER is set to
-# another program of the same bytes, its seconds stand beside ours. The exit status is 1 if its bytes differ.
+# another program of the same bytes, its seconds stand beside ours. The exit status is 1 if its bytes differ, or a run isn't opaque so far.
 # Environment: PEER, RUNS (5), MEMORY (norec).
 set -eu
 # shellcheck source=tests/common.sh
@@ -41,21 +41,23 @@ workload() {
 
 workload 100000 >"$folder/whole"
 workload 0 >"$folder/read"
-differ=0
+wrong=0
 printf '%-10s %9s %9s %10s %8s  %s\n' run seconds peer calls/s KiB report
 for words in '' '--trace'; do
     input=$folder/whole
-    read -r ours _ kib _ <<<"$(measure "$program" drive --memory "$memory" $words)"
+    read -r ours _ kib status <<<"$(measure "$program" drive --memory "$memory" $words)"
+    [ "$status" = 0 ] || wrong=1
     mv "$folder/output" "$folder/ours"
     theirs=0
     if [ -n "${PEER:-}" ]; then
         read -r theirs _ <<<"$(measure "$PEER" drive --memory "$memory" $words)"
-        cmp -s "$folder/ours" "$folder/output" || differ=1
+        cmp -s "$folder/ours" "$folder/output" || wrong=1
     fi
     awk -v run="${words:---}" -v ours="$ours" -v theirs="$theirs" -v kib="$kib" -v report="$(tail -n 1 "$folder/ours")" \
         'BEGIN { printf "%-10s %9.4f %9.4f %10d %8d  %s\n", run, ours, theirs, 100000 / ours, kib, report }'
 done
 input=$folder/read
-read -r seconds _ kib _ <<<"$(measure "$program" drive --memory "$memory")"
+read -r seconds _ kib status <<<"$(measure "$program" drive --memory "$memory")"
+[ "$status" = 0 ] || wrong=1
 printf '%-10s %9.4f %9s %10s %8d  %s\n' reading "$seconds" - - "$kib" "$(tail -n 1 "$folder/output")"
-exit $differ
+exit $wrong

@@ -1,12 +1,15 @@
 #!/usr/bin/env bash
-# Times `tmwatch judge` on seven kinds of run, by opacity and by strict serializability, beside `cat` and `wc -l` of the same trace.
+# Times `tmwatch judge` on seven kinds of run, by opacity, by strict serializability, by both, with --first and with --summary, beside `cat`
+# and `wc -l` of the same trace.
 #
 #   measure/judge.sh [EVENTS]
 #
-# measure/traces.c makes the traces. A line a profile and criterion has: its events, the seconds of each program (the best of RUNS runs), our
+# measure/traces.c makes the traces. A line a profile and words has: its events, the seconds of each program (the best of RUNS runs), our
 # events a second, the ratio of our seconds to those of each, and the peak memory in KiB. If PEER is set to another program of the same bytes, it
-# runs too, and the line says whether its line and status are ours. The exit status is 1 if they differ.
-# Environment: PEER, PROFILES, CRITERIA, SEED (1), RUNS (3), CC (cc), TRACES (a program that is called as measure/traces.c says, in its place).
+# runs too, and the line says whether its lines and status are ours. It has no --first and no --summary. The exit status is 1 if they differ, or
+# if a run isn't opaque so far: a line says which.
+# Environment: PEER, PROFILES, WORDS (opacity strict both first summary), SEED (1), RUNS (3), CC (cc), TRACES (a program that is called as
+# measure/traces.c says, in its place).
 set -eu
 # shellcheck source=tests/common.sh
 . "$(dirname "${BASH_SOURCE[0]}")/../tests/common.sh"
@@ -16,25 +19,27 @@ events=${1:-1000000} input=$folder/trace
 traces=${TRACES:-$folder/traces}
 [ -n "${TRACES:-}" ] || "${CC:-cc}" -O2 "$top/measure/traces.c" -o "$traces"
 
-differ=0
-printf '%-8s %-9s %10s %8s %10s %8s %6s %8s %6s %8s %6s %8s  %s\n' profile criterion events seconds events/s cat ratio 'wc -l' ratio peer ratio KiB same
+wrong=0
+printf '%-8s %-9s %10s %8s %10s %8s %6s %8s %6s %8s %6s %8s  %s\n' profile words events seconds events/s cat ratio 'wc -l' ratio peer ratio KiB same
 
-# A line of the profile, whose trace is there, by the criterion.
+# A line of the profile, whose trace is there, by a word.
 print_line() {
-    local profile=$1 criterion=$2
-    read -r ours _ memory status <<<"$(measure "$program" judge --criterion "$criterion")"
+    local profile=$1 word=$2 words=(--criterion "$2")
+    case $word in first | summary) words=("--$word") ;; esac
+    read -r ours _ memory status <<<"$(measure "$program" judge "${words[@]}")"
+    [ "$status" = 0 ] || { wrong=1 && echo "judge.sh: $profile, $word, status $status: $(cat "$folder/output")" >&2; }
     answer="$status $(cat "$folder/output")"
     theirs=0 same=-
-    if [ -n "$peer" ]; then
-        read -r theirs _ _ status <<<"$(measure "$peer" judge --criterion "$criterion")"
+    if [ -n "$peer" ] && [ "${words[0]}" = --criterion ]; then
+        read -r theirs _ _ status <<<"$(measure "$peer" judge "${words[@]}")"
         same=yes
-        [ "$answer" = "$status $(cat "$folder/output")" ] || { same=no differ=1; }
+        [ "$answer" = "$status $(cat "$folder/output")" ] || { same=no wrong=1; }
     fi
-    awk -v profile="$profile" -v criterion="$criterion" -v count="$count" -v ours="$ours" -v cats="$cats" -v counts="$counts" -v theirs="$theirs" \
+    awk -v profile="$profile" -v word="$word" -v count="$count" -v ours="$ours" -v cats="$cats" -v counts="$counts" -v theirs="$theirs" \
         -v memory="$memory" -v same="$same" 'function beside(other) { return sprintf("%8.2f %6.1f", other, ours / (other > 0 ? other : 0.01)) }
         BEGIN {
             ours = ours > 0 ? ours : 0.01
-            printf "%-8s %-9s %10d %8.2f %10d %s %s %s %8d  %s\n", profile, criterion, count, ours, count / ours, beside(cats), beside(counts), \
+            printf "%-8s %-9s %10d %8.2f %10d %s %s %s %8d  %s\n", profile, word, count, ours, count / ours, beside(cats), beside(counts), \
                 same == "-" ? sprintf("%8s %6s", "-", "-") : beside(theirs), memory, same
         }'
 }
@@ -45,8 +50,8 @@ for profile in ${PROFILES:-serial calm wide long blind bench outcomes}; do
     # (through a pipe, since `cat` and `wc` may skip what they read or write where they can)
     read -r cats _ <<<"$(measure sh -c 'cat | cat >/dev/null')"
     read -r counts _ <<<"$(measure sh -c 'cat | wc -l')"
-    for criterion in ${CRITERIA:-opacity strict}; do
-        print_line "$profile" "$criterion"
+    for word in ${WORDS:-opacity strict both first summary}; do
+        print_line "$profile" "$word"
     done
 done
-exit $differ
+exit $wrong

@@ -1,4 +1,4 @@
-/* Writes a trace of a run that is opaque, for measure/judge.sh.
+/* Writes a trace of a run that is opaque, or of `doomed` strictly serializable alone, for measure/ and tests/speed.sh.
  *
  *   traces PROFILE SEED EVENTS
  *
@@ -16,22 +16,23 @@
  * of ten operations so many read, and the others write one of so many values. With `bench`, as in the bench for C, a thread runs two
  * transactions, by up to three steps a turn. Of ten operations two add and the others read; half of what was read is then written. One
  * transaction of eight asks to abort. With `outcomes`, blind writers of the first five registers leave 64 outcomes before that, and the
- * run has the next registers. */
+ * run has the next registers. With `doomed`, a read is answered whatever was read before, and a transaction goes on until its commit fails. */
 struct profile {
     const char *name;
     unsigned least, most, fewest, greatest, registers, reads, values;
-    bool bench, outcomes;
+    bool bench, outcomes, doomed;
 };
 
-/* The last two numbers of wide and of blind keep the outcomes at a cut below 64. */
+/* The last number of blind keeps the outcomes at a cut below 64. */
 static const struct profile profiles[] = {
-    {"serial", 1, 1, 1, 4, 8, 5, 1000000, false, false},
-    {"calm", 2, 4, 1, 4, 8, 5, 1000000, false, false},
-    {"wide", 8, 8, 2, 4, 8, 8, 1000000, false, false},
-    {"long", 2, 4, 64, 64, 8, 8, 1000000, false, false},
-    {"blind", 8, 8, 1, 2, 3, 0, 3, false, false},
-    {"bench", 4, 4, 3, 3, 3, 10, 1000000, true, false},
-    {"outcomes", 4, 4, 3, 3, 3, 10, 1000000, true, true},
+    {"serial", 1, 1, 1, 4, 8, 5, 1000000, false, false, false},
+    {"calm", 2, 4, 1, 4, 8, 5, 1000000, false, false, false},
+    {"wide", 8, 8, 2, 4, 8, 8, 1000000, false, false, false},
+    {"long", 2, 4, 64, 64, 8, 8, 1000000, false, false, false},
+    {"blind", 8, 8, 1, 2, 3, 0, 3, false, false, false},
+    {"bench", 4, 4, 3, 3, 3, 10, 1000000, true, false, false},
+    {"outcomes", 4, 4, 3, 3, 3, 10, 1000000, true, true, false},
+    {"doomed", 4, 4, 2, 16, 8, 8, 1000000, false, false, true},
 };
 
 enum step { CALLS, IS_ANSWERED, ASKS, COMMITS, HAS_ENDED };
@@ -41,12 +42,16 @@ struct transaction {
     unsigned left, later;
     unsigned reg;
     uint64_t value;
-    bool reads, adds, updates, gives_up;
+    bool reads, adds, updates, gives_up, fails;
     bool has_read[8], has_written[8];
     uint64_t read[8], written[8];
 };
 
 static uint64_t state, memory[8], events;
+
+/* At most so many values each register may hold at the last cut, and whether one has written it since. */
+static unsigned values_of[8];
+static bool is_written[8];
 
 static unsigned draw(unsigned below) {
     state ^= state << 13;
@@ -67,8 +72,9 @@ static void end(struct transaction *t, unsigned thread, char kind) {
     t->step = HAS_ENDED;
 }
 
-/* An operation's answer: a read gives the transaction's own value, or the memory's, where all that was read before still stands. */
-static void answer(struct transaction *t, unsigned thread) {
+/* An operation's answer: a read gives the transaction's own value, or the memory's, where all that was read before still stands, or where
+ * `doomed` ones go on. */
+static void answer(struct transaction *t, unsigned thread, bool doomed) {
     unsigned r = t->reg;
     if (!t->reads) {
         t->has_written[r] = true;
@@ -76,7 +82,8 @@ static void answer(struct transaction *t, unsigned thread) {
         printf("%u K\n", thread);
     } else if (t->has_written[r]) {
         printf("%u V %" PRIu64 "\n", thread, t->written[r]);
-    } else if (is_valid(t)) {
+    } else if (doomed || is_valid(t)) {
+        t->fails |= t->has_read[r] && t->read[r] != memory[r];
         t->has_read[r] = true;
         t->read[r] = memory[r];
         printf("%u V %" PRIu64 "\n", thread, memory[r]);
@@ -94,12 +101,19 @@ static void answer(struct transaction *t, unsigned thread) {
 
 /* The end of a commit: what it has written shows at once. */
 static void commit(struct transaction *t, unsigned thread) {
-    if (!is_valid(t)) {
+    if (t->fails || !is_valid(t)) {
         end(t, thread, 'A');
         return;
     }
-    for (unsigned r = 0; r < 8; r++)
-        if (t->has_written[r]) memory[r] = t->written[r];
+    for (unsigned r = 0; r < 8; r++) {
+        if (t->has_written[r]) {
+            memory[r] = t->written[r];
+            values_of[r] = is_written[r] ? values_of[r] + 1 : 1;
+            is_written[r] = true;
+        } else if (t->has_read[r] && !is_written[r]) {
+            values_of[r] = 1;
+        }
+    }
     end(t, thread, 'C');
 }
 
@@ -117,7 +131,7 @@ static void go_on(struct transaction *t, unsigned thread, const struct profile *
         else if (t->reads) printf("%u R %u\n", thread, t->reg);
         else printf("%u W %u %" PRIu64 "\n", thread, t->reg, t->value);
         break;
-    case IS_ANSWERED: answer(t, thread); break;
+    case IS_ANSWERED: answer(t, thread, p->doomed); break;
     case ASKS:
         t->gives_up = p->bench && draw(8) == 0;
         printf("%u %c\n", thread, t->gives_up ? 'X' : 'T');
@@ -127,6 +141,27 @@ static void go_on(struct transaction *t, unsigned thread, const struct profile *
         if (t->gives_up) end(t, thread, 'A');
         else commit(t, thread);
     }
+}
+
+/* At a cut: whether there may be more outcomes than the 64 that are judged. */
+static bool may_be_many(const struct profile *p) {
+    unsigned most = 1;
+    for (unsigned r = 0; r < p->registers; r++) {
+        unsigned values = values_of[r] < p->values ? values_of[r] : p->values;
+        is_written[r] = false;
+        most *= values ? values : 1;
+    }
+    return most > 64;
+}
+
+/* A transaction alone that reads all registers: it leaves one outcome. */
+static void read_all(const struct profile *p) {
+    for (unsigned r = 0; r < p->registers; r++) {
+        printf("0 R %u\n0 V %" PRIu64 "\n", r, memory[r]);
+        values_of[r] = 1;
+    }
+    puts("0 T\n0 C");
+    events += 2 * p->registers + 2;
 }
 
 static void run_round(const struct profile *p) {
@@ -148,6 +183,8 @@ static void run_round(const struct profile *p) {
         if (all[thread].later) all[thread] = (struct transaction){.left = p->fewest};
         else going[at] = going[--count];
     }
+    /* (in the bench no write is blind, and so there is one outcome) */
+    if (!p->bench && may_be_many(p)) read_all(p);
 }
 
 /* So many blind writers of the register, which all overlap: any of them may be the last. */
@@ -162,7 +199,7 @@ int main(int count, char **words) {
     for (size_t k = 0; count == 4 && k < sizeof profiles / sizeof *profiles; k++)
         if (!strcmp(profiles[k].name, words[1])) p = &profiles[k];
     if (!p) {
-        fprintf(stderr, "usage: traces serial|calm|wide|long|blind|bench|outcomes SEED EVENTS\n");
+        fprintf(stderr, "usage: traces serial|calm|wide|long|blind|bench|outcomes|doomed SEED EVENTS\n");
         return 2;
     }
     state = strtoull(words[2], NULL, 10) * 2654435769u + 88172645463325252u;

@@ -1,0 +1,101 @@
+#!/usr/bin/env bash
+# Counts by valgrind how many instructions `tmwatch judge` takes for an event, for each kind of run of measure/traces.c and by each word below.
+#
+#   tests/speed.sh [PROGRAM]
+#   tests/speed.sh write [PROGRAM]
+#
+# A row has what is counted and its limit, and fails above it. `write` writes the table of limits in this script anew: what it counts, and 3 %.
+# What is counted of a run is that of its first 60,000 events less that of its first 20,000, over the events between, so that start-up doesn't
+# count. Each run has to be so far as it is judged. PROGRAM is the built one, or another with the words of `judge`.
+#
+# A count repeats to the last instruction: neither load, address layout nor environment moves it, since they reach start-up alone. What moves it
+# is which memcpy and memset the C library picks for the processor, so that those for any x86-64 are asked for here. Another version of
+# the C library may move it.
+# The last line is 'N passed, M failed', and the exit status is 1 if a row failed. Without valgrind or a C compiler no row is run: a line says
+# how many, and the status is 0.
+# Environment: CC (cc), KINDS (all of the table), JOBS (2, how many runs at once).
+set -eu
+# shellcheck source=tests/common.sh
+. "$(dirname "${BASH_SOURCE[0]}")/common.sh"
+export GLIBC_TUNABLES=glibc.cpu.hwcaps=-AVX2,-AVX_Fast_Unaligned_Load,-ERMS,-AVX512VL,-AVX512BW
+
+# The most instructions an event, for each kind of run, by each of these words after `judge`. A run of `doomed` is strictly serializable alone.
+words=('' '--criterion strict' '--criterion both' '--first' '--summary')
+limits='
+serial    83.6 83.6 185.1 274.7 228.0
+calm      162.8 162.4 343.4 353.6 305.8
+wide      145.6 143.0 304.6 337.2 289.2
+long      80.9 80.9 165.8 284.6 224.7
+blind     302.4 302.5 639.5 464.8 444.7
+bench     90.0 90.0 193.4 287.3 233.8
+outcomes  526.6 492.0 1032.0 724.0 670.4
+doomed    - 132.7 - - -
+'
+
+mode=check
+[ "${1:-}" != write ] || { mode=write && shift; }
+program=${1:-$program}
+rows=$(grep -o ' [0-9.]\+' <<<"$limits" | wc -l)
+for tool in valgrind "${CC:-cc}"; do
+    if ! has "$tool" "tests/speed.sh, instructions an event, $rows rows not run"; then
+        end_rows
+        exit
+    fi
+done
+[ -x "$program" ] || "$top/build"
+"${CC:-cc}" -O2 -o "$folder/traces" "$top/measure/traces.c"
+
+# Counts the instructions of a run on so many events of a kind, by the words' number. Nothing may be wrong with it.
+instructions() {
+    local name=$folder/$1.$2.$3 given
+    read -r -a given <<<"${words[$3]}"
+    if valgrind --tool=callgrind --callgrind-out-file=/dev/null "$program" judge "${given[@]}" <"$folder/$1.$2" >"$name" 2>"$name.told"; then
+        sed -n 's/.*Collected : //p' "$name.told" >"$name.count"
+    fi
+}
+
+# Counts those of an event, of a kind by the words' number, into a file of their names. There is none if something is wrong with a run.
+count_events() {
+    local few many
+    instructions "$1" few "$2"
+    instructions "$1" many "$2"
+    few=$(cat "$folder/$1.few.$2.count" || true) many=$(cat "$folder/$1.many.$2.count" || true)
+    [ -z "$few" ] || [ -z "$many" ] ||
+        awk -v few="$few" -v many="$many" -v events=$(($(wc -l <"$folder/$1.many") - $(wc -l <"$folder/$1.few"))) \
+            'BEGIN { printf "%.2f\n", (many - few) / events }' >"$folder/$1.$2.counted"
+}
+
+# The limit of a kind by the words' number: `-` if that run isn't one.
+limit_of() {
+    awk -v kind="$1" -v column=$(($2 + 2)) '$1 == kind { print $column }' <<<"$limits"
+}
+
+kinds=${KINDS:-$(awk 'NF { print $1 }' <<<"$limits")}
+for kind in $kinds; do
+    "$folder/traces" "$kind" 1 20000 >"$folder/$kind.few"
+    "$folder/traces" "$kind" 1 60000 >"$folder/$kind.many"
+    for number in "${!words[@]}"; do
+        [ "$(limit_of "$kind" "$number")" != - ] || continue
+        while [ "$(jobs -pr | wc -l)" -ge "${JOBS:-2}" ]; do wait -n || true; done
+        count_events "$kind" "$number" &
+    done
+done
+wait
+
+printf '%-8s %-26s %12s %8s  %s\n' kind words instructions limit row
+for kind in $kinds; do
+    written=$(printf '%-9s' "$kind")
+    for number in "${!words[@]}"; do
+        limit=$(limit_of "$kind" "$number")
+        if [ "$limit" = - ]; then
+            written+=' -' && continue
+        fi
+        counted=$(cat "$folder/$kind.$number.counted" 2>/dev/null || echo 'no verdict')
+        [ $mode = check ] || limit=$(awk -v counted="$counted" 'BEGIN { printf "%.1f", 1.03 * counted }')
+        written+=" $limit"
+        row '%-8s %-26s %12s %8s' "$kind" "judge ${words[number]}" "$counted" "$limit" \
+            "$(awk -v counted="${counted%no verdict}" -v limit="$limit" 'BEGIN { print (counted > 0 && counted <= limit + 0 ? "passed" : "FAILED") }')"
+    done
+    [ $mode = check ] || sed -i "s/^$kind  .*/$written/" "${BASH_SOURCE[0]}"
+done
+end_rows
