@@ -116,7 +116,7 @@ def origin_of(end, names, states, window):
 
     may_count = [call for call in puts if not fate(call)]
     if not may_count and any(state[register] == value for state in states):
-        return f"{value} stood in register {register} at the start"
+        return f"a state has {value} in register {register}"
     if not puts:
         return f"no earlier event of this window puts {value} into register {register}"
     call = max(may_count or puts, key=lambda call: call[0].number)

@@ -39,7 +39,7 @@ FORMS = {
     "A put V into register R at event E, and has not yet asked to commit": {"put": "A R V E", "fate": "live"},
     "A put V into register R at event E, and has asked to abort": {"put": "A R V E", "fate": "leaving"},
     "A put V into register R at event E, then another value": {"put": "A R V E", "fate": "then"},
-    "V stood in register R at the start": {"stood": "R V"},
+    "a state has V in register R": {"stood": "R V"},
     "no earlier event of this window puts V into register R": {"unput": "R V"},
     "A would come before itself": {"cycle": "A"},
 }

@@ -95,7 +95,7 @@ origin_text values before register value (Some origin) =
     ++ (codes " into register "
     ++ (decimal register ++ (codes " at event " ++ (decimal (before + (origin.place + 1)) ++ fate_text origin.fate))))))
 
--- It stood there at the start, unless one that may count put it there.
+-- A state has it there, unless one that may count put it there.
 abbrev pub stands_in : List State → ℕ → ℕ → Bool
 stands_in states register value = list_any (λ state. slice_index state register == value) states
 
@@ -104,7 +104,7 @@ may_count None = false
 may_count (Some origin) = stays origin.fate
 
 abbrev pub start_text : List ℕ → ℕ → ℕ → List ℕ
-start_text values register value = value_text values value ++ (codes " stood in register " ++ (decimal register ++ codes " at the start"))
+start_text values register value = codes "a state has " ++ (value_text values value ++ (codes " in register " ++ decimal register))
 
 abbrev pub coming_text : List ℕ → ℕ → List State → ℕ → ℕ → Option Origin → List ℕ
 coming_text values before states register value origin =

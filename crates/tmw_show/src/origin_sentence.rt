@@ -64,15 +64,15 @@ fn may_count(origin: Option<Origin>) -> bool
     origin.is_some_and(|found| found.fate == Fate::Stays)
 }
 
-/// Tells that the value stood in the register at the start.
+/// Tells that a state has the value in the register.
 fn start_text(alloc: Global, values: &[u64], register: u8, value: u64) -> Result<String, AllocError>
     ensures { IfOk result (λ text. string_bytes text ≡ start_text values.now register value) }
 {
     let value = Value(values, value);
-    format!(in alloc; "{value} stood in register {register} at the start")
+    format!(in alloc; "a state has {value} in register {register}")
 }
 
-/// Tells where a value comes from: from the start, if it stood there and none that may count put it there.
+/// Tells where a value comes from: from a state, if one has it there and none that may count put it there.
 fn coming_text(
     alloc: Global,
     values: &[u64],
