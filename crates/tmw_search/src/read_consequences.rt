@@ -1,5 +1,5 @@
 //! What follows at once from each read, before the search branches.
-ghost use Rattle.std.specs.Prelude.{IfSome, IsTrue, ℕ, ◌<◌, ◌≡◌};
+ghost use Rattle.std.specs.Prelude.{IsTrue, MatchOption, ℕ, ◌<◌, ◌≡◌};
 ghost use Rattle.tmw_search.specs.Precedence.{IsRead, source_at};
 ghost use Rattle.tmw_search.specs.declared.source_choices.ReadSource.{ReadSource};
 ghost use Rattle.tmw_search.specs.declared.source_choices.ReadSource.TheVariants.{Open};
