@@ -16,7 +16,8 @@ use tmw_ring::Writer;
 
 impl Watch {
     /// Closes a watch with all its recorders, in any order, and returns how many events were recorded and the verdict
-    /// on them. The recorders must be this watch's. If it can't, it gives back all that it was given.
+    /// on them. The recorders must be this watch's. If it can't, it gives back the watch, with them or with what they
+    /// record by.
     pub fn close(self, recorders: Vec<Recorder>) -> Result<WatchReport, CloseError>
         requires { AreOf (watch_ring self).value recorders.items }
         ensures ok { IfOk result (IsClosed self recorders.items) }
