@@ -8,7 +8,7 @@
 # What is counted of a run is that of its first 60,000 events less that of its first 20,000, over the events between, so that start-up doesn't
 # count. Nothing may be wrong with a run. PROGRAM is the built one, or another with the words of `judge`.
 #
-# A count repeats to the last instruction: neither load, address layout nor environment moves it, since they reach start-up alone. What moves it
+# A count repeats, to some ten instructions in all: load, address layout and environment move start-up alone. What moves it
 # is which memcpy and memset the C library picks for the processor, so that those for any x86-64 are asked for here. Another version of
 # the C library may move it.
 # The last line is 'N passed, M failed', and the exit status is 1 if a row failed. Without valgrind or a C compiler no row is run: a line says
