@@ -49,7 +49,8 @@ struct transaction {
 
 static uint64_t state, memory[8], events;
 
-/* At most so many values each register may hold at the last cut, and whether one has written it since. */
+/* At most so many values each register may hold at the last cut, since only blind writers may come last in place of others; and whether
+ * one has written it since. */
 static unsigned values_of[8];
 static bool is_written[8];
 
@@ -108,7 +109,7 @@ static void commit(struct transaction *t, unsigned thread) {
     for (unsigned r = 0; r < 8; r++) {
         if (t->has_written[r]) {
             memory[r] = t->written[r];
-            values_of[r] = is_written[r] ? values_of[r] + 1 : 1;
+            values_of[r] = is_written[r] ? values_of[r] + !t->has_read[r] : 1;
             is_written[r] = true;
         } else if (t->has_read[r] && !is_written[r]) {
             values_of[r] = 1;
@@ -143,30 +144,33 @@ static void go_on(struct transaction *t, unsigned thread, const struct profile *
     }
 }
 
-/* At a cut: whether there may be more outcomes than the 64 that are judged. */
-static bool may_be_many(const struct profile *p) {
+/* Whether there may be more outcomes than the 64 that are judged, if the round ends with this transaction. */
+static bool may_be_many(const struct profile *p, const struct transaction *last) {
     unsigned most = 1;
     for (unsigned r = 0; r < p->registers; r++) {
-        unsigned values = values_of[r] < p->values ? values_of[r] : p->values;
-        is_written[r] = false;
+        unsigned values = values_of[r] + (last->has_written[r] && !last->has_read[r] && is_written[r]);
+        if (values > p->values) values = p->values;
         most *= values ? values : 1;
     }
     return most > 64;
 }
 
-/* A transaction alone that reads all registers: it leaves one outcome. */
-static void read_all(const struct profile *p) {
+/* The rest of a transaction that has called a read of register 0 before the round's last one ended: it reads what each register holds then,
+ * and so there is one outcome. */
+static void read_all(const struct profile *p, unsigned thread) {
     for (unsigned r = 0; r < p->registers; r++) {
-        printf("0 R %u\n0 V %" PRIu64 "\n", r, memory[r]);
+        if (r) printf("%u R %u\n", thread, r);
+        printf("%u V %" PRIu64 "\n", thread, memory[r]);
         values_of[r] = 1;
     }
-    puts("0 T\n0 C");
+    printf("%u T\n%u C\n", thread, thread);
     events += 2 * p->registers + 2;
 }
 
 static void run_round(const struct profile *p) {
     struct transaction all[8];
-    unsigned going[8], count = p->least + draw(p->most - p->least + 1);
+    unsigned going[8], count = p->least + draw(p->most - p->least + 1), reader = 0;
+    bool is_read = false;
     memset(all, 0, sizeof all);
     for (unsigned k = 0; k < count; k++) {
         going[k] = k;
@@ -178,13 +182,19 @@ static void run_round(const struct profile *p) {
     while (count) {
         unsigned at = draw(count), thread = going[at];
         unsigned steps = p->bench ? 1 + draw(3) : 1;
+        /* (in the bench no write is blind, so that there is one outcome; and a window has eight transactions at most) */
+        if (count == 1 && !is_read && !p->bench && p->most < 8 && all[thread].step != CALLS && may_be_many(p, &all[thread])) {
+            is_read = true;
+            reader = thread ? 0 : 1;
+            printf("%u R 0\n", reader);
+        }
         while (steps-- && all[thread].step != HAS_ENDED) go_on(&all[thread], thread, p);
         if (all[thread].step != HAS_ENDED) continue;
         if (all[thread].later) all[thread] = (struct transaction){.left = p->fewest};
         else going[at] = going[--count];
     }
-    /* (in the bench no write is blind, and so there is one outcome) */
-    if (!p->bench && may_be_many(p)) read_all(p);
+    if (is_read) read_all(p, reader);
+    memset(is_written, 0, sizeof is_written);
 }
 
 /* So many blind writers of the register, which all overlap: any of them may be the last. */

@@ -6,9 +6,9 @@
 #
 # A row has what is counted and its limit, and fails above it. `write` writes the table of limits in this script anew: what it counts, and 3 %.
 # What is counted of a run is that of its first 60,000 events less that of its first 20,000, over the events between, so that start-up doesn't
-# count. Each run has to be so far as it is judged. PROGRAM is the built one, or another with the words of `judge`.
+# count. Nothing may be wrong with a run. PROGRAM is the built one, or another with the words of `judge`.
 #
-# A count repeats to the last instruction: neither load, address layout nor environment moves it, since they reach start-up alone. What moves it
+# A count repeats, to some ten instructions in all: load, address layout and environment move start-up alone. What moves it
 # is which memcpy and memset the C library picks for the processor, so that those for any x86-64 are asked for here. Another version of
 # the C library may move it.
 # The last line is 'N passed, M failed', and the exit status is 1 if a row failed. Without valgrind or a C compiler no row is run: a line says
@@ -33,7 +33,7 @@ doomed    - 132.7 - - -
 '
 
 mode=check
-[ "${1:-}" != write ] || { mode=write && shift; }
+[ "${1:-}" != write ] || { mode='write' && shift; }
 program=${1:-$program}
 rows=$(grep -o ' [0-9.]\+' <<<"$limits" | wc -l)
 for tool in valgrind "${CC:-cc}"; do

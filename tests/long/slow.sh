@@ -10,6 +10,7 @@
 set -eu
 # shellcheck source=tests/common.sh
 . "$(dirname "${BASH_SOURCE[0]}")/../common.sh"
+# shellcheck disable=SC2046
 [ $# -gt 0 ] || set -- $(cd "$top/tests/long/slow" && printf '%s\n' *.edit | sed 's/\.edit$//')
 mkdir "$folder/tests" "$folder/measure"
 ln -s "$top/crates" "$folder/crates"
