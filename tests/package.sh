@@ -422,7 +422,7 @@ page_holds() {
 if has_slim; then
     read -r files to < <(sed -n 's/^COPY //p' "$top/packaging/Dockerfile")
     # shellcheck disable=SC2086
-    (cd "$folder/once" && cp $files "$slim/$to")
+    (mkdir -p "$slim/$to" && cd "$folder/once" && cp $files "$slim/$to")
     while read -r command; do
         ends "Dockerfile: $command" 0 in_slim sh -c "$command"
     done < <(sed -n '/apt-get/d; s/^RUN //p' "$top/packaging/Dockerfile")
