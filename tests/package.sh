@@ -47,6 +47,10 @@ mkdir -p "$folder/other/bin" && cp -R "$built/lib" "$built/include" "$folder/oth
 printf '%s\n' '#!/bin/sh' 'echo tmwatch 0.0.9, by opacity' >"$folder/other/bin/tmwatch" && chmod +x "$folder/other/bin/tmwatch"
 ends 'a program of another version' 1 env BUILT="$folder/other" "$top/package" "$folder/none"
 has_told 'a program of another version: what is told' "is not of version $version: tmwatch 0.0.9, by opacity"
+cp "$program" "$folder/other/bin/tmwatch"
+echo 'int main(void) { return 0; }' | "$cc" -x c -o "$folder/other/bin/tmwatch-bench" - -Wl,--no-as-needed -lgcc_s
+ends 'a program that needs another library' 1 env BUILT="$folder/other" "$top/package" "$folder/none"
+has_told 'a program that needs another library: what is told' 'no package is known to have libgcc_s.so.1'
 
 # The archive of files in a package.
 data_of() {
