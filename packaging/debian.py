@@ -56,8 +56,8 @@ CHANGES = """tmwatch ({version}) unstable; urgency=medium
 
  -- {maintainer}  {date}
 """
-# The Debian package that each shared library comes with.
-NEEDED = {"libc.so.6": "libc6", "libm.so.6": "libc6", "libpthread.so.0": "libc6", "ld-linux-x86-64.so.2": "libc6"}
+# The shared libraries of Debian's libc6.
+LIBC = {"libc.so.6", "libm.so.6", "libpthread.so.0", "ld-linux-x86-64.so.2"}
 
 
 class Unknown(Exception):
@@ -89,7 +89,7 @@ def read_libc(*binaries):
     """Returns the package of the C library, with the oldest version that has what these need."""
     said = "".join(subprocess.check_output(["readelf", "-W", "-d", "-V", it], text=True) for it in binaries)
     for name in re.findall(r"\(NEEDED\).*\[(.*)\]", said):
-        if name not in NEEDED:
+        if name not in LIBC:
             raise Unknown(f"no package is known to have {name}")
     least = max(tuple(map(int, it.split("."))) for it in re.findall(r"GLIBC_([0-9.]+)", said))
     return f"libc6 (>= {'.'.join(map(str, least))})"

@@ -47,6 +47,10 @@ mkdir -p "$folder/other/bin" && cp -R "$built/lib" "$built/include" "$folder/oth
 printf '%s\n' '#!/bin/sh' 'echo tmwatch 0.0.9, by opacity' >"$folder/other/bin/tmwatch" && chmod +x "$folder/other/bin/tmwatch"
 ends 'a program of another version' 1 env BUILT="$folder/other" "$top/package" "$folder/none"
 has_told 'a program of another version: what is told' "is not of version $version: tmwatch 0.0.9, by opacity"
+cp "$program" "$folder/other/bin/tmwatch"
+echo 'int main(void) { return 0; }' | "$cc" -x c -o "$folder/other/bin/tmwatch-bench" - -Wl,--no-as-needed -lgcc_s
+ends 'a program that needs another library' 1 env BUILT="$folder/other" "$top/package" "$folder/none"
+has_told 'a program that needs another library: what is told' 'no package is known to have libgcc_s.so.1'
 
 # The archive of files in a package.
 data_of() {
@@ -422,7 +426,7 @@ page_holds() {
 if has_slim; then
     read -r files to < <(sed -n 's/^COPY //p' "$top/packaging/Dockerfile")
     # shellcheck disable=SC2086
-    (cd "$folder/once" && cp $files "$slim/$to")
+    (mkdir -p "$slim/$to" && cd "$folder/once" && cp $files "$slim/$to")
     while read -r command; do
         ends "Dockerfile: $command" 0 in_slim sh -c "$command"
     done < <(sed -n '/apt-get/d; s/^RUN //p' "$top/packaging/Dockerfile")
