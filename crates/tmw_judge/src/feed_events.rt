@@ -1,5 +1,5 @@
-ghost use Rattle.tmw_judge.specs.Shared.{HasFailed, IsOver, Memory, reading_failures};
-ghost use Rattle.std.specs.Prelude.{◌≡◌, ◌≢◌, ◌++◌, IfErr, OnOk};
+ghost use Rattle.tmw_judge.specs.Shared.{HasFailed, IsOver, reading_failures};
+ghost use Rattle.std.specs.Prelude.{◌≡◌, ◌++◌, IfErr, OnOk};
 ghost use Rattle.tmw_judge.specs.FeedEvents.{AreFedAllRead, FeedsEvents, judges_taking};
 ghost use Rattle.std.proofs.Common.{append_assoc, append-nil};
 
@@ -45,7 +45,7 @@ pub fn feed_events<S: Source, C: Tally>(
     ensures failures { S.from.failures source.new ≡ reading_failures result
         (S.from.failures source.old) }
     ensures over { OnOk result (IsOver lines.new) }
-    ensures stays { IfErr result (λ fault. fault ≢ Memory → HasFailed lines.new fault) }
+    ensures stays { IfErr result (HasFailed lines.new) }
 {
     give_items(lines, source, judges)
 }
