@@ -115,7 +115,7 @@ def origin_of(end, names, states, window):
         return ", and aborted" if t.status == "aborted" else "" if last_left(t, register) == value else ", then another value"
 
     may_count = [call for call in puts if not fate(call)]
-    if not may_count and any(state[register] == value for state in states):
+    if expected is not None and not may_count and any(state[register] == value for state in states):
         return f"a state has {value} in register {register}"
     if not puts:
         return f"no earlier event of this window puts {value} into register {register}"
