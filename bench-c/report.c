@@ -23,7 +23,7 @@ static void tell_lacks(FILE *file, const tmwatch_benched *benched, bool by_names
         {"overlap", counts->none_overlapped, "no two transactions overlapped: this run shows nothing"},
         {"stores", benched->stores == 0, "nothing was written: this run shows nothing"},
         {"commits", counts->committed == 0, "no transaction has committed: this run shows little"},
-        {"aborts", counts->unasked == 0, "no transaction was aborted unasked: if the memory validates or locks, few have met"},
+        {"aborts", counts->unasked == 0, "no transaction was aborted unasked: the memory locks, lacks a check, or few have met"},
         {"progress", benched->rejected > 0 || (counts->committed > 0 && counts->transactions / FEW_COMMITS > counts->committed),
          "nearly all transactions were rolled back: this run shows little"},
     };

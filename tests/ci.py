@@ -14,14 +14,15 @@ import xml.etree.ElementTree as tree
 
 STATUSES = [0, 1, 2, 3, 4, 124, 137, 139]
 LINES = {
-    "opaque": '{"events":9,"verdict":"opaque so far"}', "little": '{"events":9,"verdict":"opaque so far"} {"lacks":["overlap"]}',
+    "opaque": '{"events":9,"verdict":"opaque so far"}', "little": '{"events":9,"verdict":"opaque so far"} {"lacks":["overlap","aborts"]}',
+    "locked": '{"events":9,"verdict":"opaque so far"} {"lacks":["aborts"]}',
     "violated": '{"at":5,"events":9,"verdict":"violated"} {"from":7,"rounds":3} {"again":"--seed 1 --round 3","certain":true}',
     "undecided": '{"at":1,"events":1,"verdict":"undecided","why":"states"}', "malformed": '{"at":1,"events":1,"verdict":"malformed"}',
     "stuck": '{"fault":"stuck"} {"again":"--seed \\"<&>\\"","certain":false}', "nothing": "",
     "raced": '{"events":9,"verdict":"opaque so far"} {"race":"thread 0 loads plainly at x.c:1 (read)","rounds":9}',
 }  # fmt: skip
 RACE = "a race on plain data: see race"
-VERDICTS = {(0, "opaque"): None, (0, "little"): "nothing is wrong, but the run shows little: see lacks", (1, "violated"): "violated",
+VERDICTS = {(0, "opaque"): None, (0, "locked"): None, (0, "little"): "nothing is wrong, but the run shows little: see lacks", (1, "violated"): "violated",
             (0, "raced"): RACE, (1, "raced"): RACE, (2, "undecided"): "undecided", (3, "malformed"): "malformed: the record fits no run"}
 OUT, USAGE = "out & more", "usage: bench.sh OUT PROGRAM..\n"
 WORDS = ["--seed", "5", "--seconds", "3"]

@@ -37,7 +37,7 @@ LACKS = {
     "overlap": "no two transactions overlapped: this run shows nothing",
     "stores": "nothing was written: this run shows nothing",
     "commits": "no transaction has committed: this run shows little",
-    "aborts": "no transaction was aborted unasked: if the memory validates or locks, few have met",
+    "aborts": "no transaction was aborted unasked: the memory locks, lacks a check, or few have met",
     "progress": "nearly all transactions were rolled back: this run shows little",
 }
 MEETS, NOBODYS = object(), 12345
