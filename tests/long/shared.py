@@ -69,7 +69,8 @@ class File:
             if not it or " as " in it[2]:
                 self.kept.append(use)
                 continue
-            used = [name for name in it[2].split(", ") if name in words or words.issuperset(filter(None, name.split("◌")))]
+            bound = {">>="} if "←" in words else set()  # (a `do` block says it by an arrow)
+            used = [name for name in it[2].split(", ") if name in words or (words | bound).issuperset(filter(None, name.split("◌")))]
             self.names.update({name: passed_on(shared)[name] if it[1] == shared else it[1] for name in used})
 
     def written(self, shared, through):

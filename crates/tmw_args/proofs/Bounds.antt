@@ -1,8 +1,5 @@
 -- Bounds and settings are known by their numbers.
-use Rattle.tmw_args.proofs.Shared.{Count, None, Option, Some, ap, bounds_of, refl, settings_of, subst, unwrap_or, ℕ, ◌<◌, ◌^◌, ◌∙◌, ◌≡◌, ◌≤◌}
-use Rattle.tmw_monitor.specs.declared.bounds.Bounds.{Bounds}
-use Rattle.std.proofs.Math.Bridge.{le_prop}
-use Rattle.tmw_options.specs.declared.bench_settings.Settings.{Settings}
+use Rattle.tmw_args.proofs.Shared.{ap, Bounds, bounds_of, Count, le_prop, None, Option, refl, Settings, settings_of, Some, subst, unwrap_or, ℕ, ◌<◌, ◌>>=◌, ◌^◌, ◌∙◌, ◌≡◌, ◌≤◌}
 use Rattle.tmw_args.proofs.CountTexts.{number_of}
 
 bounds-are : (bounds : Bounds) (window : Count 1 8) (states : Count 1 64) → bounds.window ≡ window.number → bounds.states ≡ states.number

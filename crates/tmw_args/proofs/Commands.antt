@@ -1,8 +1,5 @@
 -- A program with one more command.
-use Rattle.tmw_args.proofs.Shared.{AddsSubcommand, App, Err, IfOk, IsOkAnd, Ok, Result, Shape, ap, app_of, ap₂, true, with_subcommand, ◌∙◌, ◌≡◌}
-use Rattle.std.specs.declared.alloc.AllocError.{AllocError}
-use Rattle.clap.specs.declared.builder.command.Command.{Command}
-use Rattle.clap.proofs.SimpleLemmas.{plain_fields}
+use Rattle.tmw_args.proofs.Shared.{AddsSubcommand, AllocError, ap, App, app_of, ap₂, Command, Err, IfOk, IsOkAnd, Ok, plain_fields, Result, Shape, true, with_subcommand, ◌∙◌, ◌≡◌}
 
 -- a command that is plain is added as it stands
 pub app_of-added : (program command given : Command) (before : App) (top : Shape) → app_of program ≡ before → (app_of command).top ≡ top

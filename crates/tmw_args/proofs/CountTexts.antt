@@ -1,6 +1,5 @@
 -- The number of an option is read from its text.
-use Rattle.tmw_args.proofs.Shared.{Accepts, Bool, Count, Found, None, Option, Some, Text, Unsigned, ap, count_in, counted, digits_value, false, made_if, one_text, one_text-rows, option_and_then, option_map, refl, rows_of, sym, true, without_leading_plus, ℕ, ◌∙◌, ◌≡◌}
-use Rattle.clap.proofs.ValueTestLemmas.{Accepts-accepts, accepts-Accepts}
+use Rattle.tmw_args.proofs.Shared.{Accepts, Accepts-accepts, accepts-Accepts, ap, Bool, Count, count_in, counted, digits_value, false, Found, made_if, None, one_text, one_text-rows, Option, option_and_then, option_map, refl, rows_of, Some, sym, Text, true, Unsigned, without_leading_plus, ℕ, ◌∙◌, ◌≡◌}
 
 abbrev pub number_of : {least most : ℕ} → Option (Count least most) → Option ℕ
 number_of = option_map (λ count. count.number)

@@ -1,9 +1,7 @@
 -- A flag is read from its text.
-use Rattle.tmw_args.proofs.Shared.{Bool, Found, None, Option, ParsesBool, Some, Text, [], ap, bool_text, codes, false, false_text, flag_in, one_text, one_text-rows, option_and_then, refl, rows_of, sym, true, true_text, ◌∙◌, ◌∷◌, ◌≡◌, ◌≢◌}
-use Rattle.std.specs.Str.{bytes_eq}
-use Rattle.std.proofs.lemmas.Slice.Eq.{bytes_eq-Decides}
-use Rattle.tmw_args.specs.CriteriaAndMemories.{named}
-use Rattle.clap.specs.Matches.{ReadsOne}
+use Rattle.tmw_args.proofs.Shared.{[], ap, Bool, bool_text, bytes_eq, bytes_eq-Decides, false, false_text, flag_in, Found, named, None, one_text-rows, Option, option_and_then, ParsesBool, ReadsOne, refl, rows_of, Some, sym, Text, true, true_text, ◌∙◌, ◌∷◌, ◌≡◌, ◌≢◌}
+use Rattle.std.specs.Prelude.{codes}
+use Rattle.clap.specs.Matches.{one_text}
 
 abbrev flag_named : Text → Option Bool
 flag_named = named bool_text (true ∷ false ∷ [])

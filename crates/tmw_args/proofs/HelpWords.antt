@@ -1,6 +1,6 @@
 -- The words with `help` moved behind them, as the code moves it.
-use Rattle.tmw_args.proofs.Shared.{Bor, List, Text, [], ap, codes, false, help_as_flag, names_help, refl, texts, true, ◌++◌, ◌∙◌, ◌∷◌, ◌≡◌}
-use Rattle.std.specs.List.{remove}
+use Rattle.tmw_args.proofs.Shared.{[], ap, Bor, codes, false, help_as_flag, List, names_help, refl, remove, texts, true, ◌++◌, ◌∙◌, ◌∷◌, ◌≡◌}
+use Rattle.clap.specs.Walk.{Text}
 
 texts-append : (xs ys : List (Bor Text)) → texts (xs ++ ys) ≡ texts xs ++ texts ys
 texts-append [] ys = refl

@@ -1,8 +1,5 @@
 -- A refusal is a reading of the words of which the parse failed.
-use Rattle.tmw_args.proofs.Shared.{App, ArgumentConflict, DisplayHelp, DisplayVersion, Err, FailsAs, IsAmong, IsRefusal, List, OutOfMemory, Reads, Text, inl, inr, kinds_of, subst, sym, ◌∙◌, ◌≡◌}
-use Rattle.clap.specs.declared.error.kind.ErrorKind.{ErrorKind}
-use Rattle.tmw_args.specs.declared.refusal.Refusal.TheVariants.{Help, Memory, Usage, Version}
-use Rattle.tmw_args.specs.declared.refusal.Refusal.{Refusal}
+use Rattle.tmw_args.proofs.Shared.{App, ArgumentConflict, DisplayHelp, DisplayVersion, Err, ErrorKind, FailsAs, Help, inl, inr, IsAmong, IsRefusal, kinds_of, List, Memory, OutOfMemory, Reads, Refusal, subst, sym, Text, Usage, Version, ◌∙◌, ◌≡◌}
 
 pub refused-reads : (program : App) (words : List Text) (kind : ErrorKind) (refusal : Refusal) → FailsAs program words kind
     → IsRefusal kind refusal → Reads program words (Err refusal)

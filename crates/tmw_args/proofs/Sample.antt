@@ -1,6 +1,5 @@
 -- A program whose names stand at the address 0: there is one.
-use Rattle.tmw_args.proofs.Shared.{App, Bor, Err, FailsAs, IfErr, IsErrAnd, IsProgram, List, Names, Ok, OutOfMemory, Result, Text, criteria_names, inl, kind_of, map, memory_names, program_among, refl, shown_names, ◌≡◌}
-use Rattle.clap.specs.declared.error.Error.{Error}
+use Rattle.tmw_args.proofs.Shared.{App, Bor, criteria_names, Err, Error, FailsAs, IfErr, inl, IsErrAnd, IsProgram, kind_of, List, map, memory_names, Names, Ok, OutOfMemory, program_among, refl, Result, shown_names, Text, ◌≡◌}
 
 abbrev lent : {X : Type 0} → X → Bor X
 lent value = record { ref_ptr = (0, 0); now = value }

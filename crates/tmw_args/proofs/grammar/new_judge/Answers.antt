@@ -1,5 +1,5 @@
 -- Each step adds its options to those that are there.
-use Rattle.tmw_args.proofs.Shared.{App, IfOk-weaker, Names, ap, codes, with_bounds, with_criterion, with_flag, ◌∙◌}
+use Rattle.tmw_args.proofs.Shared.{ap, App, codes, IfOk-weaker, Names, with_bounds, with_criterion, with_flag, ◌∙◌}
 use Rattle.tmw_args.proofs.grammar.new_judge.Goals as goal
 
 pub returns : goal.returns

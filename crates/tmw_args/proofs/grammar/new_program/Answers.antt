@@ -1,5 +1,5 @@
 -- Each command is added behind those that are there.
-use Rattle.tmw_args.proofs.Shared.{App, IfOk-weaker, ap, criteria_names, memory_names, refl, rules, shown_names, texts, ◌≡◌}
+use Rattle.tmw_args.proofs.Shared.{ap, App, criteria_names, IfOk-weaker, memory_names, refl, rules, shown_names, texts, ◌≡◌}
 use Rattle.tmw_args.proofs.Commands.{app_of-added, app_of-with_command}
 use Rattle.tmw_args.proofs.grammar.new_program.Goals as goal
 

@@ -1,5 +1,5 @@
 -- The builder says which part of the command it changes.
-use Rattle.tmw_args.proofs.Shared.{IfOk-weaker, ap₂, refl, with_rule, ◌∙◌}
+use Rattle.tmw_args.proofs.Shared.{ap₂, IfOk-weaker, refl, with_rule, ◌∙◌}
 use Rattle.tmw_args.proofs.grammar.with_criterion.Goals as goal
 
 pub returns : goal.returns

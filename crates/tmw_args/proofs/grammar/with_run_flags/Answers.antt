@@ -1,5 +1,5 @@
 -- Each step adds its flag to those that are there.
-use Rattle.tmw_args.proofs.Shared.{App, IfOk-weaker, ap, codes, with_flag, ◌∙◌}
+use Rattle.tmw_args.proofs.Shared.{ap, App, codes, IfOk-weaker, with_flag, ◌∙◌}
 use Rattle.tmw_args.proofs.grammar.with_run_flags.Goals as goal
 
 pub returns : goal.returns

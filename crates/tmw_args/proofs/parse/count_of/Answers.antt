@@ -1,8 +1,8 @@
 -- The number that was read is the option's, where it is in the range.
-use Rattle.tmw_args.proofs.Shared.{None, Some, arith, found_of, ◌∙◌, ◌≡◌}
+use Rattle.tmw_args.proofs.Shared.{arith, found_of, None, Some, ◌∙◌, ◌≡◌}
 use Rattle.tmw_args.proofs.CountTexts.{read-count, unread-count}
-use Rattle.tmw_args.proofs.parse.count_of.Goals.{then-number-least-via-then-number-least, then-number-least-via-else-number-least+then-number-most}
 use Rattle.tmw_args.proofs.parse.count_of.Goals as goal
+use Rattle.tmw_args.proofs.parse.count_of.Goals.{then-number-least-via-then-number-least, then-number-least-via-else-number-least+then-number-most}
 
 pub returns-in_err-number-clause-number : goal.returns-in_err-number-clause-number
 returns-in_err-number-clause-number c =

@@ -1,8 +1,8 @@
 -- `help` is taken out, and its flag put behind.
 use Rattle.tmw_args.proofs.Shared.{ap, help_as_flag, names_help, refl, subst, sym, texts, true, ◌∙◌, ◌≡◌}
 use Rattle.tmw_args.proofs.HelpWords.{help_as_flag-named, help_as_flag-other}
-use Rattle.tmw_args.proofs.parse.help_as_flag.Goals.{then-names_help+in_ok-push, else-names_help}
 use Rattle.tmw_args.proofs.parse.help_as_flag.Goals as goal
+use Rattle.tmw_args.proofs.parse.help_as_flag.Goals.{then-names_help+in_ok-push, else-names_help}
 
 pub returns : goal.returns
 returns g c =

@@ -1,5 +1,5 @@
 -- The program parses the words with `help` spelled as a flag. Without memory for the program any program refuses them.
-use Rattle.tmw_args.proofs.Shared.{IfOk-weaker, MatchResult-weaker, ap, app_of, map, texts, ◌∙◌}
+use Rattle.tmw_args.proofs.Shared.{ap, app_of, IfOk-weaker, map, MatchResult-weaker, texts, ◌∙◌}
 use Rattle.tmw_args.proofs.Sample.{without_memory}
 use Rattle.tmw_args.proofs.parse.parse.Goals as goal
 
