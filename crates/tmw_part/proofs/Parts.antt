@@ -1,5 +1,5 @@
 -- What is kept as a part of a window has no more transactions than the window.
-use Rattle.tmw_part.proofs.Shared.{Bool, Event, IsKept, IsTrue, List, Txn, [], and_parts, are_placed, arith, cases_Bool, inl, inr, is_among, is_unread, length, length-map, may_go_whole, owners, part_of, transactions, without_number, ℕ, ◌+◌, ◌∷◌, ◌≡◌, ◌≤◌}
+use Rattle.tmw_part.proofs.Shared.{Bool, Event, IsKept, IsTrue, List, Txn, [], and_parts, are_placed, arith, cases_Bool, inl, inr, is_among, is_unread, length, length-map, may_go_whole, owner_in, owners, part_of, places_of, transactions, without_number, ℕ, ◌+◌, ◌∷◌, ◌≡◌, ◌≤◌}
 
 length-without_number : (n : ℕ) (places : List ℕ) → IsTrue (is_among n places) → length places ≡ length (without_number n places) + 1
 length-without_number n [] among = absurd (cc)
@@ -22,4 +22,4 @@ placed-fewer unread n places (t ∷ ts) all =
 pub kept-fewer : (marks : List Bool) (window : List Event) → IsKept marks window → length (part_of marks window) ≤ length (transactions window)
 kept-fewer marks window k =
     let fewer = placed-fewer (is_unread (part_of marks window)) 0 (owners marks window) (transactions window) k.stay in
-    omega (arith, fewer, length-map (part_of marks window) _)
+    omega (arith, fewer, length-map (part_of marks window) (owner_in (places_of marks) (transactions window)))
