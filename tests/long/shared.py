@@ -71,7 +71,11 @@ class File:
                 continue
             bound = {">>="} if "←" in words else set()  # (a `do` block says it by an arrow)
             used = [name for name in it[2].split(", ") if name in words or (words | bound).issuperset(filter(None, name.split("◌")))]
-            self.names.update({name: passed_on(shared)[name] if it[1] == shared else it[1] for name in used})
+            for name in used:
+                module = passed_on(shared)[name] if it[1] == shared else it[1]
+                # (constructors of two types may share a name)
+                if self.names.setdefault(name, module) != module:
+                    self.kept.append(f"{self.how} {module}.{{{name}}}{self.end}")
 
     def written(self, shared, through):
         by = defaultdict(list, {shared: sorted(name for name, module in self.names.items() if through.get(name) == module)})

@@ -4,8 +4,8 @@ use Rattle.std.specs.Prelude.{Bool, List, None, Option, Some, [], codes, drop, f
 use Rattle.tmw_events.specs.declared.ix.Ix.{Ix}
 use Rattle.tmw_part.specs.Origins.{origin_of, stays}
 use Rattle.tmw_part.specs.declared.origin.Fate.{Fate}
-use Rattle.tmw_part.specs.declared.origin.Fate.TheVariants.{GivenUp, GivingUp, Unasked, Stays}
-use Rattle.tmw_part.specs.declared.reason_step.ReasonStep.TheVariants.{Overwritten, RealTime, From, TooLate, ReadFirst, ChangedFirst, Through}
+use Rattle.tmw_part.specs.declared.origin.Fate.TheVariants.{GivenUp, GivingUp, Unasked, Overwritten, Stays}
+use Rattle.tmw_part.specs.declared.reason_step.ReasonStep.TheVariants.{RealTime, From, TooLate, Overwritten, ReadFirst, ChangedFirst, Through}
 use Rattle.tmw_part.specs.declared.origin.Origin.{Origin}
 use Rattle.tmw_part.specs.declared.reason_case.Derivation.{Derivation}
 use Rattle.tmw_part.specs.declared.reason_case.ReasonCase.{ReasonCase}
