@@ -198,7 +198,7 @@ for token in "'a" '@a' '~a' '^a' '`a' '#<a>' ':' '#'; do
 done
 refused 'Jepsen, a thousand brackets' 'line 1: more than 1000 brackets are open' jepsen.py <<<"$(printf '[%.0s' $(seq 1002))"
 refused 'Jepsen, other bytes' 'line 2: expected UTF-8' jepsen.py <<<$'\n\xff'
-refused 'Jepsen, nothing' 'no transaction is known to have committed' jepsen.py </dev/null
+refused 'Jepsen, nothing' 'the input is empty' jepsen.py </dev/null
 refused 'Jepsen, the nemesis alone' 'no transaction is known to have committed' jepsen.py <<<'{:type :info, :process :nemesis, :f :start}'
 refused 'Jepsen, failed ones alone' 'no transaction is known to have committed' jepsen.py \
     <<<'{:type :invoke, :process 0, :value [[:w 7 1]]} {:type :fail, :process 0}'
@@ -336,8 +336,8 @@ at_once() {
     for n in $(seq "$1"); do echo "{\"begin\": $n, \"end\": 20, \"result\": \"ok\", \"calls\": [[\"w\", \"x\", $n]]}"; done
 }
 judged 'intervals, eight at once' "$(so_far 32)" intervals.py < <(at_once 8)
-refused 'intervals, nine at once' 'line 9: more than 8 transactions at once' intervals.py < <(at_once 9)
-refused 'intervals, nothing' 'no transaction is known to have committed' intervals.py <<<''
+refused 'intervals, nine at once' 'line 9: more than 8 transactions at once: whole.py decides such a history' intervals.py < <(at_once 9)
+refused 'intervals, nothing' 'the input is empty' intervals.py <<<''
 refused 'intervals, a name of a file without a folder' "[Errno 2] No such file or directory: '$folder/no/names'" intervals.py \
     --names "$folder/no/names" <<<"$lost_update"
 refused 'intervals, another option' 'unrecognized arguments: --name' intervals.py --names "$folder/names" --name <<<"$lost_update"
@@ -395,6 +395,8 @@ many_at_once() {
         }
     }'
 }
+refused 'whole, no form' 'the following arguments are required: form' whole.py <<<''
+refused 'whole, no configuration' 'argument --configurations: expected at least 1' whole.py --configurations 0 intervals <<<"$read_at_once"
 decided 'whole, many at once, in eight configurations' 0 "$(whole_so_far 60)" --configurations 8 intervals < <(many_at_once)
 decided 'whole, many at once, in more than seven configurations' 2 \
     '{"at":7,"criterion":"strict","proved":false,"transactions":60,"verdict":"undecided","why":"configurations"}' \

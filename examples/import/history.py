@@ -54,6 +54,8 @@ def run(main):
 def read_text():
     """Returns standard input."""
     text = sys.stdin.buffer.read()
+    if not text.strip():
+        raise Refused("the input is empty")
     try:
         return text.decode()
     except UnicodeDecodeError as why:
@@ -136,7 +138,7 @@ def lines_of(ts, registers, numbers):
             yield f"{thread_of[n]} C\n"
             continue
         if not free:
-            raise Refused(f"line {ts[n].line}: more than {MOST} transactions at once")
+            raise Refused(f"line {ts[n].line}: more than {MOST} transactions at once: whole.py decides such a history")
         thread = thread_of[n] = free.pop(0)
         for kind, key, value in ts[n].calls:
             register, number = registers[key], 0 if value is None else numbers[key][value]
@@ -164,7 +166,7 @@ def write_trace(read, head, words):
     """Writes the trace of the history on standard input, and the names in it: the main of an importer, which reads by `read`."""
     options = Options(head)
     options.add_argument("--names")
-    options.add_argument("keys", nargs="*")
+    options.add_argument("keys", nargs="*", default=[])
     options = options.parse_args(words)
     keys, ts = limited(read(read_text()), options.keys, MOST)
     trace, names = trace_of(counted(ts), keys)

@@ -26,7 +26,7 @@ from itertools import count
 
 import intervals
 import jepsen
-from history import Options, counted, limited, moments_of, read_text, run
+from history import Options, Refused, counted, limited, moments_of, read_text, run
 
 READERS = {"intervals": intervals.read, "jepsen": jepsen.read}
 MOST = 100_000
@@ -241,8 +241,10 @@ def main(words):
     options = Options(__doc__)
     options.add_argument("--configurations", type=int, default=MOST)
     options.add_argument("form", choices=READERS)
-    options.add_argument("keys", nargs="*")
+    options.add_argument("keys", nargs="*", default=[])
     options = options.parse_args(words)
+    if options.configurations < 1:
+        raise Refused("argument --configurations: expected at least 1")
     history = History(counted(limited(READERS[options.form](read_text()), options.keys)[1]))
     report = {"criterion": "strict", "proved": False, "transactions": len(history.ts), "verdict": "strict so far"}
     more, status = "", 0
