@@ -23,13 +23,13 @@ export GLIBC_TUNABLES=glibc.cpu.hwcaps=-AVX2,-AVX_Fast_Unaligned_Load,-ERMS,-AVX
 words=('' '--criterion strict' '--criterion both' '--first' '--summary')
 limits='
 serial    83.6 83.6 185.1 274.7 228.0
-calm      162.8 162.4 343.4 353.6 305.8
-wide      145.6 143.0 304.6 337.2 289.2
+calm      162.1 161.9 342.1 352.8 305.1
+wide      144.5 142.3 302.8 336.1 288.1
 long      80.9 80.9 165.8 284.6 224.7
-blind     302.4 302.5 639.5 464.8 444.7
+blind     291.0 291.0 616.6 453.3 433.3
 bench     90.0 90.0 193.4 287.3 233.8
-outcomes  526.6 492.0 1032.0 724.0 670.4
-doomed    - 132.7 - - -
+outcomes  525.8 492.0 1031.2 723.2 669.6
+doomed    - 132.5 - - -
 '
 
 mode=check
