@@ -3,6 +3,7 @@
 
 /* By how many seeds each plan is tried, and the smallest one; by how many rounds, as the find had; and how many tries go at once, and how long. */
 enum { SEEDS = 2, LAST_SEEDS = 12, LEAST_TRIED = 2000, MOST_TRIED = 12000, TIMES_TRIED = 3, AT_ONCE = 4, TRY_SECONDS = 5, TRIES_SECONDS = 30 };
+enum { SEARCHES = 3 };
 
 /* What is made smaller, in this order, and to what: the first number that still shows a violation. 0 attempts are as many as it takes. */
 static const struct smaller {
@@ -80,29 +81,28 @@ static void make_one_smaller(struct tries *all, const struct smaller *it)
     }
 }
 
-/* Finds a smaller plan than that which has shown a violation: whether there is one. */
+/* Finds a smaller plan than that which has shown a violation, by three searches until one repeats alone: whether there is one. */
 static bool make_smaller(const tmwatch_memory *memory, const tmwatch_benched *found, tmwatch_plan *given)
 {
     const size_t size = (LAST_SEEDS + AT_ONCE) * sizeof(struct tried);
-    struct tries all = {memory, microseconds_of(CLOCK_MONOTONIC) + (uint64_t)TRIES_SECONDS * SECOND, NULL, found->leg, found->again};
+    struct tries all = {.memory = memory, .until = microseconds_of(CLOCK_MONOTONIC) + (uint64_t)TRIES_SECONDS * SECOND};
     uint64_t rounds = TIMES_TRIED * found->rounds;
+    bool is_smaller = false, is_alone = false;
     all.tried = mmap(NULL, size, PROT_READ | PROT_WRITE, MAP_SHARED | MAP_ANONYMOUS, -1, 0);
-    if (all.tried == MAP_FAILED)
-        return false;
-    all.plan.round = all.plan.event = all.plan.look = 0;
-    all.plan.rounds = rounds < LEAST_TRIED ? LEAST_TRIED : rounds < MOST_TRIED ? rounds : MOST_TRIED;
-    memset(all.plan.start, 0, sizeof all.plan.start);
-    bool is_smaller = takes(&all, &all.plan, SEEDS);
-    for (unsigned i = 0; i < sizeof smaller / sizeof smaller[0] && is_smaller; i++)
-        make_one_smaller(&all, &smaller[i]);
-    if (is_smaller)
-        takes(&all, &all.plan, LAST_SEEDS);
-    all.plan = all.again;
-    all.plan.look = 1;
-    takes(&all, &all.plan, 1);
+    for (unsigned search = 0; search < SEARCHES && !is_alone && all.tried != MAP_FAILED; search++) {
+        all.plan = found->leg, all.again = found->again, all.plan.round = all.plan.event = all.plan.look = 0;
+        all.plan.rounds = rounds < LEAST_TRIED ? LEAST_TRIED : rounds < MOST_TRIED ? rounds : MOST_TRIED;
+        memset(all.plan.start, 0, sizeof all.plan.start);
+        is_smaller = takes(&all, &all.plan, SEEDS);
+        for (unsigned i = 0; i < sizeof smaller / sizeof smaller[0] && is_smaller; i++)
+            make_one_smaller(&all, &smaller[i]);
+        if (is_smaller)
+            takes(&all, &all.plan, LAST_SEEDS);
+        all.plan = all.again, all.plan.look = 1;
+        is_alone = takes(&all, &all.plan, 1);
+    }
     munmap(all.tried, size);
-    all.again.trace = given->trace;
-    all.again.listing = given->listing;
-    *given = all.again;
-    return is_smaller || all.again.look;
+    all.again.trace = given->trace, all.again.listing = given->listing;
+    *given = is_smaller || is_alone ? all.again : *given;
+    return is_smaller || is_alone;
 }
