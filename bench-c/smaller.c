@@ -3,7 +3,7 @@
 
 /* By how many seeds each plan is tried, and the smallest one; by how many rounds, as the find had; and how many tries go at once, and how long. */
 enum { SEEDS = 2, LAST_SEEDS = 12, LEAST_TRIED = 2000, MOST_TRIED = 12000, TIMES_TRIED = 3, AT_ONCE = 4, TRY_SECONDS = 5, TRIES_SECONDS = 30 };
-enum { SEARCHES = 3 };
+enum { SEARCHES = 3 }; /* until what was found repeats alone */
 
 /* What is made smaller, in this order, and to what: the first number that still shows a violation. 0 attempts are as many as it takes. */
 static const struct smaller {

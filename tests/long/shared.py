@@ -6,9 +6,9 @@ one of proofs, and one of definitions and contracts, which has nothing of the cr
 
 Run it at the top of the repository, then `rt fmt` and `rt check` in the crate's folder. It drops what a file names nowhere else, and
 takes a name from the same module in all files. A file keeps lines of its own for the crate's own lemmas and goals, for whole modules,
-for what it renames, and for modules that no other file cites. Definitions and contracts take operators, and what Prelude has, from
-there, as the gate asks. Of two things of one name the one that more files cite is shared. Where that saves no lines, nothing is written. A second run
-changes nothing, and Proof.antt stays as it is. Output: for each crate how many lines it saved. Exit status: 0.
+for what it renames, and for modules that no other file cites. Definitions and contracts take operators and Prelude's words from where
+they stand, as the gate asks. Of two things of one name the one that more files cite is shared. Where that saves no lines, nothing is
+written. A second run changes nothing, and Proof.antt stays as it is. Output: for each crate how many lines it saved. Exit status: 0.
 """
 import functools
 import re

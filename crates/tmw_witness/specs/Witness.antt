@@ -28,7 +28,7 @@ state_of w r = slice_index_or w.states r []
 abbrev pub ComesAbove : Witness → ℕ → ℕ → Type 0
 ComesAbove w before rank = (j : ℕ) → j < 8 → bit_at before j ≡ 1 → rank_of w j + bit (committed_of w j) ≤ rank
 
--- The transaction may be left out at this rank: its reads hold there, and those that precede it stand below.
+-- The transaction may be left out at this rank: its reads hold there, and it stands no lower than those that precede it allow.
 abbrev pub FitsAt : Witness → Txn → ℕ → Type 0
 FitsAt w t rank = (rank ≤ w.top) × (rank < 9) × IsTrue (reads_hold (state_of w rank) t.ops.items) × ComesAbove w t.before rank
 
