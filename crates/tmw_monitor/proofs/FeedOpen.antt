@@ -1,6 +1,7 @@
 -- A monitor whose verdict is that nothing is wrong, with what the next event makes of what it keeps.
-use Rattle.tmw_monitor.proofs.Shared.{BrokenRule, Event, Fits, HistoryDigest, Keeps, KeepsNothing, List, Monitor, None, Option, Rules, Some, TellsFollowed, TellsWrong, Verdict, [], ap, arith, so_far, sym, ◌++◌, ◌+◌, ◌∙◌, ◌∷◌, ◌≡◌}
+use Rattle.tmw_monitor.proofs.Shared.{BrokenRule, Event, Fits, Follows, HistoryDigest, Keeps, KeepsNothing, List, Monitor, None, Option, Rules, Some, TellsFollowed, TellsWrong, Verdict, [], ap, arith, so_far, sym, ◌++◌, ◌+◌, ◌∙◌, ◌∷◌, ◌≡◌}
 use Rattle.tmw_monitor.proofs.Final.{verdict-stays}
+use Rattle.tmw_monitor.specs.Fits.{Concludes}
 use Rattle.tmw_defs.proofs.WindowsProof as windows
 
 -- nothing is wrong with the event either
@@ -67,3 +68,12 @@ fits-final rules h e old kept broken fits final ended breaks = record {
   forgets = λ _. ended;
   breaks = λ _. breaks;
 }
+
+-- what the next event makes of it, as it is concluded
+pub concluded : (rules : Rules) (h : List Event) (e : Event) (old new : Monitor) (kept : HistoryDigest) (wrong : Option Verdict) → Fits rules h old
+    → old.verdict ≡ so_far old.criterion → TellsWrong rules (h ++ e ∷ []) kept wrong → Follows rules.registers (h ++ e ∷ []) kept.window
+    → Concludes wrong (record old { count = old.count + 1; kept = kept }) new → Fits rules (h ++ e ∷ []) new
+concluded rules h e old new kept None fits fine told follows is = rw is (fits-next rules h e old kept fits fine told)
+concluded rules h e old new kept (Some verdict) fits fine told follows ends =
+    rw ends.is (fits-wrong rules h e old verdict kept ends.left old.broken fits told ends.nothing
+    (rw (fits.whole fine) (ends.follows rules.registers (h ++ e ∷ []) follows)))

@@ -1,4 +1,6 @@
 mod AtOnce
+mod BothKeep
+mod BothOpen
 mod FeedOpen
 pub mod Final
 mod FirstBroken

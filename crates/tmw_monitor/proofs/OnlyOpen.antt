@@ -4,7 +4,7 @@ use Rattle.tmw_monitor.specs.HoldsOpen.{AreLastOutcomes, HoldsOpen, KeepsOnlyOpe
 use Rattle.tmw_monitor.proofs.StateCount.{more_than-rising}
 
 -- a history in which nothing is wrong has no more outcomes at its last cut than the bound
-few_outcomes : (rules : Rules) (history : List Event) (kept : HistoryDigest) → Keeps rules history kept → length (members kept.states) ≤ rules.states
+pub few_outcomes : (rules : Rules) (history : List Event) (kept : HistoryDigest) → Keeps rules history kept → length (members kept.states) ≤ rules.states
 few_outcomes rules history kept keeps =
     let sums = keeps.sums_up in
     elim (cases_lt rules.states (length (members kept.states))) [

@@ -1,5 +1,5 @@
 -- Which history a monitor stands for: the relation by which its calls are described.
-use Rattle.tmw_monitor.specs.Shared.{Contains, Criterion, Event, IsVerdict, Opacity, Rules, StandsFor, State, SumsUp, Verdict, Witnesses, members, so_far, views, views_of}
+use Rattle.tmw_monitor.specs.Shared.{Contains, Criterion, Event, Follows, IsVerdict, Opacity, Rules, StandsFor, State, SumsUp, Verdict, Witnesses, members, so_far, views, views_of}
 use Rattle.std.specs.Prelude.{List, None, Option, Some, [], drop, false, length, ℕ, ◌++◌, ◌∷◌, ◌≡◌}
 use Rattle.tmw_events.specs.declared.registers.Registers.{Registers}
 use Rattle.tmw_monitor.specs.declared.bounds.Bounds.{Bounds}
@@ -58,3 +58,14 @@ pub record Fits (rules : Rules) (history : List Event) (monitor : Monitor) : Typ
 -- What fitted it before fits it with this event more.
 abbrev pub FeedsOne : Event → Monitor → Monitor → Type 0
 FeedsOne event old new = (rules : Rules) (history : List Event) → Fits rules history old → Fits rules (history ++ event ∷ []) new
+
+-- Where something is wrong, this is the verdict, and nothing is kept but where the threads are.
+pub record Ends (verdict : Verdict) (old new : Monitor) : Type 0 where
+  pub left : HistoryDigest
+  pub nothing : KeepsNothing left
+  pub follows : (registers : ℕ) (history : List Event) → Follows registers history (kept_of old).window → Follows registers history left.window
+  pub is : new ≡ record old { verdict = verdict; kept = left }
+
+abbrev pub Concludes : Option Verdict → Monitor → Monitor → Type 0
+Concludes None old new = new ≡ old
+Concludes (Some verdict) old new = Ends verdict old new

@@ -1,4 +1,5 @@
 pub mod BadBounds
+pub mod BothMonitor
 pub mod BrokenRule
 pub mod Fits
 pub mod HoldsOpen

@@ -10,7 +10,7 @@ pub use Rattle.tmw_defs.specs.LastCut.{IsLastCut, SumsUp}
 pub use Rattle.tmw_defs.specs.Opaque.{State, zeros}
 pub use Rattle.tmw_defs.specs.Verdict.{IsVerdict, Rules}
 pub use Rattle.tmw_defs.specs.declared.criterion.Criterion.{Criterion}
-pub use Rattle.tmw_defs.specs.declared.criterion.Criterion.TheVariants.{Opacity}
+pub use Rattle.tmw_defs.specs.declared.criterion.Criterion.TheVariants.{Opacity, Strict}
 pub use Rattle.tmw_defs.specs.declared.verdict.Verdict.{Verdict}
 pub use Rattle.tmw_events.specs.declared.event.Event.{Event}
 pub use Rattle.tmw_witness.specs.Witness.{Witnesses}

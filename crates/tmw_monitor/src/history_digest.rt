@@ -1,9 +1,19 @@
-ghost use Rattle.tmw_monitor.specs.Shared.{HasRoom};
-ghost use Rattle.std.specs.Prelude.{List, ℕ};
+ghost use Rattle.tmw_monitor.specs.Shared.{HasRoom, members};
+ghost use Rattle.std.specs.Prelude.{List, length, ℕ, ◌≡◌, ◌≤◌};
 
 use tmw_cuts::{States, Window};
 use tmw_search::EndSet;
 use tmw_witness::Witness;
+
+fn copy_states(to: &mut States, from: &States)
+    ensures members { length (members from.now) ≤ 65 → members to.new ≡ members from.now }
+    ensures room { HasRoom to.old → HasRoom to.new }
+{
+    to.clear();
+    for state in from.states() {
+        let _room = to.insert(*state);
+    }
+}
 
 /// What is kept of a history in which nothing is wrong: no event.
 #[derive(Debug, Drop)]
@@ -22,7 +32,17 @@ pub struct HistoryDigest {
 impl HistoryDigest {
     ghost use Rattle.tmw_events.specs.declared.event.Event.{Event};
     ghost use Rattle.tmw_cuts.specs.StandsFor.{Follows};
+    ghost use Rattle.tmw_monitor.specs.BothMonitor.{IsCopy};
     ghost use Rattle.tmw_monitor.specs.Fits.{KeepsNothing};
+
+    /// Becomes a copy of the other, which has no more states than there is room for.
+    pub fn copy_from(&mut self, other: &HistoryDigest)
+        ensures { IsCopy other.now self.new }
+    {
+        copy_states(&mut self.states, &other.states);
+        self.window = other.window.copy();
+        self.witness = other.witness;
+    }
 
     /// Forgets the history. Where the threads are stays.
     #[cold]

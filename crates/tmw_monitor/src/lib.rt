@@ -1,6 +1,7 @@
 //! The verdict on a history as its events come, with no event kept.
 #![tactic(auto)]
 
+mod both_monitor;
 mod bounds;
 mod broken_rule;
 mod history_digest;
@@ -14,6 +15,7 @@ mod search_or_close;
 mod take;
 mod take_at_once;
 
+pub use both_monitor::BothMonitor;
 pub use bounds::{BadBounds, Bounds};
 pub use broken_rule::BrokenRule;
 pub use judge_whole::{judge, judge_for, judge_from};

@@ -20,17 +20,17 @@ use tmw_witness::Witness;
 #[derive(Debug, Drop)]
 pub struct Monitor {
     criterion: Criterion,
-    bounds: Bounds,
-    count: u64,
-    verdict: Verdict,
-    kept: HistoryDigest,
+    pub(crate) bounds: Bounds,
+    pub(crate) count: u64,
+    pub(crate) verdict: Verdict,
+    pub(crate) kept: HistoryDigest,
     /// The first event that fits no run. Until one comes, the window follows each event, after a final verdict too.
     broken: Option<BrokenRule>,
 }
 
 impl Monitor {
     ghost use Rattle.tmw_monitor.specs.BrokenRule.{TellsBroken};
-    ghost use Rattle.tmw_monitor.specs.Fits.{FeedsOne, Fits, rules_for, rules_of};
+    ghost use Rattle.tmw_monitor.specs.Fits.{Concludes, FeedsOne, Fits, rules_for, rules_of};
     ghost use Rattle.tmw_monitor.specs.HoldsOpen.{AreLastOutcomes, HoldsWith, KeepsOnlyOpen};
     ghost use Rattle.tmw_monitor.specs.Monitor.{IsOpen, criterion_of, fed_of, verdict_of};
 
@@ -168,6 +168,16 @@ impl Monitor {
         );
         if let Some(verdict) = wrong {
             // After a final verdict no event needs what was kept.
+            self.kept.forget();
+            self.verdict = verdict;
+        }
+    }
+
+    /// If something is wrong, this is the verdict for good, and no event needs what was kept.
+    pub(crate) fn conclude(&mut self, wrong: Option<Verdict>)
+        ensures { Concludes wrong self.old self.new }
+    {
+        if let Some(verdict) = wrong {
             self.kept.forget();
             self.verdict = verdict;
         }

@@ -17,6 +17,7 @@ pub fn search(criterion: Criterion, kept: &mut HistoryDigest) -> OutcomeCheck
         → Witnesses (members kept.old.states) (views_of events) kept.old.witness
         → Tells criterion kept.old.states cap quiet events kept.new result }
     ensures registers { kept.new.window.registers ≡ kept.old.window.registers }
+    ensures states { members kept.new.states ≡ members kept.old.states }
 {
     if kept.witness.is_known() {
         return OutcomeCheck::Outcome;

@@ -1,4 +1,4 @@
-ghost use Rattle.tmw_monitor.specs.Shared.{Criterion, End, Event, IsNext, StandsFor, begun_by, count_of, is_cut, is_quiet_by, transactions};
+ghost use Rattle.tmw_monitor.specs.Shared.{Criterion, End, Event, IsNext, StandsFor, begun_by, count_of, is_cut, is_quiet_by, members, transactions};
 ghost use Rattle.std.specs.Prelude.{IsFalse, IsTrue, List, [], ℕ, ◌++◌, ◌+◌, ◌∷◌, ◌≡◌, ◌≤◌};
 ghost use Rattle.tmw_monitor.specs.OutcomeCheck.{WeighsNext};
 
@@ -37,7 +37,7 @@ pub fn take_event(
 
 /// Takes an event at no cut.
 #[inline(always)]
-fn take_open(
+pub fn take_open(
     criterion: Criterion,
     kept: &mut HistoryDigest,
     event: Event,
@@ -50,6 +50,7 @@ fn take_open(
         (λ events. is_quiet_by criterion (transactions events) event.thread.number event.kind)
         kept.old kept.new result }
     ensures registers { kept.new.window.registers ≡ kept.old.window.registers }
+    ensures states { members kept.new.states ≡ members kept.old.states }
 {
     let quiet = is_quiet(criterion, event.kind);
     kept.window.take(event, step);

@@ -1,0 +1,14 @@
+-- Equal lists of states are those of equal sets.
+use Rattle.std.proofs.lemmas.Bool.Decides.{Decides-eqb}
+use Rattle.std.proofs.lemmas.Slice.Eq.{slice_eq-Decides}
+use Rattle.tmw_monitor.proofs.Shared.{refl, sym, ◌∙◌}
+use Rattle.tmw_monitor.proofs.both_monitor.BothMonitor.agree.Goals as goal
+
+pub returns : goal.returns
+returns c same = record {
+  opacity = c.is_open.ensures.0 c.if-not-is_open.false;
+  strict = c.is_open-else-not-is_open.ensures.0 c.if-not-is_open-2.false;
+  outcomes = sym c.states.ensures.members
+      ∙ (slice_eq-Decides (λ s t. slice_eq-Decides Decides-eqb s t _ refl) c.states.result.now c.states-2.result.now c.eq.result c.eq.ensures).0 same
+      ∙ c.states-2.ensures.members;
+}

@@ -1,0 +1,8 @@
+-- Both stand for no event.
+use Rattle.tmw_monitor.proofs.Shared.{[]}
+use Rattle.tmw_monitor.specs.Fits.{rules_of}
+use Rattle.tmw_monitor.proofs.both_monitor.BothMonitor.new.Goals as goal
+
+pub returns : goal.returns
+returns c = c.join.ensures (rules_of c.args.registers c.args.start c.args.bounds) []
+    (record { opacity = c.in_ok-opacity.ensures.fits; strict = c.in_ok-strict.ensures.fits })
