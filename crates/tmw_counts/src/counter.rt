@@ -7,7 +7,7 @@ ghost use Rattle.tmw_wellformed.specs.Faults.{Refuses};
 use crate::summary::Summary;
 use crate::threads::Threads;
 use tmw_defs::Counts;
-use tmw_events::{Event, Registers};
+use tmw_events::{Event, Ix, Registers};
 use tmw_wellformed::{End, Malformed, Note, Tracker};
 
 /// Counts what a history has shown, event by event, and refuses each event that would make it ill-formed. It holds no event.
@@ -47,6 +47,7 @@ impl Counter {
 
     /// Counts the next event where the history stays well-formed with it. A refusal changes nothing, and names the first of the
     /// faults that the event has. A history of 2^64 - 1 events or more is not counted right.
+    #[inline(always)]
     pub fn take(&mut self, event: Event) -> Result<(), Malformed>
         ensures takes { IfOk result (λ _. (registers : ℕ) (history : List Event)
             → length history < 2 ^ 64 - 1 → CountsSo registers history self.old
@@ -58,9 +59,12 @@ impl Counter {
         let others = self.tracker.live() > 0;
         let asked = self.tracker.asks_abort(event.thread);
         let note = self.tracker.step(event)?;
-        let live = self.tracker.live();
-        self.threads = self.threads.with(event.thread);
-        self.count(note, others, asked, live);
+        // Most events are in the midst of a transaction, and change no count.
+        if note.begins {
+            self.count_begin(event.thread, others);
+        } else if let Some(end) = note.ends {
+            self.count_end(end, asked);
+        }
         Ok(())
     }
 
@@ -77,6 +81,7 @@ impl Counter {
 
     /// Counts an event that the tracker has taken, after which so many transactions are live. Before it, other transactions were live
     /// or not, and its thread's pending call was an abort request or not.
+    #[inline(always)]
     fn count(&mut self, note: Note, others: bool, asked: bool, live: u8)
         ensures { IsStep note others asked live self.old self.new }
     {
@@ -92,7 +97,21 @@ impl Counter {
         self.counts = counts;
     }
 
+    #[inline(never)]
+    fn count_begin(&mut self, thread: Ix, others: bool) {
+        self.threads = self.threads.with(thread);
+        let live = self.tracker.live();
+        self.count(Note { begins: true, ends: None }, others, false, live);
+    }
+
+    #[inline(never)]
+    fn count_end(&mut self, end: End, asked: bool) {
+        let live = self.tracker.live();
+        self.count(Note { begins: false, ends: Some(end) }, false, asked, live);
+    }
+
     /// Returns the counts with that event.
+    #[inline(always)]
     fn counted(&self, note: Note, others: bool, asked: bool, live: u8) -> Counts
         ensures { AreCounted note others asked live self.now result }
     {
@@ -115,6 +134,7 @@ impl Counter {
 
     /// How many transactions overlap another from this event on: the one that it begins where others are live, and then the one
     /// that overlapped none.
+    #[inline(always)]
     fn met(&self, begins: bool, others: bool) -> u64
         ensures { result ≡ meets begins others self.now.apart }
     {
@@ -126,6 +146,7 @@ impl Counter {
     }
 }
 
+#[inline(always)]
 const fn commits(ends: Option<End>) -> bool
     ensures { result ≡ commits ends }
 {
@@ -135,6 +156,7 @@ const fn commits(ends: Option<End>) -> bool
     }
 }
 
+#[inline(always)]
 const fn aborts(ends: Option<End>) -> bool
     ensures { result ≡ aborts ends }
 {

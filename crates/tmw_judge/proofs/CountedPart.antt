@@ -1,5 +1,7 @@
 -- The part of a history that is counted, with one event more.
+use Rattle.std.proofs.Common.{◌==◌}
 use Rattle.tmw_judge.proofs.Shared.{AreFed, AreJudged, AreReports, Asked, Bool, Both, Bounds, ByCriterion, CountsFor, Event, Header, IsFalse, IsTrue, Judges, List, Monitor, Opacity, Report, Strict, [], any_open, ap, arith, as_formed, as_formed-le, cases_Bool, counted_of, counted_part, false, inl, inr, is_open, length, length-push, step, subst, sym, take, take-push, take_all-push, take_whole, told_verdicts, trace_rules, true, verdict_of, verdicts_of, ℕ, ◌++◌, ◌+◌, ◌||◌, ◌∙◌, ◌∷◌, ◌≡◌, ◌≤◌}
+use Rattle.std.proofs.lemmas.Bool.{eq-eqb, eqb-true}
 use Rattle.tmw_defs.proofs.QuietProof.{or_none}
 use Rattle.tmw_defs.specs.History.{is_well_formed}
 use Rattle.tmw_defs.proofs.VerdictProof.{verdict-one}
@@ -86,6 +88,31 @@ module _ (header : Header) (bounds : Bounds) (asked : Asked) (h : List Event) (e
       ap (λ k. counted_of k (verdicts_of new)) (length-push h e) ∙ s.same is in
       ap (λ k. take k (h ++ e ∷ [])) n ∙ take-push (counted_of (length h) (verdicts_of old)) h e s.within
 
+  -- whether the counted part ends with the event
+  abbrev pub covers : ByCriterion Monitor → Bool
+  covers new = counted_of (length (h ++ e ∷ [])) (verdicts_of new) == length (h ++ e ∷ [])
+
+  -- it does where some verdict was open and the event keeps the history well-formed
+  pub covers-formed : (old new : ByCriterion Monitor) → Steps old new → any_open (verdicts_of old) ≡ true → formed ≡ true → covers new ≡ true
+  covers-formed old new s is well =
+      eq-eqb _ _ (ap (λ k. counted_of k (verdicts_of new)) (length-push h e) ∙ s.next is ∙ ap (λ b. as_formed b (length h)) well ∙ sym (length-push h e))
+
+  covers-less : (new : ByCriterion Monitor) (n : ℕ) → counted_of (length h + 1) (verdicts_of new) ≡ n → n ≤ length h → covers new ≡ false
+  covers-less new n is low =
+      elim (cases_Bool (covers new)) [
+        | inl all ↦
+            let same = eqb-true _ _ all in
+            let long = length-push h e in
+            let part = ap (λ k. counted_of k (verdicts_of new)) long in absurd (omega (arith, same, long, part, is, low))
+        | inr fails ↦ fails
+      ]
+
+  pub covers-ill : (old new : ByCriterion Monitor) → Steps old new → any_open (verdicts_of old) ≡ true → formed ≡ false → covers new ≡ false
+  covers-ill old new s is ill = covers-less new (length h) (s.next is ∙ ap (λ b. as_formed b (length h)) ill) (omega arith)
+
+  pub covers-shut : (old new : ByCriterion Monitor) → Steps old new → any_open (verdicts_of old) ≡ false → covers new ≡ false
+  covers-shut old new s is = covers-less new (counted_of (length h) (verdicts_of old)) (s.same is) s.within
+
 abbrev none : List Event
 none = []
 
@@ -99,33 +126,36 @@ pub judged-nothing : {C : Type 0} (Counts : CountsFor C) (header : Header) (boun
 judged-nothing Counts header bounds asked monitors counting fed counts =
     grind (arith, take_nil, counted_of, verdicts_of)
 
--- one event more is judged, and counted where some verdict was open
+-- one event more is judged, and counted if the counted part ends with it
 pub judged-more : {C : Type 0} (Counts : CountsFor C) (header : Header) (bounds : Bounds) (asked : Asked) (h : List Event) (e : Event)
     (old new : Judges C) → AreJudged Counts header bounds asked h old → AreFed header bounds asked (h ++ e ∷ []) new.monitors
-    → (any_open (verdicts_of old.monitors) ≡ true → IsTrue (is_well_formed header.registers.number (h ++ e ∷ []))
+    → (covers header bounds asked h e new.monitors ≡ true → IsTrue (is_well_formed header.registers.number (h ++ e ∷ []))
     → Counts header.registers.number h old.counting → Counts header.registers.number (h ++ e ∷ []) new.counting)
-    → (any_open (verdicts_of old.monitors) ≡ true → IsFalse (is_well_formed header.registers.number (h ++ e ∷ []))
-    → Counts header.registers.number h old.counting → Counts header.registers.number h new.counting)
-    → (any_open (verdicts_of old.monitors) ≡ false → new.counting ≡ old.counting)
+    → (covers header bounds asked h e new.monitors ≡ false → new.counting ≡ old.counting)
     → AreJudged Counts header bounds asked (h ++ e ∷ []) new
-judged-more {C = C} Counts header bounds asked h e old new was fed formed ill same =
+judged-more {C = C} Counts header bounds asked h e old new was fed more same =
     let s = steps header bounds asked h e old.monitors new.monitors was.fed fed in
+    let kept : covers header bounds asked h e new.monitors ≡ false → (xs : List Event) → counted_part (verdicts_of old.monitors) h ≡ xs
+        → Counts header.registers.number xs new.counting =
+    λ is xs part. subst (λ (c : C). Counts header.registers.number xs c) (sym (same is))
+    (subst (λ (ys : List Event). Counts header.registers.number ys old.counting) part was.counted) in
     record {
       fed = fed;
       counted = elim (cases_Bool (any_open (verdicts_of old.monitors))) [
         | inl is ↦
-            let before : Counts header.registers.number h old.counting =
-            subst (λ (xs : List Event). Counts header.registers.number xs old.counting) (part-before header bounds asked h e old.monitors new.monitors s is) was.counted in
+            let before = part-before header bounds asked h e old.monitors new.monitors s is in
             elim (cases_Bool (is_well_formed header.registers.number (h ++ e ∷ []))) [
               | inl well ↦ subst (λ (xs : List Event). Counts header.registers.number xs new.counting)
-                  (sym (part-formed header bounds asked h e old.monitors new.monitors s is well)) (formed is well before)
+                  (sym (part-formed header bounds asked h e old.monitors new.monitors s is well))
+                  (more (covers-formed header bounds asked h e old.monitors new.monitors s is well) well
+                  (subst (λ (xs : List Event). Counts header.registers.number xs old.counting) before was.counted))
               | inr broken ↦ subst (λ (xs : List Event). Counts header.registers.number xs new.counting)
-                  (sym (part-ill header bounds asked h e old.monitors new.monitors s is broken)) (ill is broken before)
+                  (sym (part-ill header bounds asked h e old.monitors new.monitors s is broken))
+                  (kept (covers-ill header bounds asked h e old.monitors new.monitors s is broken) h before)
             ]
         | inr is ↦
-            subst (λ (xs : List Event). Counts header.registers.number xs new.counting)
+            kept (covers-shut header bounds asked h e old.monitors new.monitors s is) _
             (sym (part-same header bounds asked h e old.monitors new.monitors s is))
-            (subst (λ (c : C). Counts header.registers.number (counted_part (verdicts_of old.monitors) h) c) (sym (same is)) was.counted)
       ];
     }
 

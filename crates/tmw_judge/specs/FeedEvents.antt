@@ -27,11 +27,11 @@ pub record AreFedSoMany {C : Type 0} (Counts : CountsFor C) (judges : Judges C) 
   pub fed : AreJudged Counts header bounds asked history judges
   pub counted : length history ≡ count
 
--- They have been fed the events that they took, and are refused memory for none.
+-- They have been fed the events that they took, and stop at none.
 abbrev pub judges_taking : {C : Type 0} → CountsFor C → Taking (Judges C) Event
 judges_taking Counts = record {
   takes = TakeEvents Counts;
-  lacks = λ _ _ _. ⊥;
+  stops = λ _ _ _. ⊥;
   counts = AreFedSoMany Counts;
 }
 

@@ -6,3 +6,4 @@ pub mod Judge
 pub mod Lacks
 mod Shared
 pub mod Tally
+pub mod UntilFinal

@@ -4,23 +4,21 @@ ghost use Rattle.tmw_judge.specs.FeedEvents.{AreFedAllRead, FeedsEvents, judges_
 ghost use Rattle.std.proofs.Common.{append_assoc, append-nil};
 
 use crate::judges::Judges;
-use crate::monitors::any_open;
+use crate::monitors::covers_last;
 use crate::tally::Tally;
-use std::alloc::AllocError;
 use tmw_events::Event;
-use tmw_lines::{Taker, TextFault, give_items};
+use tmw_lines::{Reached, Stop, Taker, TextFault, give_items};
 use tmw_streams::Source;
 use tmw_trace::TraceLines;
 
-/// Judges take events by being fed them. Each event is counted while some verdict says that nothing is wrong.
+/// Judges take events by being fed them, and never stop. Each event is counted while some verdict says that nothing is wrong.
 impl<C: Tally> Taker<Event> for Judges<C> {
     ghost taking = { judges_taking C.counts };
 
     #[inline(always)]
-    fn take(&mut self, event: Event) -> Result<(), AllocError> {
-        let open = any_open(&self.monitors);
+    fn take(&mut self, event: Event) -> Result<(), Stop> {
         C::feed(&mut self.monitors, event);
-        if open {
+        if covers_last(&self.monitors) {
             self.counting.take(event);
         }
         Ok(())
@@ -38,7 +36,7 @@ pub fn feed_events<S: Source, C: Tally>(
     lines: &mut TraceLines,
     source: &mut S,
     judges: &mut Judges<C>,
-) -> Result<(), TextFault>
+) -> Result<Reached, TextFault>
     requires { AreFedAllRead C.counts lines.old judges.old }
     ensures feeds { FeedsEvents S.from C.counts (S.from.ended source.new) source.old source.new
         lines.old lines.new judges.old judges.new result }

@@ -3,10 +3,10 @@ ghost use Rattle.std.specs.Prelude.{◌≡◌};
 ghost use Rattle.tmw_judge.specs.FeedEvents.{AreFedAllRead};
 ghost use Rattle.tmw_judge.specs.FeedFirst.{FeedsFirst};
 
-use crate::judges::Judges;
 use crate::monitors::any_open;
 use crate::tally::Tally;
-use tmw_lines::{Taker, TextFault};
+use crate::until_final::UntilFinal;
+use tmw_lines::{Reached, TextFault, give_items};
 use tmw_streams::Source;
 use tmw_trace::TraceLines;
 
@@ -15,24 +15,17 @@ use tmw_trace::TraceLines;
 pub fn feed_first<S: Source, C: Tally>(
     lines: &mut TraceLines,
     source: &mut S,
-    judges: &mut Judges<C>,
-) -> Result<(), TextFault>
-    requires { AreFedAllRead C.counts lines.old judges.old }
+    first: &mut UntilFinal<C>,
+) -> Result<Reached, TextFault>
+    requires { AreFedAllRead C.counts lines.old first.old.judges }
     ensures feeds { FeedsFirst S.from C.counts (S.from.ended source.new) source.old source.new
-        lines.old lines.new judges.old judges.new result }
+        lines.old lines.new first.old.judges first.new.judges result }
     ensures failures { S.from.failures source.new ≡ reading_failures result
         (S.from.failures source.old) }
 {
-    while any_open(&judges.monitors) {
-        match lines.next(source) {
-            Ok(Some(event)) => {
-                let Ok(()) = judges.take(event) else {
-                    unreachable!();
-                };
-            }
-            Ok(None) => return Ok(()),
-            Err(fault) => return Err(fault),
-        }
+    if any_open(&first.judges.monitors) {
+        give_items(lines, source, first)
+    } else {
+        Ok(Reached::Stop)
     }
-    Ok(())
 }

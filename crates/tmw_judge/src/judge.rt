@@ -10,10 +10,11 @@ use crate::judge_result::JudgeResult;
 use crate::judges::Judges;
 use crate::monitors::{broken_of, monitors_for, reports_of};
 use crate::tally::{NoTally, StrictNoTally, Tally};
+use crate::until_final::UntilFinal;
 use std::alloc::Global;
 use tmw_counts::Counter;
 use tmw_defs::Asked;
-use tmw_lines::TextFault;
+use tmw_lines::{Reached, TextFault};
 use tmw_monitor::Bounds;
 use tmw_options::JudgeOptions;
 use tmw_report::{Fault, quote_fault};
@@ -83,12 +84,12 @@ fn feed_judges<S: Source, E: Sink, C: Tally>(
         (S.from.failures source.old) }
 {
     let mut lines = TraceLines::new();
-    let mut judges = match begin(alloc, &mut lines, source, options.bounds, options.asked) {
-        Ok(judges) => judges,
+    let mut first = match begin(alloc, &mut lines, source, options.bounds, options.asked) {
+        Ok(judges) => UntilFinal { judges },
         Err(fault) => return Err(quote_fault(errors, &lines, fault)),
     };
-    match feed_for(&mut lines, source, &mut judges, options.first) {
-        Ok(()) => Ok(judges),
+    match feed_for(&mut lines, source, &mut first, options.first) {
+        Ok(_) => Ok(first.judges),
         Err(fault) => Err(quote_fault(errors, &lines, fault)),
     }
 }
@@ -97,19 +98,19 @@ fn feed_judges<S: Source, E: Sink, C: Tally>(
 fn feed_for<S: Source, C: Tally>(
     lines: &mut TraceLines,
     source: &mut S,
-    judges: &mut Judges<C>,
+    judges: &mut UntilFinal<C>,
     first: bool,
-) -> Result<(), TextFault>
-    requires { AreFedAllRead C.counts lines.old judges.old }
+) -> Result<Reached, TextFault>
+    requires { AreFedAllRead C.counts lines.old judges.old.judges }
     ensures feeds { FeedsFor first S.from C.counts (S.from.ended source.new) source.old source.new
-        lines.old lines.new judges.old judges.new result }
+        lines.old lines.new judges.old.judges judges.new.judges result }
     ensures failures { S.from.failures source.new ≡ reading_failures result
         (S.from.failures source.old) }
 {
     if first {
         feed_first(lines, source, judges)
     } else {
-        feed_events(lines, source, judges)
+        feed_events(lines, source, &mut judges.judges)
     }
 }
 

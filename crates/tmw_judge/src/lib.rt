@@ -16,6 +16,7 @@ mod monitors;
 mod progress;
 mod report;
 mod tally;
+mod until_final;
 
 pub use by_criterion::ByCriterion;
 pub use judge_command::{run_judge, run_judge_with};

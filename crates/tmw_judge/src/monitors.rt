@@ -1,15 +1,16 @@
 //! The monitors that judge a trace: one for each requested criterion.
-ghost use Rattle.tmw_judge.specs.Shared.{Asked, Bounds, Event, Fits, Header, Rules, TellsBroken, fed_of};
-ghost use Rattle.std.specs.Prelude.{◌≡◌, ◌<◌, ◌^◌, List, [], IfOk};
+ghost use Rattle.tmw_judge.specs.Shared.{Asked, Bounds, Event, Fits, Header, Rules, TellsBroken, fed_of, verdict_of};
+ghost use Rattle.std.specs.Prelude.{◌≡◌, ◌==◌, ◌<◌, ◌^◌, List, [], IfOk, length};
+ghost use Rattle.tmw_counts.specs.CountedPart.{counted_by};
 ghost use Rattle.tmw_judge.specs.ByCriterion.{Each};
-ghost use Rattle.tmw_judge.specs.Tally.{any_open, verdicts_of};
+ghost use Rattle.tmw_judge.specs.Tally.{any_open, counted_of, verdicts_of};
 ghost use Rattle.tmw_judge.specs.FeedEvents.{FeedsEach};
 ghost use Rattle.tmw_judge.specs.Judge.{AreFed, AreReports, IsReportOn, trace_rules};
 
 use crate::by_criterion::ByCriterion;
 use crate::report::Report;
 use std::alloc::{AllocError, Global};
-use tmw_counts::is_open;
+use tmw_counts::{counted_by, is_open};
 use tmw_defs::{Asked, Criterion};
 use tmw_events::Event;
 use tmw_monitor::{Bounds, BrokenRule, Monitor};
@@ -64,6 +65,29 @@ pub fn any_open(monitors: &ByCriterion<Monitor>) -> bool
             is_open(&opacity.verdict()) || is_open(&strict.verdict())
         }
     }
+}
+
+/// Tells whether the last event that was fed is counted beside some verdict.
+#[inline(always)]
+pub fn covers_last(monitors: &ByCriterion<Monitor>) -> bool
+    ensures { (header : Header) (bounds : Bounds) (asked : Asked) (history : List Event)
+        → AreFed header bounds asked history monitors.now
+        → result ≡ (counted_of (length history) (verdicts_of monitors.now) == length history) }
+{
+    match monitors {
+        ByCriterion::Opacity(monitor) | ByCriterion::Strict(monitor) => covers_last_of(monitor),
+        ByCriterion::Both(opacity, strict) => covers_last_of(opacity) || covers_last_of(strict),
+    }
+}
+
+/// Tells whether the last event that was fed is counted beside this monitor's verdict.
+#[inline(always)]
+fn covers_last_of(monitor: &Monitor) -> bool
+    ensures { (rules : Rules) (history : List Event) → Fits rules history monitor.now
+        → result ≡ (counted_by (length history) (verdict_of monitor.now) == length history) }
+{
+    let verdict = monitor.verdict();
+    is_open(&verdict) || counted_by(monitor.fed(), &verdict) == monitor.fed()
 }
 
 /// Feeds the event to each monitor.

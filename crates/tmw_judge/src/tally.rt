@@ -8,7 +8,7 @@ use tmw_monitor::Monitor;
 /// Counts the events of a history, one after another, and feeds them to monitors. Its type tells what these mostly judge by, so that
 /// their steps are inlined into the reading of each kind's line, and an event is no value in memory.
 pub trait Tally: Drop {
-    ghost use Rattle.std.specs.Prelude.{◌<◌, ◌-◌, ◌^◌, ℕ, Bool, List, [], ◌∷◌, ◌++◌, length, IsTrue, IsFalse};
+    ghost use Rattle.std.specs.Prelude.{◌<◌, ◌-◌, ◌^◌, ℕ, Bool, List, [], ◌∷◌, ◌++◌, length, IsTrue};
     ghost use Rattle.tmw_monitor.specs.Monitor.{fed_of};
     ghost use Rattle.tmw_judge.specs.ByCriterion.{Each};
     ghost use Rattle.tmw_judge.specs.FeedEvents.{FeedsEach};
@@ -26,16 +26,12 @@ pub trait Tally: Drop {
     fn begin(registers: Registers) -> Self
         ensures { counts registers.number [] result };
 
-    /// Counts the next event where the history stays well-formed with it, and else none. The history has fewer than
-    /// 2^64 - 1 events.
+    /// Counts the next event, with which the history stays well-formed. It has fewer than 2^64 - 1 events.
     fn take(&mut self, event: Event)
-        ensures formed { (registers : ℕ) (history : List Event) → length history < 2 ^ 64 - 1
+        ensures { (registers : ℕ) (history : List Event) → length history < 2 ^ 64 - 1
             → IsTrue (is_well_formed registers (history ++ event ∷ []))
             → counts registers history self.old
-            → counts registers (history ++ event ∷ []) self.new }
-        ensures ill_formed { (registers : ℕ) (history : List Event) → length history < 2 ^ 64 - 1
-            → IsFalse (is_well_formed registers (history ++ event ∷ []))
-            → counts registers history self.old → counts registers history self.new };
+            → counts registers (history ++ event ∷ []) self.new };
 
     /// Feeds an event to each monitor.
     fn feed(monitors: &mut ByCriterion<Monitor>, event: Event)
@@ -126,6 +122,7 @@ impl Tally for Counter {
         Counter::new(registers)
     }
 
+    #[inline(always)]
     fn take(&mut self, event: Event) {
         let _refused = self.take(event);
     }

@@ -1,5 +1,5 @@
 -- The reader has read the lines, among the bytes that it held, whose items a taker was given.
-use Rattle.tmw_lines.proofs.Shared.{All-append, AreFirst, AreTaken, GivesItems, Grammar, IsLastLacked, LacksLast, Lines, List, ReadsHeld, Taking, [], ap, append_assoc, arith, bytes_of, drop, flat_map-append, items_text, length, length-append, line, sym, ℕ, ◌++◌, ◌+◌, ◌∙◌, ◌∷◌, ◌≡◌}
+use Rattle.tmw_lines.proofs.Shared.{All-append, AreFirst, AreTaken, GivesItems, Grammar, AreTakenUpTo, GivesUpTo, Lines, List, ReadsHeld, Taking, [], ap, append_assoc, arith, bytes_of, drop, flat_map-append, items_text, length, length-append, line, sym, ℕ, ◌++◌, ◌+◌, ◌∙◌, ◌∷◌, ◌≡◌}
 use Rattle.tmw_lines.proofs.LinesRead.{few-held}
 
 module _ {F H E : Type 0} (grammar : Grammar F H E) (old new : Lines F) (state : new.state ≡ old.state)
@@ -37,9 +37,9 @@ module _ {F H E : Type 0} (grammar : Grammar F H E) (old new : Lines F) (state :
         → GivesItems grammar taking old new before after
     gives-held t = record { items = t.items; read = ReadsHeld-first t.items t.counted t.first; taken = t.taken }
 
-    pub lacks-held : IsLastLacked grammar taking old.format (bytes_of old.held) old.count before after count new.count
-        → LacksLast grammar taking old new before after
-    lacks-held t = record {
+    pub gives-up_to : AreTakenUpTo grammar taking old.format (bytes_of old.held) old.count before after count new.count
+        → GivesUpTo grammar taking old new before after
+    gives-up_to t = record {
       items = t.items;
       last = t.last;
       read = ReadsHeld-first (t.items ++ t.last ∷ []) (omega (arith, t.counted, length-append t.items (t.last ∷ []))) t.first;

@@ -1,6 +1,7 @@
 -- Reading on to the end: a taker was given the items of the lines read so far.
-use Rattle.tmw_lines.proofs.Shared.{AreGiven, BadHeader, BadLine, Cut, Err, FailsAtLine, FromSource, GivesAll, GivesItems, Grammar, HasBegunToRead, HasRead, Io, IsReading, LacksLast, Lines, List, Memory, None, Ok, ReadsNext, ReadsToFault, Some, Taking, Tells, Tells-more, Tells-none, TextFault, TooLong, [], append-nil, append_assoc, arith, length-append, sym, ℕ, ◌++◌, ◌+◌, ◌∙◌, ◌∷◌, ◌≡◌}
+use Rattle.tmw_lines.proofs.Shared.{AreGiven, BadHeader, BadLine, Cut, Err, FailsAtLine, FromSource, GivesAll, GivesItems, Grammar, HasBegunToRead, HasRead, Io, IsReading, GivesUpTo, Lines, List, Memory, None, Ok, ReadsNext, ReadsToFault, Some, Taking, Tells, Tells-more, Tells-none, TextFault, TooLong, [], append-nil, append_assoc, arith, length-append, sym, ℕ, ◌++◌, ◌+◌, ◌∙◌, ◌∷◌, ◌≡◌}
 use Rattle.tmw_lines.proofs.LinesRead.{fails-holding}
+use Rattle.tmw_lines.specs.declared.items.Reached.TheVariants.{End, Stop}
 
 -- the items of all lines read since were taken
 pub record HasGiven {F H E S T : Type 0} (grammar : Grammar F H E) (From : FromSource S) (taking : Taking T E) (old new : S) (lines lines_after : Lines F)
@@ -47,12 +48,12 @@ module _ {F H E S T : Type 0} {grammar : Grammar F H E} {From : FromSource S}
       read = read-held next gives.items gives.read;
     }
 
-    -- and memory was refused for the last of them
-    pub lacks-held-last : (Done : Type 0) (Ended : Type 0)
+    -- and the taker stopped at the last of them
+    pub gives-held-up_to : (Ended : Type 0)
         (more : (x y z : T) (xs ys : List E) → taking.takes x xs y → taking.takes y ys z → taking.takes x (xs ++ ys) z) (next : Lines F) (after : T)
-        → LacksLast grammar taking now next between after
-        → GivesAll {Done = Done} grammar From Ended taking a b lines next before after (Err Memory)
-    lacks-held-last Done Ended more next after l = record {
+        → GivesUpTo grammar taking now next between after
+        → GivesAll grammar From Ended taking a b lines next before after (Ok Stop)
+    gives-held-up_to Ended more next after l = record {
       bytes = h.bytes;
       items = h.items ++ l.items;
       told = h.told;
@@ -64,7 +65,7 @@ module _ {F H E S T : Type 0} {grammar : Grammar F H E} {From : FromSource S}
         taken = record {
           between = l.taken.between;
           takes = more before between l.taken.between h.items l.items h.taken l.taken.takes;
-          lacks = l.taken.lacks;
+          stops = l.taken.stops;
         };
       };
     }
@@ -95,25 +96,24 @@ module _ {F H E S T : Type 0} {grammar : Grammar F H E} {From : FromSource S}
         read = λ header given earlier read. rw (← append_assoc given h.items (item ∷ [])) (read-one header given earlier read);
       }
 
-      -- and memory was refused for its item
-      pub lacks-next : (Done : Type 0) (after : T) → taking.lacks between item after
-          → GivesAll {Done = Done} grammar From (From.ended c) taking a c lines next before after (Err Memory)
-      lacks-next Done after lacks = record {
+      -- and the taker stopped at its item
+      pub gives-up_to : (after : T) → taking.stops between item after
+          → GivesAll grammar From (From.ended c) taking a c lines next before after (Ok Stop)
+      gives-up_to after stops = record {
         bytes = h.bytes ++ r.bytes;
         items = h.items;
         told = Tells-more From a b c h.bytes r.bytes h.told r.told;
         given = record {
           last = item;
           read = read-one;
-          taken = record { between = between; takes = h.taken; lacks = lacks };
+          taken = record { between = between; takes = h.taken; stops = stops };
         };
       }
 
     -- the end was read
-    pub gives-end : {c : S} {next : Lines F} {Done : Type 0} (done : Done)
-        → ReadsNext grammar From b c now next (Ok None)
-        → GivesAll grammar From (From.ended c) taking a c lines next before between (Ok done)
-    gives-end {c = c} done r = record {
+    pub gives-end : {c : S} {next : Lines F} → ReadsNext grammar From b c now next (Ok None)
+        → GivesAll grammar From (From.ended c) taking a c lines next before between (Ok End)
+    gives-end {c = c} r = record {
       bytes = h.bytes ++ r.bytes;
       items = h.items;
       told = Tells-more From a b c h.bytes r.bytes h.told r.told;
@@ -137,23 +137,23 @@ module _ {F H E S T : Type 0} {grammar : Grammar F H E} {From : FromSource S}
         (given ++ h.items) (earlier ++ h.bytes) (h.read header given earlier r))
 
     -- how a fault of the line behind the items taken answers
-    given-fault : (Done : Type 0) (Ended : Type 0) (next : Lines F) (bytes : List ℕ)
+    given-fault : (Ended : Type 0) (next : Lines F) (bytes : List ℕ)
         (fault : TextFault) → HasBegunToRead grammar lines → FailsAtLine grammar Ended now next bytes fault
-        → AreGiven {Done = Done} grammar Ended taking lines next before between h.items (h.bytes ++ bytes) (Err fault)
-    given-fault Done Ended next bytes BadHeader begun fails = (fault-behind Ended next bytes BadHeader fails, h.taken)
-    given-fault Done Ended next bytes (BadLine number) begun fails = (fault-behind Ended next bytes (BadLine number) fails, h.taken)
-    given-fault Done Ended next bytes (Cut number) begun fails = (fault-behind Ended next bytes (Cut number) fails, h.taken)
-    given-fault Done Ended next bytes Memory begun fails = absurd (fails (reads_on begun)).0
-    given-fault Done Ended next bytes Io begun fails = (fault-behind Ended next bytes Io fails, h.taken)
-    given-fault Done Ended next bytes TooLong begun fails = (fault-behind Ended next bytes TooLong fails, h.taken)
+        → AreGiven grammar Ended taking lines next before between h.items (h.bytes ++ bytes) (Err fault)
+    given-fault Ended next bytes BadHeader begun fails = (fault-behind Ended next bytes BadHeader fails, h.taken)
+    given-fault Ended next bytes (BadLine number) begun fails = (fault-behind Ended next bytes (BadLine number) fails, h.taken)
+    given-fault Ended next bytes (Cut number) begun fails = (fault-behind Ended next bytes (Cut number) fails, h.taken)
+    given-fault Ended next bytes Memory begun fails = absurd (fails (reads_on begun)).0
+    given-fault Ended next bytes Io begun fails = (fault-behind Ended next bytes Io fails, h.taken)
+    given-fault Ended next bytes TooLong begun fails = (fault-behind Ended next bytes TooLong fails, h.taken)
 
     -- a fault was read
-    pub gives-fault : {c : S} {next : Lines F} {fault : TextFault} (Done : Type 0)
+    pub gives-fault : {c : S} {next : Lines F} {fault : TextFault}
         → HasBegunToRead grammar lines → ReadsNext grammar From b c now next (Err fault)
-        → GivesAll {Done = Done} grammar From (From.ended c) taking a c lines next before between (Err fault)
-    gives-fault {c = c} {next = next} {fault = fault} Done begun r = record {
+        → GivesAll grammar From (From.ended c) taking a c lines next before between (Err fault)
+    gives-fault {c = c} {next = next} {fault = fault} begun r = record {
       bytes = h.bytes ++ r.bytes;
       items = h.items;
       told = Tells-more From a b c h.bytes r.bytes h.told r.told;
-      given = given-fault Done (From.ended c) next r.bytes fault begun r.is.0;
+      given = given-fault (From.ended c) next r.bytes fault begun r.is.0;
     }

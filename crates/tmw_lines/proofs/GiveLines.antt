@@ -1,5 +1,5 @@
 -- Lines whose items a taker is given, one after another.
-use Rattle.tmw_lines.proofs.Shared.{All-push, AreFirst, AreTaken, Grammar, IsItemLine, IsLastLacked, List, Taking, [], ap, arith, drop, drop-drop, items_text, length, length-append, length-drop, line, ℕ, ◌++◌, ◌+◌, ◌<◌, ◌^◌, ◌∙◌, ◌∷◌, ◌≤◌}
+use Rattle.tmw_lines.proofs.Shared.{All-push, AreFirst, AreTaken, Grammar, IsItemLine, AreTakenUpTo, List, Taking, [], ap, arith, drop, drop-drop, items_text, length, length-append, length-drop, line, ℕ, ◌++◌, ◌+◌, ◌<◌, ◌^◌, ◌∙◌, ◌∷◌, ◌≤◌}
 use Rattle.tmw_lines.proofs.LinesRead.{items_text-push}
 
 module _ {F H E : Type 0} (grammar : Grammar F H E) (format : F) (bytes : List ℕ) where
@@ -39,14 +39,14 @@ module _ {F H E T : Type 0} {grammar : Grammar F H E} {taking : Taking T E}
     counts = counts all t.counts;
   }
 
-  -- memory was refused for its item
-  pub IsLastLacked-push : taking.lacks between item after
-      → IsLastLacked grammar taking format bytes read before after (count + more) (all + 1)
-  IsLastLacked-push lacks = record {
+  -- the taker stopped at its item
+  pub AreTakenUpTo-push : taking.stops between item after
+      → AreTakenUpTo grammar taking format bytes read before after (count + more) (all + 1)
+  AreTakenUpTo-push stops = record {
     items = t.items;
     last = item;
     first = AreFirst-push grammar format bytes t.items item count more t.first within is;
     counted = omega (arith, t.counted);
     few = omega (arith, left);
-    taken = record { between = between; takes = t.taken; lacks = lacks };
+    taken = record { between = between; takes = t.taken; stops = stops };
   }

@@ -11,8 +11,8 @@ pub use Rattle.tmw_streams.specs.Transfers.{Reads, Tells}
 pub use borrow.Rule.Slice.PartMut.{put_mid}
 pub use Rattle.tmw_lines.specs.FreeParts.{IsFree, is_next}
 pub use Rattle.tmw_lines.specs.GiveItems.{AreGiven, GivesAll, ReadsToFault}
-pub use Rattle.tmw_lines.specs.GiveLines.{AreTaken, IsLastLacked}
-pub use Rattle.tmw_lines.specs.GiveResult.{AreFirst, GivesItems, LacksLast, ReadsHeld}
+pub use Rattle.tmw_lines.specs.GiveLines.{AreTaken, AreTakenUpTo}
+pub use Rattle.tmw_lines.specs.GiveResult.{AreFirst, GivesItems, GivesUpTo, ReadsHeld}
 pub use Rattle.tmw_lines.specs.Grammar.{AllFit, AreLines, Grammar, IsNaming, IsNoHeader, IsNoItem, items_text, lines_text}
 pub use Rattle.tmw_lines.specs.LineBuffer.{bytes_of}
 pub use Rattle.tmw_lines.specs.LineFeeds.{HoldsFront, behind_front, feed_at, front_of, line, line_at}

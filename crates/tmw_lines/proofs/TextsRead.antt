@@ -1,6 +1,8 @@
 -- Reading a whole text: its header, and then the items of all other lines.
 use Rattle.tmw_lines.proofs.Shared.{AreGiven, AreLines, AreReadFor, BadHeader, BadLine, Cut, EndsSoon, Err, FromSource, Grammar, HasFirstLineFault, HasRead, HasTextFault, Io, Lines, List, Memory, Ok, ReadsItems, Result, Taking, Tells, Tells-more, TextFault, TooLong, [], ap, arith, bytes_of, lines_text, subst, ℕ, ◌++◌, ◌∙◌, ◌∷◌, ◌≡◌}
 use Rattle.tmw_lines.proofs.LinesRead.{text_fault-behind}
+use Rattle.tmw_lines.specs.declared.items.Reached.{Reached}
+use Rattle.tmw_lines.specs.declared.items.Reached.TheVariants.{End, Stop}
 
 -- a fault of the first line is the text's
 pub text_fault-first : {F H E : Type 0} (grammar : Grammar F H E) (Ended : Type 0) (bytes : List ℕ) (fault : TextFault)
@@ -33,17 +35,24 @@ text_fault-read Done grammar Ended lines header items bytes Memory f = soon-behi
 text_fault-read Done grammar Ended lines header items bytes Io f = text_fault-behind grammar Ended header items bytes Io f.fails
 text_fault-read Done grammar Ended lines header items bytes TooLong f = text_fault-behind grammar Ended header items bytes TooLong f.fails
 
+-- what is answered of items that are held, if the taker stops for want of memory
+abbrev pub held_by : Result Reached TextFault → Result (Unit {0}) TextFault
+held_by (Ok End) = Ok tt
+held_by (Ok Stop) = Err Memory
+held_by (Err fault) = Err fault
+
 -- what a taker was given is what was read
-module _ {F H E T Done : Type 0} (grammar : Grammar F H E) (Ended : Type 0) (taking : Taking T E) (old new : Lines F)
+module _ {F H E T : Type 0} (grammar : Grammar F H E) (Ended : Type 0) (taking : Taking T E) (old new : Lines F)
     (before after : T) (items : List E) (bytes : List ℕ) where
-  pub given-read : (result : Result Done TextFault) → AreGiven grammar Ended taking old new before after items bytes result
+  pub given-read : (result : Result Reached TextFault) → AreGiven grammar Ended taking old new before after items bytes result
       → (header : H) (given : List E) (earlier : List ℕ) → HasRead grammar old header given earlier
-      → AreReadFor grammar Ended new header (given ++ items) (earlier ++ bytes) result
-  given-read (Ok done) g header given earlier r = g.0 header given earlier r
+      → AreReadFor grammar Ended new header (given ++ items) (earlier ++ bytes) (held_by result)
+  given-read (Ok End) g header given earlier r = g.0 header given earlier r
+  given-read (Ok Stop) g header given earlier r = record { last = g.last; read = g.read header given earlier r }
   given-read (Err BadHeader) g header given earlier r = g.0 header given earlier r
   given-read (Err (BadLine number)) g header given earlier r = g.0 header given earlier r
   given-read (Err (Cut number)) g header given earlier r = g.0 header given earlier r
-  given-read (Err Memory) g header given earlier r = record { last = g.last; read = g.read header given earlier r }
+  given-read (Err Memory) g header given earlier r = absurd g
   given-read (Err Io) g header given earlier r = g.0 header given earlier r
   given-read (Err TooLong) g header given earlier r = g.0 header given earlier r
 

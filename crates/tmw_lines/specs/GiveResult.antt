@@ -3,19 +3,19 @@ use Rattle.std.specs.Prelude.{◌≡◌, ℕ, ◌+◌, ◌≤◌, List, [], ◌�
 use Rattle.tmw_lines.specs.Grammar.{Grammar, items_text}
 use Rattle.tmw_lines.specs.NextLine.{IsItemLine}
 use Rattle.tmw_lines.specs.Lines.{HasRead}
-use Rattle.tmw_lines.specs.Taker.{Taking, TakesButLast}
+use Rattle.tmw_lines.specs.Taker.{Taking, TakesUpTo}
 use Rattle.tmw_lines.specs.declared.give_result.GiveResult.{GiveResult}
-use Rattle.tmw_lines.specs.declared.give_result.GiveResult.TheVariants.{Nothing, Taken, Refused}
+use Rattle.tmw_lines.specs.declared.give_result.GiveResult.TheVariants.{Nothing, Taken, Stopped}
 use Rattle.tmw_lines.specs.declared.lines.Lines.{Lines}
 
--- what came of the line that the bytes begin with: nothing was given, or its item was taken, or memory for it was refused
+-- what came of the line that the bytes begin with: nothing was given, or its item was taken, or the taker stopped at it
 abbrev pub IsGiven : {F H E T : Type 0} → Grammar F H E → Taking T E → F → List ℕ → T → T → GiveResult → Type 0
 IsGiven grammar taking format bytes before after Nothing = after ≡ before
 IsGiven grammar taking format bytes before after (Taken count) =
     (count ≤ length bytes) × (item : _) × IsItemLine grammar format item bytes (drop count bytes) × taking.takes before (item ∷ []) after
     × ((taken : ℕ) → taking.counts before taken → taking.counts after (taken + 1))
-IsGiven grammar taking format bytes before after (Refused count) =
-    (count ≤ length bytes) × (item : _) × IsItemLine grammar format item bytes (drop count bytes) × taking.lacks before item after
+IsGiven grammar taking format bytes before after (Stopped count) =
+    (count ≤ length bytes) × (item : _) × IsItemLine grammar format item bytes (drop count bytes) × taking.stops before item after
 
 -- the bytes begin with the lines of these items, which are so many bytes
 pub record AreFirst {F H E : Type 0} (grammar : Grammar F H E) (format : F) (items : List E) (count : ℕ) (bytes : List ℕ)
@@ -36,10 +36,10 @@ pub record GivesItems {F H E T : Type 0} (grammar : Grammar F H E) (taking : Tak
   pub read : ReadsHeld grammar old new items
   pub taken : taking.takes before items after
 
--- the items of the lines that were read were taken, but for the last, for which memory was refused
-pub record LacksLast {F H E T : Type 0} (grammar : Grammar F H E) (taking : Taking T E) (old new : Lines F)
+-- the items of the lines that were read were taken, up to the last, at which the taker stopped
+pub record GivesUpTo {F H E T : Type 0} (grammar : Grammar F H E) (taking : Taking T E) (old new : Lines F)
     (before after : T) : Type 0 where
   pub items : List E
   pub last : E
   pub read : ReadsHeld grammar old new (items ++ last ∷ [])
-  pub taken : TakesButLast taking before items last after
+  pub taken : TakesUpTo taking before items last after

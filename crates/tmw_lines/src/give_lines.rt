@@ -13,8 +13,8 @@ pub struct LineRun {
     pub length: usize,
     /// How many items' lines were read, with those before them.
     pub count: u64,
-    /// Memory was refused for the item of the last.
-    pub refused: bool,
+    /// The taker stopped at the item of the last.
+    pub stopped: bool,
 }
 
 /// Gives the taker the items of the lines that these bytes begin with, as far as the format reads them in one pass; none, if so many bytes
@@ -38,7 +38,7 @@ pub fn give_lines<F: LineFormat, T: Taker<F::Item>>(
         return LineRun {
             length: 0,
             count,
-            refused: false,
+            stopped: false,
         };
     }
     loop {
@@ -47,18 +47,18 @@ pub fn give_lines<F: LineFormat, T: Taker<F::Item>>(
                 return LineRun {
                     length: bytes.len() - rest.len(),
                     count,
-                    refused: false,
+                    stopped: false,
                 };
             }
             GiveResult::Taken(more) => {
                 rest = &rest[more..];
                 count += 1;
             }
-            GiveResult::Refused(more) => {
+            GiveResult::Stopped(more) => {
                 return LineRun {
                     length: bytes.len() - rest.len() + more,
                     count: count + 1,
-                    refused: true,
+                    stopped: true,
                 };
             }
         }

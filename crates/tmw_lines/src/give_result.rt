@@ -5,6 +5,6 @@ pub enum GiveResult {
     Nothing,
     /// It was taken, and its line is so many bytes long.
     Taken(usize),
-    /// It was given, but memory for it was refused. Its line is so many bytes long.
-    Refused(usize),
+    /// The taker stopped at it. Its line is so many bytes long.
+    Stopped(usize),
 }

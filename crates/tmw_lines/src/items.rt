@@ -1,8 +1,9 @@
-ghost use Rattle.std.specs.Prelude.{◌≡◌, ◌≢◌, ◌≤◌, length, vec_capacity, IfErr, OnOk};
+ghost use Rattle.std.specs.Prelude.{◌≡◌, ◌≢◌, ◌≤◌, length, vec_capacity, IfErr, IfOk, OnOk};
 ghost use Rattle.tmw_lines.specs.GiveItems.{GivesAll};
 ghost use Rattle.tmw_lines.specs.ReadItems.{HasBegunToRead, ReadsItems};
 ghost use Rattle.tmw_lines.specs.Lines.{IsOver, HasFailed, items_given};
 ghost use Rattle.tmw_lines.specs.TextFault.{reading_failures};
+ghost use Rattle.tmw_lines.specs.declared.items.Reached.TheVariants.{End};
 ghost use Rattle.tmw_lines.specs.declared.text_fault.TextFault.TheVariants.{Memory};
 
 use crate::line_format::LineFormat;
@@ -11,34 +12,43 @@ use crate::taker::Taker;
 use crate::text_fault::TextFault;
 use tmw_streams::Source;
 
+/// How far lines were read.
+#[derive(Clone, Copy, PartialEq, Eq, Debug)]
+pub enum Reached {
+    /// Up to the source's end.
+    End,
+    /// Up to the line at whose item the taker stopped.
+    Stop,
+}
+
 /// Reads the remaining lines, up to the source's end or the first fault, and gives the taker each item as its line is
-/// read. The reader then returns that end or fault again. `Memory` follows a failed allocation for the item of the
-/// line read last: at most 4,096 bytes were read after that line.
+/// read. The reader then returns that end or fault again. If the taker stops at an item, its line is the last one read, and
+/// at most 4,096 bytes were read after it. `Memory` is not among the faults.
 pub fn give_items<F: LineFormat, S: Source, T: Taker<F::Item>>(
     lines: &mut Lines<F>,
     source: &mut S,
     taker: &mut T,
-) -> Result<(), TextFault>
+) -> Result<Reached, TextFault>
     requires begun { HasBegunToRead F.grammar lines.old }
     requires counted { T.taking.counts taker.old (items_given lines.old) }
     ensures gives { GivesAll F.grammar S.from (S.from.ended source.new) T.taking source.old
         source.new lines.old lines.new taker.old taker.new result }
     ensures failures { S.from.failures source.new ≡ reading_failures result
         (S.from.failures source.old) }
-    ensures over { OnOk result (IsOver lines.new) }
-    ensures stays { IfErr result (λ fault. fault ≢ Memory → HasFailed lines.new fault) }
+    ensures over { IfOk result (λ reached. reached ≡ End → IsOver lines.new) }
+    ensures stays { IfErr result (HasFailed lines.new) }
 {
     'lines: loop {
         let Ok(()) = lines.give_held(taker) else {
-            return Err(TextFault::Memory);
+            return Ok(Reached::Stop);
         };
         match lines.next(source) {
             Ok(Some(item)) => {
                 let Ok(()) = taker.take(item) else {
-                    return Err(TextFault::Memory);
+                    return Ok(Reached::Stop);
                 };
             }
-            Ok(None) => return Ok(()),
+            Ok(None) => return Ok(Reached::End),
             Err(fault) => return Err(fault),
         }
     }
@@ -64,5 +74,9 @@ pub fn read_items<F: LineFormat, S: Source>(
     ensures over { OnOk result (IsOver lines.new) }
     ensures stays { IfErr result (λ fault. fault ≢ Memory → HasFailed lines.new fault) }
 {
-    give_items(lines, source, items)
+    match give_items(lines, source, items) {
+        Ok(Reached::End) => Ok(()),
+        Ok(Reached::Stop) => Err(TextFault::Memory),
+        Err(fault) => Err(fault),
+    }
 }

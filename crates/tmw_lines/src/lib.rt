@@ -18,13 +18,13 @@ mod vec_taker;
 mod whole_text;
 
 pub use give_result::GiveResult;
-pub use items::{give_items, read_items};
+pub use items::{Reached, give_items, read_items};
 pub use line_buffer::LineBuffer;
 pub use line_format::LineFormat;
 pub use line_length::length_before;
 pub use line_piece::{LinePiece, next_piece};
 pub use lines::Lines;
 pub use long_line::{LineEnd, skip_line};
-pub use taker::Taker;
+pub use taker::{Stop, Taker};
 pub use text_fault::TextFault;
 pub use whole_text::read_lines;

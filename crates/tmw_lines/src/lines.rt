@@ -9,9 +9,8 @@ use crate::line_buffer::LineBuffer;
 use crate::line_format::LineFormat;
 use crate::line_length::length_before;
 use crate::next_line::next_line;
-use crate::taker::Taker;
+use crate::taker::{Stop, Taker};
 use crate::text_fault::TextFault;
-use std::alloc::AllocError;
 use tmw_streams::Source;
 
 /// How far a reader has come.
@@ -40,7 +39,7 @@ pub struct Lines<F> {
 }
 
 impl<F: LineFormat> Lines<F> {
-    ghost use Rattle.tmw_lines.specs.GiveResult.{GivesItems, LacksLast};
+    ghost use Rattle.tmw_lines.specs.GiveResult.{GivesItems, GivesUpTo};
     ghost use Rattle.tmw_lines.specs.LineFeeds.{HoldsFront, front_of};
     ghost use Rattle.tmw_lines.specs.Lines.{IsNew, IsReading, IsOver, HasFailed, HasRead, format_by, items_given, unread, unread_bytes, ReadsNext};
 
@@ -84,16 +83,16 @@ impl<F: LineFormat> Lines<F> {
     }
 
     /// Gives the taker the items of lines that the bytes held begin with, and reads nothing. It gives none or more:
-    /// as many as the format reads in one pass, none near 2^40 lines. After a failed allocation for an item, that item's line is the last
+    /// as many as the format reads in one pass, none near 2^40 lines. If the taker stops at an item, that item's line is the last
     /// that was read. Before the header, and after `None` or a fault, it gives nothing and changes nothing.
     #[inline(always)]
-    pub fn give_held<T: Taker<F::Item>>(&mut self, taker: &mut T) -> Result<(), AllocError>
+    pub fn give_held<T: Taker<F::Item>>(&mut self, taker: &mut T) -> Result<(), Stop>
         requires { T.taking.counts taker.old (items_given self.old) }
         ensures gives { OnOk result
             (GivesItems F.grammar T.taking self.old self.new taker.old taker.new) }
         ensures counted { OnOk result (T.taking.counts taker.new (items_given self.new)) }
-        ensures lacks { OnErr result
-            (LacksLast F.grammar T.taking self.old self.new taker.old taker.new) }
+        ensures stops { OnErr result
+            (GivesUpTo F.grammar T.taking self.old self.new taker.old taker.new) }
         ensures fewer { unread self.new ≤ unread self.old }
         ensures idle { (IsReading self.old → ⊥) → (result ≡ Ok tt) × (self.new ≡ self.old)
             × (taker.new ≡ taker.old) }
@@ -105,7 +104,7 @@ impl<F: LineFormat> Lines<F> {
         let run = give_lines(self.format, self.held.bytes(), self.count, taker);
         self.held.consume(run.length);
         self.count = run.count;
-        if run.refused { Err(AllocError) } else { Ok(()) }
+        if run.stopped { Err(Stop) } else { Ok(()) }
     }
 
     /// Reads the next line and returns its item, `None` at the end of the text, or the fault of all bytes read. After

@@ -1,19 +1,20 @@
 ghost use Rattle.std.specs.Prelude.{ℕ, ◌+◌, ◌<◌, ◌^◌, List, [], ◌∷◌, ◌++◌, OnOk, OnErr};
 ghost use Rattle.tmw_lines.specs.Taker.{Taking};
 
-use std::alloc::AllocError;
+/// What a taker answers at the last item that it is given.
+#[derive(Clone, Copy, PartialEq, Eq, Debug)]
+pub struct Stop;
 
-/// What takes the items of lines, one after another as they are read.
+/// What takes the items of lines, one after another as they are read, until it stops.
 pub trait Taker<I> {
-    /// What it means that it takes items, that it is refused memory for one, and that it may have taken so many.
+    /// What it means that it takes items, that it stops at one, and that it may have taken so many.
     ghost taking: { Taking Self I };
 
-    /// Takes an item, or fails after a failed allocation for it. The state has to allow that fewer than 2^40 were
-    /// taken before.
-    fn take(&mut self, item: I) -> Result<(), AllocError>
+    /// Takes an item, or stops at it. The state has to allow that fewer than 2^40 were taken before.
+    fn take(&mut self, item: I) -> Result<(), Stop>
         requires { (count : ℕ) × (count < 2 ^ 40) × taking.counts self.old count }
         ensures taken { OnOk result (taking.takes self.old (item ∷ []) self.new) }
-        ensures lacks { OnErr result (taking.lacks self.old item self.new) }
+        ensures stops { OnErr result (taking.stops self.old item self.new) }
         ensures counted { OnOk result
             ((count : ℕ) → taking.counts self.old count → taking.counts self.new (count + 1)) };
 

@@ -7,7 +7,7 @@ ghost use Rattle.tmw_show.specs.RunShow.{AnswersShow};
 use crate::shown_trace::ShownTrace;
 use std::alloc::Global;
 use tmw_events::Registers;
-use tmw_lines::give_items;
+use tmw_lines::{Reached, give_items};
 use tmw_options::ShowOptions;
 use tmw_report::{Fault, quote_fault};
 use tmw_streams::{Sink, Source};
@@ -45,7 +45,8 @@ pub fn show_trace<S: Source, E: Sink>(
         return Err(Fault::Memory);
     };
     match give_items(&mut lines, source, &mut window) {
-        Ok(()) => explained(alloc, options, header.registers, window.finish()),
+        Ok(Reached::End) => explained(alloc, options, header.registers, window.finish()),
+        Ok(Reached::Stop) => Err(Fault::Memory),
         Err(fault) => Err(quote_fault(errors, &lines, fault)),
     }
 }

@@ -126,6 +126,6 @@ fn give<T: Taker<Event>>(
     }
     match taker.take(Event { thread, kind }) {
         Ok(()) => GiveResult::Taken(2 + count),
-        Err(_) => GiveResult::Refused(2 + count),
+        Err(_) => GiveResult::Stopped(2 + count),
     }
 }

@@ -12,10 +12,10 @@ pub record WatchesSoMany (window : LastWindow) (count : ℕ) : Type 0 where
   pub watches : Watches rules history window
   pub counted : length history ≡ count
 
--- It has been fed the events that it took, and stands for the same history where it was refused memory.
+-- It has been fed the events that it took, and stands for the same history where it stopped, for want of memory.
 abbrev pub window_taking : Taking LastWindow Event
 window_taking = record {
   takes = λ old events new. (rules : Rules) (history : List Event) → Watches rules history old → Watches rules (history ++ events) new;
-  lacks = λ old event new. (rules : Rules) (history : List Event) → Watches rules history old → Watches rules history new;
+  stops = λ old event new. (rules : Rules) (history : List Event) → Watches rules history old → Watches rules history new;
   counts = WatchesSoMany;
 }

@@ -16,6 +16,6 @@ pub returns-in-Err-feed_for-clause-right : goal.returns-in-Err-feed_for-clause-r
 returns-in-Err-feed_for-clause-right g c =
     rw c.quote_fault-in-Err-feed_for.ensures.fault (fed-fault g.S.Source.from g.C.Tally.counts (g.S.Source.from.ended c.begin.new.source)
     (g.S.Source.from.ended c.feed_for.new.source) c.args.source.now c.begin.new.source c.feed_for.new.source c.begin.new.lines
-    c.feed_for.new.lines c.args.options.bounds c.args.options.asked c.in-Ok.judges c.feed_for.new.judges c.in-Ok.ensures.begins g.E.Sink.to
+    c.feed_for.new.lines c.args.options.bounds c.args.options.asked c.in-Ok.judges c.feed_for.new.judges.judges c.in-Ok.ensures.begins g.E.Sink.to
     c.args.errors.now c.quote_fault-in-Err-feed_for.new.errors _ c.in-Err-feed_for.fault c.args.options.first c.in-Err-feed_for.ensures.feeds
     c.quote_fault-in-Err-feed_for.ensures.told)

@@ -1,6 +1,6 @@
 -- Each line is given behind those before it.
 use Rattle.tmw_lines.proofs.Shared.{ap, arith, drop, drop-drop, length, length-drop, sym, take, take_rest, ◌+◌, ◌-◌, ◌<◌, ◌∙◌, ◌≡◌}
-use Rattle.tmw_lines.proofs.GiveLines.{AreTaken-push, IsLastLacked-push, line-long}
+use Rattle.tmw_lines.proofs.GiveLines.{AreTaken-push, AreTakenUpTo-push, line-long}
 use Rattle.tmw_lines.proofs.give_lines.give_lines.Goals as goal
 
 pub give_first-requires : goal.give_first-requires
@@ -33,8 +33,8 @@ loop-more-preserved g c =
     let pushed = AreTaken-push g.met.T.Taker.takes_more taken (omega (arith, within)) given.0 given.2 given.3 given.4 in
     (omega (arith, within, fewer, some, given.0), omega (arith, fewer, shorter), moved ∙ ap (λ n. drop n bytes) (sym on), rw on pushed)
 
-pub returns-in-Refused : goal.returns-in-Refused
-returns-in-Refused g c =
+pub returns-in-Stopped : goal.returns-in-Stopped
+returns-in-Stopped g c =
     let (within, shorter, is, taken) = c.loop-more.invariant in
-    let given = rw is at c.in-Refused.ensures in
-    IsLastLacked-push g.met.T.Taker.takes_more taken (omega (arith, within)) given.0 given.2 given.3
+    let given = rw is at c.in-Stopped.ensures in
+    AreTakenUpTo-push g.met.T.Taker.takes_more taken (omega (arith, within)) given.0 given.2 given.3

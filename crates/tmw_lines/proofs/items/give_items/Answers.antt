@@ -1,6 +1,6 @@
 -- Each item that was read is given, and where memory is refused for one, no line is read after its line.
 use Rattle.tmw_lines.proofs.Shared.{arith, refl, subst, sym, ◌∙◌}
-use Rattle.tmw_lines.proofs.GiveItems.{HasGiven-none, HasGiven-held, HasGiven-push, lacks-held-last, lacks-next, count-next, gives-end, gives-fault, reads_on}
+use Rattle.tmw_lines.proofs.GiveItems.{HasGiven-none, HasGiven-held, HasGiven-push, gives-held-up_to, gives-up_to, count-next, gives-end, gives-fault, reads_on}
 use Rattle.tmw_lines.proofs.items.give_items.Goals as goal
 
 pub lines-init : goal.lines-init
@@ -12,7 +12,7 @@ lines-init g c = (
 
 pub returns-in_default-clause-gives : goal.returns-in_default-clause-gives
 returns-in_default-clause-gives g c =
-    lacks-held-last c.lines.invariant.0 _ _ g.met.T.Taker.takes_more c.give_held.new.self c.give_held.new.taker c.in_default.ensures.lacks
+    gives-held-up_to c.lines.invariant.0 _ g.met.T.Taker.takes_more c.give_held.new.self c.give_held.new.taker c.in_default.ensures.stops
 
 pub take-requires : goal.take-requires
 take-requires g c =
@@ -34,17 +34,17 @@ pub returns-in_default-take-clause-gives : goal.returns-in_default-take-clause-g
 returns-in_default-take-clause-gives g c =
     let held = HasGiven-held c.lines.invariant.0 g.met.T.Taker.takes_more c.give_held.new.self c.give_held.new.taker c.in-Ok.ensures.gives in
     let given = rw c.in-Ok-Some.field-0-is at c.in-Ok-Some.ensures.reads in
-    lacks-next held given _ c.take.new.self c.in_default-take.ensures.lacks
+    gives-up_to held given c.take.new.self c.in_default-take.ensures.stops
 
 pub returns-in-Ok-None-clause-gives : goal.returns-in-Ok-None-clause-gives
 returns-in-Ok-None-clause-gives g c =
     let held = HasGiven-held c.lines.invariant.0 g.met.T.Taker.takes_more c.give_held.new.self c.give_held.new.taker c.in-Ok.ensures.gives in
-    gives-end held tt (rw c.in-Ok-None.field-0-is at c.in-Ok-None.ensures.reads)
+    gives-end held (rw c.in-Ok-None.field-0-is at c.in-Ok-None.ensures.reads)
 
 pub returns-in-Err-clause-gives : goal.returns-in-Err-clause-gives
 returns-in-Err-clause-gives g c =
     let held = HasGiven-held c.lines.invariant.0 g.met.T.Taker.takes_more c.give_held.new.self c.give_held.new.taker c.in-Ok.ensures.gives in
-    gives-fault held _ c.requires.begun c.in-Err.ensures.reads
+    gives-fault held c.requires.begun c.in-Err.ensures.reads
 
 pub returns-in-Err-clause-failures : goal.returns-in-Err-clause-failures
 returns-in-Err-clause-failures g c =

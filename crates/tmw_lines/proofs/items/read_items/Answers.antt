@@ -1,9 +1,9 @@
--- A list was given the items.
+-- A list was given the items, and stops for want of memory.
 use Rattle.tmw_lines.proofs.VecTaker.{reads-given}
 use Rattle.tmw_lines.proofs.items.read_items.Goals as goal
 
-pub returns-clause-reads : goal.returns-clause-reads
-returns-clause-reads g c =
+pub returns-in-Ok-End-clause-reads : goal.returns-in-Ok-End-clause-reads
+returns-in-Ok-End-clause-reads g c =
     reads-given g.F.LineFormat.grammar (g.S.Source.from.ended c.give_items.new.source) _ (λ list. list.items)
     (λ x items y t. t.0) (λ x item y l. l.0) c.args.lines.now c.give_items.new.lines c.args.items.now c.give_items.new.taker
-    g.S.Source.from c.args.source.now c.give_items.new.source c.give_items.result c.give_items.ensures.gives
+    g.S.Source.from c.args.source.now c.give_items.new.source _ (rw c.in-Ok-End.field-0-is at c.in-Ok-End.ensures.gives)

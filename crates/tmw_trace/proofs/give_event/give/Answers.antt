@@ -1,4 +1,4 @@
--- What was taken, or lacked, is the event whose line the bytes begin with.
+-- What was taken, or stopped at, is the event whose line the bytes begin with.
 use Rattle.tmw_trace.proofs.Shared.{arith, is_spoken, true, ◌≡◌}
 use Rattle.tmw_trace.proofs.FirstEvent.{event-line}
 use Rattle.tmw_trace.proofs.give_event.give.Goals as goal
@@ -19,5 +19,5 @@ returns-in-Err g c =
       omega arith,
       record { thread = c.args.thread; kind = c.args.kind },
       event-line c.args.version c.args.thread c.args.kind c.args.bytes.now c.args.count c.requires.line c.requires.fits spoken,
-      c.in-Err.ensures.lacks,
+      c.in-Err.ensures.stops,
     )
