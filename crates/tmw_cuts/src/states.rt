@@ -149,6 +149,16 @@ impl States {
         self.items.clear();
     }
 
+    /// Becomes the set of the other's states. It takes memory only if there is no room for them, and is empty if there is none.
+    pub fn copy_from(&mut self, other: &States)
+        ensures members { length (members other.now) ≤ room_of self.old
+            → members self.new ≡ members other.now }
+        ensures room { room_of self.old ≤ room_of self.new }
+    {
+        self.items.clear();
+        let _room = self.items.extend_from_slice(other.states());
+    }
+
     /// Makes a set of the same states.
     pub fn copy(&self) -> Result<States, AllocError>
         ensures { IfOk result (λ states. members states ≡ members self.now) }

@@ -43,16 +43,19 @@ fn no_txns() -> [Txn; MOST_TRANSACTIONS]
     ]
 }
 
-/// Makes transactions that show the same.
-fn copy_txns(slots: &[Txn; MOST_TRANSACTIONS]) -> [Txn; MOST_TRANSACTIONS]
-    ensures shown { map view result ≡ map view slots.now }
-    ensures eight { length result ≡ 8 }
+/// Puts transactions into these places that show the same as the first so many.
+fn copy_txns(
+    copied: &mut [Txn; MOST_TRANSACTIONS],
+    slots: &[Txn; MOST_TRANSACTIONS],
+    count: u8,
+)
+    requires few { count ≤ 8 }
+    ensures shown { map view (take count copied.new) ≡ map view (take count slots.now) }
+    ensures eight { length copied.new ≡ 8 }
 {
-    let mut copied = no_txns();
-    for place in 0..8usize {
+    for place in 0..usize::from(count) {
         copied[place] = slots[place].copy();
     }
-    copied
 }
 
 /// Gives the transaction at the place one more operation.
@@ -324,6 +327,20 @@ impl Window {
         Ok(())
     }
 
+    /// Comes to stand for the same events as the other.
+    pub fn copy_from(&mut self, other: &Window)
+        ensures shown { views self.new ≡ views other.now }
+        ensures stands { (events : List Event) → StandsFor other.now events
+            → StandsFor self.new events }
+        ensures registers { self.new.registers ≡ other.now.registers }
+    {
+        self.registers = other.registers;
+        self.turns = other.turns;
+        copy_txns(&mut self.slots, &other.slots, other.count);
+        self.count = other.count;
+        self.completed = other.completed;
+    }
+
     /// Makes a window that stands for the same events.
     pub fn copy(&self) -> Window
         ensures shown { views result ≡ views self.now }
@@ -331,12 +348,8 @@ impl Window {
             → StandsFor result events }
         ensures registers { result.registers ≡ self.now.registers }
     {
-        Window {
-            registers: self.registers,
-            turns: self.turns,
-            slots: copy_txns(&self.slots),
-            count: self.count,
-            completed: self.completed,
-        }
+        let mut copied = Window::open(self.registers);
+        copied.copy_from(self);
+        copied
     }
 }

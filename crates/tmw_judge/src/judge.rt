@@ -9,7 +9,7 @@ use crate::feed_first::feed_first;
 use crate::judge_result::JudgeResult;
 use crate::judges::Judges;
 use crate::monitors::{broken_of, monitors_for, reports_of};
-use crate::tally::{NoTally, StrictNoTally, Tally};
+use crate::tally::{BothNoTally, NoTally, StrictNoTally, Tally};
 use crate::until_final::UntilFinal;
 use std::alloc::Global;
 use tmw_counts::Counter;
@@ -42,7 +42,8 @@ pub fn judge<S: Source, E: Sink>(
         (false, Asked::Strict) => {
             judge_by::<S, E, StrictNoTally>(alloc, source, errors, options)
         }
-        (false, _) => judge_by::<S, E, NoTally>(alloc, source, errors, options),
+        (false, Asked::Both) => judge_by::<S, E, BothNoTally>(alloc, source, errors, options),
+        (false, Asked::Opacity) => judge_by::<S, E, NoTally>(alloc, source, errors, options),
     }
 }
 

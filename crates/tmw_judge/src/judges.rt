@@ -1,9 +1,8 @@
-use crate::by_criterion::ByCriterion;
-use tmw_monitor::Monitor;
+use crate::monitors::Monitors;
 
 /// The monitors of a trace, and what is counted of the events that they judge.
 #[derive(Drop)]
 pub struct Judges<C> {
-    pub monitors: ByCriterion<Monitor>,
+    pub monitors: Monitors,
     pub counting: C,
 }

@@ -11,10 +11,18 @@ use crate::by_criterion::ByCriterion;
 use crate::report::Report;
 use std::alloc::{AllocError, Global};
 use tmw_counts::{counted_by, is_open};
-use tmw_defs::{Asked, Criterion};
+use tmw_defs::{Asked, Criterion, Verdict};
 use tmw_events::Event;
-use tmw_monitor::{Bounds, BrokenRule, Monitor};
+use tmw_monitor::{BothMonitor, Bounds, BrokenRule, Monitor};
 use tmw_trace::Header;
+
+/// The monitors of a trace, by the criteria that are asked for.
+#[derive(Drop)]
+pub enum Monitors {
+    Opacity(Monitor),
+    Strict(Monitor),
+    Both(BothMonitor),
+}
 
 /// Makes the monitors for the history of a trace with this header, before its first event.
 pub fn monitors_for(
@@ -22,22 +30,21 @@ pub fn monitors_for(
     header: Header,
     bounds: Bounds,
     asked: Asked,
-) -> Result<ByCriterion<Monitor>, AllocError>
+) -> Result<Monitors, AllocError>
     ensures { IfOk result (AreFed header bounds asked []) }
 {
     match asked {
         Asked::Opacity => {
             let opacity = monitor_for(alloc, Criterion::Opacity, header, bounds)?;
-            Ok(ByCriterion::Opacity(opacity))
+            Ok(Monitors::Opacity(opacity))
         }
         Asked::Strict => {
             let strict = monitor_for(alloc, Criterion::Strict, header, bounds)?;
-            Ok(ByCriterion::Strict(strict))
+            Ok(Monitors::Strict(strict))
         }
         Asked::Both => {
-            let opacity = monitor_for(alloc, Criterion::Opacity, header, bounds)?;
-            let strict = monitor_for(alloc, Criterion::Strict, header, bounds)?;
-            Ok(ByCriterion::Both(opacity, strict))
+            let both = BothMonitor::new(alloc, header.registers, header.initial, bounds)?;
+            Ok(Monitors::Both(both))
         }
     }
 }
@@ -56,43 +63,42 @@ fn monitor_for(
 
 /// Tells whether some monitor has found nothing wrong so far.
 #[inline(always)]
-pub fn any_open(monitors: &ByCriterion<Monitor>) -> bool
+pub fn any_open(monitors: &Monitors) -> bool
     ensures { result ≡ any_open (verdicts_of monitors.now) }
 {
     match monitors {
-        ByCriterion::Opacity(monitor) | ByCriterion::Strict(monitor) => is_open(&monitor.verdict()),
-        ByCriterion::Both(opacity, strict) => {
-            is_open(&opacity.verdict()) || is_open(&strict.verdict())
-        }
+        Monitors::Opacity(monitor) | Monitors::Strict(monitor) => is_open(&monitor.verdict()),
+        Monitors::Both(both) => is_open(&both.opacity()) || is_open(&both.strict()),
     }
 }
 
 /// Tells whether the last event that was fed is counted beside some verdict.
 #[inline(always)]
-pub fn covers_last(monitors: &ByCriterion<Monitor>) -> bool
+pub fn covers_last(monitors: &Monitors) -> bool
     ensures { (header : Header) (bounds : Bounds) (asked : Asked) (history : List Event)
         → AreFed header bounds asked history monitors.now
         → result ≡ (counted_of (length history) (verdicts_of monitors.now) == length history) }
 {
     match monitors {
-        ByCriterion::Opacity(monitor) | ByCriterion::Strict(monitor) => covers_last_of(monitor),
-        ByCriterion::Both(opacity, strict) => covers_last_of(opacity) || covers_last_of(strict),
+        Monitors::Opacity(monitor) | Monitors::Strict(monitor) => {
+            covers_event(monitor.fed(), &monitor.verdict())
+        }
+        Monitors::Both(both) => {
+            covers_event(both.fed(), &both.opacity()) || covers_event(both.fed(), &both.strict())
+        }
     }
 }
 
-/// Tells whether the last event that was fed is counted beside this monitor's verdict.
+/// Tells whether the last of so many events is counted beside this verdict.
 #[inline(always)]
-fn covers_last_of(monitor: &Monitor) -> bool
-    ensures { (rules : Rules) (history : List Event) → Fits rules history monitor.now
-        → result ≡ (counted_by (length history) (verdict_of monitor.now) == length history) }
+fn covers_event(events: u64, verdict: &Verdict) -> bool
 {
-    let verdict = monitor.verdict();
-    is_open(&verdict) || counted_by(monitor.fed(), &verdict) == monitor.fed()
+    is_open(verdict) || counted_by(events, verdict) == events
 }
 
 /// Feeds the event to each monitor.
 #[inline(always)]
-pub fn feed_copy(monitors: &mut ByCriterion<Monitor>, event: Event)
+pub fn feed_copy(monitors: &mut Monitors, event: Event)
     requires { Each (λ _ monitor. fed_of monitor < 2 ^ 40) monitors.old }
     ensures { FeedsEach monitors.old event monitors.new }
 {
@@ -106,48 +112,48 @@ pub fn feed_copy(monitors: &mut ByCriterion<Monitor>, event: Event)
 
 /// Feeds the event to each monitor, as `feed_copy` does. It is called.
 #[inline(never)]
-fn feed_each(monitors: &mut ByCriterion<Monitor>, event: Event)
+fn feed_each(monitors: &mut Monitors, event: Event)
     requires { Each (λ _ monitor. fed_of monitor < 2 ^ 40) monitors.old }
     ensures { FeedsEach monitors.old event monitors.new }
 {
     match monitors {
-        ByCriterion::Opacity(monitor) => {
+        Monitors::Opacity(monitor) => {
             monitor.take(event);
         }
-        ByCriterion::Strict(monitor) => {
+        Monitors::Strict(monitor) => {
             monitor.take(event);
         }
-        ByCriterion::Both(opacity, strict) => {
-            opacity.take(event);
-            strict.take(event);
-        }
+        Monitors::Both(both) => both.take(event),
     }
 }
 
 /// Returns what the monitors report of the history that they were fed.
-pub fn reports_of(monitors: &ByCriterion<Monitor>) -> ByCriterion<Report>
+pub fn reports_of(monitors: &Monitors) -> ByCriterion<Report>
     ensures { (header : Header) (bounds : Bounds) (asked : Asked) (history : List Event)
         → AreFed header bounds asked history monitors.now
         → AreReports header bounds asked history result }
 {
     match monitors {
-        ByCriterion::Opacity(monitor) => ByCriterion::Opacity(report_of(monitor)),
-        ByCriterion::Strict(monitor) => ByCriterion::Strict(report_of(monitor)),
-        ByCriterion::Both(opacity, strict) => {
-            ByCriterion::Both(report_of(opacity), report_of(strict))
+        Monitors::Opacity(monitor) => ByCriterion::Opacity(report_of(monitor)),
+        Monitors::Strict(monitor) => ByCriterion::Strict(report_of(monitor)),
+        Monitors::Both(both) => {
+            let events = both.fed();
+            let opacity = Report { events, verdict: both.opacity() };
+            let strict = Report { events, verdict: both.strict() };
+            ByCriterion::Both(opacity, strict)
         }
     }
 }
 
 /// Returns the first event that fits no run, if the monitors were fed one.
-pub fn broken_of(monitors: &ByCriterion<Monitor>) -> Option<BrokenRule>
+pub fn broken_of(monitors: &Monitors) -> Option<BrokenRule>
     ensures { (header : Header) (bounds : Bounds) (asked : Asked) (history : List Event)
         → AreFed header bounds asked history monitors.now
         → TellsBroken header.registers.number history result }
 {
     match monitors {
-        ByCriterion::Opacity(monitor) | ByCriterion::Strict(monitor) => monitor.broken(),
-        ByCriterion::Both(opacity, _) => opacity.broken(),
+        Monitors::Opacity(monitor) | Monitors::Strict(monitor) => monitor.broken(),
+        Monitors::Both(both) => both.broken(),
     }
 }
 

@@ -1,9 +1,7 @@
 //! What is counted of the events that are judged: nothing, or what a history has shown.
-use crate::by_criterion::ByCriterion;
-use crate::monitors::feed_copy;
+use crate::monitors::{Monitors, feed_copy};
 use tmw_counts::{Counter, Summary};
 use tmw_events::{Event, Registers};
-use tmw_monitor::Monitor;
 
 /// Counts the events of a history, one after another, and feeds them to monitors. Its type tells what these mostly judge by, so that
 /// their steps are inlined into the reading of each kind's line, and an event is no value in memory.
@@ -34,7 +32,7 @@ pub trait Tally: Drop {
             → counts registers (history ++ event ∷ []) self.new };
 
     /// Feeds an event to each monitor.
-    fn feed(monitors: &mut ByCriterion<Monitor>, event: Event)
+    fn feed(monitors: &mut Monitors, event: Event)
         requires { Each (λ _ monitor. fed_of monitor < 2 ^ 40) monitors.old }
         ensures { FeedsEach monitors.old event monitors.new };
 
@@ -64,8 +62,8 @@ impl Tally for NoTally {
     fn take(&mut self, _event: Event) {}
 
     #[inline(always)]
-    fn feed(monitors: &mut ByCriterion<Monitor>, event: Event) {
-        if let ByCriterion::Opacity(monitor) = monitors {
+    fn feed(monitors: &mut Monitors, event: Event) {
+        if let Monitors::Opacity(monitor) = monitors {
             monitor.take(event);
             return;
         }
@@ -97,9 +95,42 @@ impl Tally for StrictNoTally {
     fn take(&mut self, _event: Event) {}
 
     #[inline(always)]
-    fn feed(monitors: &mut ByCriterion<Monitor>, event: Event) {
-        if let ByCriterion::Strict(monitor) = monitors {
+    fn feed(monitors: &mut Monitors, event: Event) {
+        if let Monitors::Strict(monitor) = monitors {
             monitor.take(event);
+            return;
+        }
+        feed_copy(monitors, event);
+    }
+
+    fn summary(&self) -> Option<Summary> {
+        None
+    }
+}
+
+/// Counts nothing, of a history that is judged by both criteria.
+#[derive(Drop)]
+pub struct BothNoTally;
+
+impl Tally for BothNoTally {
+    ghost use Rattle.std.specs.Prelude.{false};
+
+    ghost counted = { false };
+
+    ghost counts = { λ registers history counting. Unit {0} };
+
+    #[inline(always)]
+    fn begin(_registers: Registers) -> BothNoTally {
+        BothNoTally
+    }
+
+    #[inline(always)]
+    fn take(&mut self, _event: Event) {}
+
+    #[inline(always)]
+    fn feed(monitors: &mut Monitors, event: Event) {
+        if let Monitors::Both(both) = monitors {
+            both.take(event);
             return;
         }
         feed_copy(monitors, event);
@@ -128,7 +159,7 @@ impl Tally for Counter {
     }
 
     #[inline(always)]
-    fn feed(monitors: &mut ByCriterion<Monitor>, event: Event) {
+    fn feed(monitors: &mut Monitors, event: Event) {
         NoTally::feed(monitors, event);
     }
 

@@ -5,16 +5,6 @@ use tmw_cuts::{States, Window};
 use tmw_search::EndSet;
 use tmw_witness::Witness;
 
-fn copy_states(to: &mut States, from: &States)
-    ensures members { length (members from.now) ≤ 65 → members to.new ≡ members from.now }
-    ensures room { HasRoom to.old → HasRoom to.new }
-{
-    to.clear();
-    for state in from.states() {
-        let _room = to.insert(*state);
-    }
-}
-
 /// What is kept of a history in which nothing is wrong: no event.
 #[derive(Debug, Drop)]
 pub struct HistoryDigest {
@@ -39,8 +29,8 @@ impl HistoryDigest {
     pub fn copy_from(&mut self, other: &HistoryDigest)
         ensures { IsCopy other.now self.new }
     {
-        copy_states(&mut self.states, &other.states);
-        self.window = other.window.copy();
+        self.states.copy_from(&other.states);
+        self.window.copy_from(&other.window);
         self.witness = other.witness;
     }
 
