@@ -1,15 +1,15 @@
 -- What is read where the events of a trace are fed to its judges as their lines are read, and what the judges have taken of it.
-use Rattle.tmw_judge.specs.Shared.{Asked, Bounds, EndsBehind, Event, FailsHolding, FromSource, HasFirstLineFault, HasRead, Header, Lines, Memory, Monitor, Tells, TextFault, Version, trace_grammar, unread_bytes}
+use Rattle.tmw_judge.specs.Shared.{Asked, Bounds, EndsBehind, Event, FailsHolding, FromSource, HasFirstLineFault, HasRead, Header, Lines, Memory, Tells, TextFault, Version, trace_grammar, unread_bytes}
 use Rattle.std.specs.Prelude.{◌≡◌, ℕ, Result, Ok, Err, List, [], ◌∷◌, ◌++◌, length}
 use Rattle.tmw_lines.specs.Taker.{Taking}
 use Rattle.tmw_lines.specs.LineFeeds.{HoldsFront}
-use Rattle.tmw_judge.specs.declared.by_criterion.ByCriterion.{ByCriterion}
+use Rattle.tmw_judge.specs.declared.monitors.Monitors.{Monitors}
 use Rattle.tmw_judge.specs.Tally.{AreJudged, CountsFor}
 use Rattle.tmw_judge.specs.declared.judges.Judges.{Judges}
 use Rattle.tmw_judge.specs.Judge.{AreFed}
 
 -- From the one to the other each monitor has been fed the event.
-abbrev pub FeedsEach : ByCriterion Monitor → Event → ByCriterion Monitor → Type 0
+abbrev pub FeedsEach : Monitors → Event → Monitors → Type 0
 FeedsEach old event new = (header : Header) (bounds : Bounds) (asked : Asked) (history : List Event)
     → AreFed header bounds asked history old → AreFed header bounds asked (history ++ event ∷ []) new
 

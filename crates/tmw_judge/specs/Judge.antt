@@ -1,8 +1,13 @@
 -- What `judge` without options promises: from the bytes that its source tells to the lines that its sink takes and the exit status.
-use Rattle.tmw_judge.specs.Shared.{AnswersTextFault, AreEvents, Asked, Bounds, Criterion, Event, Fault, Fits, FromSource, HasTextFault, Header, IsCommandRun, IsVerdict, Monitor, Rules, ToSink, both_status, report_text, rules_for, strict_text, trace_grammar, trace_text, verdict_status}
-use Rattle.std.specs.Prelude.{◌≡◌, ◌++◌, ℕ, List, length, Result, Ok, Err}
+use Rattle.tmw_judge.specs.Shared.{AnswersTextFault, AreEvents, Asked, Bounds, Criterion, Event, Fault, Fits, FromSource, HasTextFault, Header, IsCommandRun, IsVerdict, Rules, ToSink, both_status, fed_of, report_text, rules_for, strict_text, trace_grammar, trace_text, verdict_status}
+use Rattle.std.specs.Prelude.{◌≡◌, ◌++◌, ◌<◌, ◌^◌, ℕ, List, length, Result, Ok, Err}
 use Rattle.tmw_judge.specs.declared.by_criterion.ByCriterion.{ByCriterion}
 use Rattle.tmw_judge.specs.declared.by_criterion.ByCriterion.TheVariants.{Opacity, Strict, Both}
+use Rattle.tmw_defs.specs.declared.criterion.Asked.TheVariants as asks
+use Rattle.tmw_defs.specs.declared.criterion.Criterion.TheVariants as by
+use Rattle.tmw_monitor.specs.BothMonitor.{FitsBoth, opacity_of, strict_of}
+use Rattle.tmw_judge.specs.declared.monitors.Monitors.{Monitors}
+use Rattle.tmw_judge.specs.declared.monitors.Monitors.TheVariants as monitors
 use Rattle.tmw_judge.specs.declared.report.Report.{Report}
 use Rattle.tmw_judge.specs.ByCriterion.{AreFor}
 
@@ -49,6 +54,25 @@ report_status (Both opacity strict) = both_status opacity.verdict strict.verdict
 abbrev pub JudgesBytes : {S K : Type 0} → FromSource S → ToSink K → Bounds → Asked → S → S → K → K → ℕ → Type 0
 JudgesBytes From To bounds asked = IsCommandRun From To (AnswersTrace bounds asked) report_lines report_status
 
--- On the way there: a monitor for each criterion that is asked for has been fed this history.
-abbrev pub AreFed : Header → Bounds → Asked → List Event → ByCriterion Monitor → Type 0
-AreFed header bounds asked history = AreFor asked (λ criterion. Fits (trace_rules header bounds criterion) history)
+-- The criteria that the monitors are for.
+abbrev pub asked_by : Monitors → Asked
+asked_by (monitors.Opacity monitor) = asks.Opacity
+asked_by (monitors.Strict monitor) = asks.Strict
+asked_by (monitors.Both both) = asks.Both
+
+-- The history fits each monitor by its criterion.
+abbrev pub FitMonitors : Header → Bounds → List Event → Monitors → Type 0
+FitMonitors header bounds history (monitors.Opacity monitor) = Fits (trace_rules header bounds by.Opacity) history monitor
+FitMonitors header bounds history (monitors.Strict monitor) = Fits (trace_rules header bounds by.Strict) history monitor
+FitMonitors header bounds history (monitors.Both both) = FitsBoth (trace_rules header bounds by.Opacity) history both
+
+-- On the way there: monitors for the criteria that are asked for have been fed this history.
+pub record AreFed (header : Header) (bounds : Bounds) (asked : Asked) (history : List Event) (monitors : Monitors) : Type 0 where
+  pub all : asked_by monitors ≡ asked
+  pub each : FitMonitors header bounds history monitors
+
+-- Each of them was fed fewer events than a run may have.
+abbrev pub HaveRoom : Monitors → Type 0
+HaveRoom (monitors.Opacity monitor) = fed_of monitor < 2 ^ 40
+HaveRoom (monitors.Strict monitor) = fed_of monitor < 2 ^ 40
+HaveRoom (monitors.Both both) = (fed_of (opacity_of both) < 2 ^ 40) × (fed_of (strict_of both) < 2 ^ 40)

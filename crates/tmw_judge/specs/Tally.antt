@@ -1,11 +1,14 @@
 -- Which events of a trace are counted beside their verdict: those up to the verdict's event, before it where the history is malformed,
 -- or all. With two verdicts the larger number of them is counted.
-use Rattle.tmw_judge.specs.Shared.{Asked, Bounds, Event, Header, Monitor, Summary, Verdict, verdict_of}
+use Rattle.tmw_judge.specs.Shared.{Asked, Bounds, Event, Header, Summary, Verdict, verdict_of}
 use Rattle.std.specs.Prelude.{ℕ, Bool, true, false, ◌&&◌, ◌||◌, List, length, max, take, Option, Some, None}
 use Rattle.tmw_counts.specs.CountedPart.{counted_by, is_open}
 use Rattle.tmw_counts.specs.Summary.{IsSummary}
 use Rattle.tmw_judge.specs.declared.by_criterion.ByCriterion.{ByCriterion}
 use Rattle.tmw_judge.specs.declared.by_criterion.ByCriterion.TheVariants.{Opacity, Strict, Both}
+use Rattle.tmw_monitor.specs.BothMonitor.{opacity_of, strict_of}
+use Rattle.tmw_judge.specs.declared.monitors.Monitors.{Monitors}
+use Rattle.tmw_judge.specs.declared.monitors.Monitors.TheVariants as monitors
 use Rattle.tmw_judge.specs.declared.judges.Judges.{Judges}
 use Rattle.tmw_judge.specs.Judge.{AreFed}
 
@@ -15,10 +18,10 @@ counted_of events (Opacity verdict) = counted_by events verdict
 counted_of events (Strict verdict) = counted_by events verdict
 counted_of events (Both opacity strict) = max (counted_by events opacity) (counted_by events strict)
 
-abbrev pub verdicts_of : ByCriterion Monitor → ByCriterion Verdict
-verdicts_of (Opacity monitor) = Opacity (verdict_of monitor)
-verdicts_of (Strict monitor) = Strict (verdict_of monitor)
-verdicts_of (Both opacity strict) = Both (verdict_of opacity) (verdict_of strict)
+abbrev pub verdicts_of : Monitors → ByCriterion Verdict
+verdicts_of (monitors.Opacity monitor) = Opacity (verdict_of monitor)
+verdicts_of (monitors.Strict monitor) = Strict (verdict_of monitor)
+verdicts_of (monitors.Both both) = Both (verdict_of (opacity_of both)) (verdict_of (strict_of both))
 
 -- The prefix of a history that is counted.
 abbrev pub counted_part : ByCriterion Verdict → List Event → List Event

@@ -1,11 +1,10 @@
 //! The monitors that judge a trace: one for each requested criterion.
-ghost use Rattle.tmw_judge.specs.Shared.{Asked, Bounds, Event, Fits, Header, Rules, TellsBroken, fed_of, verdict_of};
-ghost use Rattle.std.specs.Prelude.{◌≡◌, ◌==◌, ◌<◌, ◌^◌, List, [], IfOk, length};
+ghost use Rattle.tmw_judge.specs.Shared.{Asked, Bounds, Event, Fits, Header, Rules, TellsBroken};
+ghost use Rattle.std.specs.Prelude.{◌≡◌, ◌==◌, List, [], IfOk, length};
 ghost use Rattle.tmw_counts.specs.CountedPart.{counted_by};
-ghost use Rattle.tmw_judge.specs.ByCriterion.{Each};
 ghost use Rattle.tmw_judge.specs.Tally.{any_open, counted_of, verdicts_of};
 ghost use Rattle.tmw_judge.specs.FeedEvents.{FeedsEach};
-ghost use Rattle.tmw_judge.specs.Judge.{AreFed, AreReports, IsReportOn, trace_rules};
+ghost use Rattle.tmw_judge.specs.Judge.{AreFed, AreReports, HaveRoom, IsReportOn, trace_rules};
 
 use crate::by_criterion::ByCriterion;
 use crate::report::Report;
@@ -92,6 +91,7 @@ pub fn covers_last(monitors: &Monitors) -> bool
 /// Tells whether the last of so many events is counted beside this verdict.
 #[inline(always)]
 fn covers_event(events: u64, verdict: &Verdict) -> bool
+    ensures { result ≡ (counted_by events verdict.now == events) }
 {
     is_open(verdict) || counted_by(events, verdict) == events
 }
@@ -99,7 +99,7 @@ fn covers_event(events: u64, verdict: &Verdict) -> bool
 /// Feeds the event to each monitor.
 #[inline(always)]
 pub fn feed_copy(monitors: &mut Monitors, event: Event)
-    requires { Each (λ _ monitor. fed_of monitor < 2 ^ 40) monitors.old }
+    requires { HaveRoom monitors.old }
     ensures { FeedsEach monitors.old event monitors.new }
 {
     // A copy for the call alone, so that the event mostly stays in registers of the processor.
@@ -113,7 +113,7 @@ pub fn feed_copy(monitors: &mut Monitors, event: Event)
 /// Feeds the event to each monitor, as `feed_copy` does. It is called.
 #[inline(never)]
 fn feed_each(monitors: &mut Monitors, event: Event)
-    requires { Each (λ _ monitor. fed_of monitor < 2 ^ 40) monitors.old }
+    requires { HaveRoom monitors.old }
     ensures { FeedsEach monitors.old event monitors.new }
 {
     match monitors {

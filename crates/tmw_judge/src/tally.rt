@@ -7,8 +7,7 @@ use tmw_events::{Event, Registers};
 /// their steps are inlined into the reading of each kind's line, and an event is no value in memory.
 pub trait Tally: Drop {
     ghost use Rattle.std.specs.Prelude.{◌<◌, ◌-◌, ◌^◌, ℕ, Bool, List, [], ◌∷◌, ◌++◌, length, IsTrue};
-    ghost use Rattle.tmw_monitor.specs.Monitor.{fed_of};
-    ghost use Rattle.tmw_judge.specs.ByCriterion.{Each};
+    ghost use Rattle.tmw_judge.specs.Judge.{HaveRoom};
     ghost use Rattle.tmw_judge.specs.FeedEvents.{FeedsEach};
     ghost use Rattle.tmw_defs.specs.History.{is_well_formed};
     ghost use Rattle.tmw_events.specs.declared.event.Event.{Event};
@@ -33,7 +32,7 @@ pub trait Tally: Drop {
 
     /// Feeds an event to each monitor.
     fn feed(monitors: &mut Monitors, event: Event)
-        requires { Each (λ _ monitor. fed_of monitor < 2 ^ 40) monitors.old }
+        requires { HaveRoom monitors.old }
         ensures { FeedsEach monitors.old event monitors.new };
 
     /// Returns what the counted history has shown, if it counts.
