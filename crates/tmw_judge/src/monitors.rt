@@ -3,7 +3,7 @@ ghost use Rattle.tmw_judge.specs.Shared.{Asked, Bounds, Event, Fits, Header, Rul
 ghost use Rattle.std.specs.Prelude.{◌≡◌, ◌==◌, ◌<◌, ◌^◌, List, [], IfOk, length};
 ghost use Rattle.tmw_counts.specs.CountedPart.{counted_by};
 ghost use Rattle.tmw_judge.specs.ByCriterion.{Each};
-ghost use Rattle.tmw_judge.specs.Tally.{any_open, counted_of, verdicts_of};
+ghost use Rattle.tmw_judge.specs.Tally.{TellsCovered, any_open, verdicts_of};
 ghost use Rattle.tmw_judge.specs.FeedEvents.{FeedsEach};
 ghost use Rattle.tmw_judge.specs.Judge.{AreFed, AreReports, IsReportOn, trace_rules};
 
@@ -67,12 +67,10 @@ pub fn any_open(monitors: &ByCriterion<Monitor>) -> bool
     }
 }
 
-/// Tells whether the last event that was fed is counted beside some verdict.
+/// Tells whether the last event that was fed is counted.
 #[inline(always)]
 pub fn covers_last(monitors: &ByCriterion<Monitor>) -> bool
-    ensures { (header : Header) (bounds : Bounds) (asked : Asked) (history : List Event)
-        → AreFed header bounds asked history monitors.now
-        → result ≡ (counted_of (length history) (verdicts_of monitors.now) == length history) }
+    ensures { TellsCovered monitors.now result }
 {
     match monitors {
         ByCriterion::Opacity(monitor) | ByCriterion::Strict(monitor) => covers_last_of(monitor),
@@ -82,12 +80,16 @@ pub fn covers_last(monitors: &ByCriterion<Monitor>) -> bool
 
 /// Tells whether the last event that was fed is counted beside this monitor's verdict.
 #[inline(always)]
-fn covers_last_of(monitor: &Monitor) -> bool
+pub fn covers_last_of(monitor: &Monitor) -> bool
     ensures { (rules : Rules) (history : List Event) → Fits rules history monitor.now
         → result ≡ (counted_by (length history) (verdict_of monitor.now) == length history) }
 {
     let verdict = monitor.verdict();
-    is_open(&verdict) || counted_by(monitor.fed(), &verdict) == monitor.fed()
+    if is_open(&verdict) {
+        true
+    } else {
+        counted_by(monitor.fed(), &verdict) == monitor.fed()
+    }
 }
 
 /// Feeds the event to each monitor.

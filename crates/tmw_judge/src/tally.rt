@@ -1,6 +1,6 @@
 //! What is counted of the events that are judged: nothing, or what a history has shown.
 use crate::by_criterion::ByCriterion;
-use crate::monitors::feed_copy;
+use crate::monitors::{covers_last, covers_last_of, feed_copy};
 use tmw_counts::{Counter, Summary};
 use tmw_events::{Event, Registers};
 use tmw_monitor::Monitor;
@@ -14,7 +14,7 @@ pub trait Tally: Drop {
     ghost use Rattle.tmw_judge.specs.FeedEvents.{FeedsEach};
     ghost use Rattle.tmw_defs.specs.History.{is_well_formed};
     ghost use Rattle.tmw_events.specs.declared.event.Event.{Event};
-    ghost use Rattle.tmw_judge.specs.Tally.{HasSummary};
+    ghost use Rattle.tmw_judge.specs.Tally.{HasSummary, TellsCovered};
 
     /// Whether it counts.
     ghost counted: { Bool };
@@ -28,15 +28,18 @@ pub trait Tally: Drop {
 
     /// Counts the next event, with which the history stays well-formed. It has fewer than 2^64 - 1 events.
     fn take(&mut self, event: Event)
+        requires { (registers : ℕ) × (history : List Event) × counts registers history self.old
+            × IsTrue (is_well_formed registers (history ++ event ∷ [])) }
         ensures { (registers : ℕ) (history : List Event) → length history < 2 ^ 64 - 1
             → IsTrue (is_well_formed registers (history ++ event ∷ []))
             → counts registers history self.old
             → counts registers (history ++ event ∷ []) self.new };
 
-    /// Feeds an event to each monitor.
-    fn feed(monitors: &mut ByCriterion<Monitor>, event: Event)
+    /// Feeds an event to each monitor, and tells whether what is counted ends with it.
+    fn feed(monitors: &mut ByCriterion<Monitor>, event: Event) -> bool
         requires { Each (λ _ monitor. fed_of monitor < 2 ^ 40) monitors.old }
-        ensures { FeedsEach monitors.old event monitors.new };
+        ensures feeds { FeedsEach monitors.old event monitors.new }
+        ensures covers { TellsCovered monitors.new result };
 
     /// Returns what the counted history has shown, if it counts.
     fn summary(&self) -> Option<Summary>
@@ -64,12 +67,13 @@ impl Tally for NoTally {
     fn take(&mut self, _event: Event) {}
 
     #[inline(always)]
-    fn feed(monitors: &mut ByCriterion<Monitor>, event: Event) {
+    fn feed(monitors: &mut ByCriterion<Monitor>, event: Event) -> bool {
         if let ByCriterion::Opacity(monitor) = monitors {
             monitor.take(event);
-            return;
+            return covers_last_of(monitor);
         }
         feed_copy(monitors, event);
+        covers_last(monitors)
     }
 
     fn summary(&self) -> Option<Summary> {
@@ -97,12 +101,13 @@ impl Tally for StrictNoTally {
     fn take(&mut self, _event: Event) {}
 
     #[inline(always)]
-    fn feed(monitors: &mut ByCriterion<Monitor>, event: Event) {
+    fn feed(monitors: &mut ByCriterion<Monitor>, event: Event) -> bool {
         if let ByCriterion::Strict(monitor) = monitors {
             monitor.take(event);
-            return;
+            return covers_last_of(monitor);
         }
         feed_copy(monitors, event);
+        covers_last(monitors)
     }
 
     fn summary(&self) -> Option<Summary> {
@@ -124,12 +129,14 @@ impl Tally for Counter {
 
     #[inline(always)]
     fn take(&mut self, event: Event) {
-        let _refused = self.take(event);
+        let Ok(()) = self.take(event) else {
+            unreachable!();
+        };
     }
 
     #[inline(always)]
-    fn feed(monitors: &mut ByCriterion<Monitor>, event: Event) {
-        NoTally::feed(monitors, event);
+    fn feed(monitors: &mut ByCriterion<Monitor>, event: Event) -> bool {
+        NoTally::feed(monitors, event)
     }
 
     fn summary(&self) -> Option<Summary> {
