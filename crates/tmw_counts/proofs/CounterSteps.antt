@@ -1,8 +1,6 @@
 -- A counter that stands for a history, one event further.
-use Rattle.tmw_counts.proofs.Shared.{AllByRecursion, AreCounted, Bool, Counter, Counts, CountsSo, Event, HasCounts, HasWide, IsStep, IsTrue, Kind, Lies, List, None, Notes, Option, Some, Txn, X, [], aborts, add_event, and_parts, ap, arith, begun, both_ways, call_of, cases_Bool, cases_lt, commits, count_by, end_of, ends, eq-eqb, eqb-true, false, goes_on, if◌then◌else◌, inl, inr, is_aborted, is_call, is_committed, is_cut, is_some, is_unasked, is_well_formed, length, length-add, length-map, lies-transactions, live_count, live_count-add, live_of, max, meets, not, one_if, overlaps_any, pending_call, prefixes, refl, status_of, still, subst, suc, sym, take-push, take_all-push, text_of, transactions, transactions-push, transactions_from, true, zero, ℕ, ◌&&◌, ◌++◌, ◌+◌, ◌-◌, ◌<◌, ◌==◌, ◌^◌, ◌↔◌, ◌∙◌, ◌∷◌, ◌≡◌, ◌≤◌, lt-ltb, ltb-true, nat_lt}
+use Rattle.tmw_counts.proofs.Shared.{AllByRecursion, AreCounted, Bool, Counter, Counts, CountsSo, Event, HasCounts, HasThreads, HasWide, IsStep, IsTrue, Kind, Lies, List, None, Notes, Option, Some, Threads, Txn, X, [], aborts, add_event, and_parts, ap, arith, begun, both_ways, call_of, cases_Bool, cases_lt, commits, count_by, end_of, ends, eq-eqb, eqb-true, false, goes_on, if◌then◌else◌, inl, inr, is_aborted, is_call, is_committed, is_cut, is_some, is_unasked, is_well_formed, length, length-add, length-map, lies-transactions, live_count, live_count-add, live_of, lt-ltb, ltb-true, max, meets, nat_lt, not, one_if, overlaps_any, pending_call, prefixes, refl, status_of, still, subst, suc, sym, take-push, take_all-push, text_of, transactions, transactions-push, transactions_from, true, zero, ℕ, ◌&&◌, ◌++◌, ◌+◌, ◌-◌, ◌<◌, ◌==◌, ◌^◌, ◌↔◌, ◌∙◌, ◌∷◌, ◌≡◌, ◌≤◌}
 use Rattle.tmw_defs.proofs.TextsProof.{texts_law}
-use Rattle.tmw_counts.specs.declared.threads.Threads.{Threads}
-use Rattle.tmw_counts.specs.Threads.{HasThreads}
 use Rattle.tmw_wellformed.specs.declared.note.End.{End}
 use Rattle.tmw_wellformed.specs.declared.note.Note.{Note}
 use Rattle.tmw_wellformed.specs.declared.tracker.Tracker.{Tracker}
@@ -246,8 +244,16 @@ counted-push registers h e note others asked live old counts low so taken step =
           omega (arith, step.cuts, was.cuts, more, cut, count-length is_cut (prefixes h), prefixes-few h, low, one_if-le (live == 0));
       widest = λ most.
           let next = widest-push old.counts.widest so.cut h e so.last was.widest most in
+          let grows = λ (b : Bool). if b then max old.counts.widest (counts.transactions - old.before) else old.counts.widest in
+          let most_is : counts.widest ≡ max old.counts.widest (counts.transactions - old.before) = elim (cases_Bool note.begins) [
+            | inl is ↦ step.widest ∙ ap grows is
+            | inr past ↦
+                let within = widest-open old.counts.widest so.cut h so.last was.widest in
+                let none = ap one_if past in
+                step.widest ∙ ap grows past ∙ omega (arith, all, grown, counted, begins, flip, none, so.before, within)
+          ] in
           subst (λ (n : ℕ). HasWide most (h ++ e ∷ []) ↔ most < n)
-          (sym (step.widest ∙ ap (λ (n : ℕ). max old.counts.widest (n - old.before)) all
+          (sym (most_is ∙ ap (λ (n : ℕ). max old.counts.widest (n - old.before)) all
           ∙ ap (λ (n : ℕ). max old.counts.widest (length (transactions (h ++ e ∷ [])) - n)) so.before)) next;
     }
 
@@ -377,7 +383,7 @@ module _ {registers : ℕ} {h : List Event} {e : Event} {note : Note} {others as
           );
           all = omega (arith, was.all, no_begin, few, low);
           unasked = omega (arith, was.unasked, not_unasked, few, low, count-length (λ (t : Txn). is_unasked t.text) ts);
-          widest = omega (arith, was.all, so.before, widest-open old.counts.widest so.cut h so.last was.widest);
+          widest = ap (λ (b : Bool). if b then max old.counts.widest (old.counts.transactions - old.before) else old.counts.widest) (sym begins);
         };
         before = ap (λ (b : Bool). if b then old.counts.transactions else old.before) (sym some);
         apart = rw (begins, some) (sym (stays old.apart));

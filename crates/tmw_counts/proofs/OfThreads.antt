@@ -1,8 +1,5 @@
 -- Of which threads a history has events: an event of a live transaction is of no new thread.
-use Rattle.tmw_counts.proofs.Shared.{Bool, Event, List, Txn, [], add_event, ap, arith, cases_Bool, eq-eqb, eqb-true, false, inl, inr, is_some, list_any, live_of, not, refl, sym, transactions, transactions_from, true, ℕ, ◌++◌, ◌+◌, ◌==◌, ◌||◌, ◌∙◌, ◌∷◌, ◌≡◌}
-use Rattle.tmw_counts.specs.declared.threads.Threads.{Threads}
-use Rattle.tmw_counts.specs.Threads.{HasThreads, first_thread}
-use Rattle.tmw_defs.specs.Counts.{has_two_threads}
+use Rattle.tmw_counts.proofs.Shared.{Bool, Event, HasThreads, List, Threads, Txn, [], add_event, arith, cases_Bool, eq-eqb, eqb-true, false, first_thread, has_two_threads, inl, inr, is_some, list_any, live_of, not, refl, sym, transactions, transactions_from, true, ℕ, ◌++◌, ◌+◌, ◌==◌, ◌||◌, ◌∙◌, ◌∷◌, ◌≡◌}
 
 -- a transaction of this thread
 abbrev has_transaction : ℕ → List Txn → Bool

@@ -1,6 +1,5 @@
 -- The cuts and the widest window of a history, with one event more.
-use Rattle.tmw_counts.proofs.Shared.{Event, HasWide, HasWide-open, HasWide_push, IsCutAt, IsCutAt-push, IsCutAt_push, IsFalse, IsLastCut, IsLastCut-open, IsTrue, List, [], ap, arith, cases_lt, count_by, drop, inl, inr, is_cut, is_cut-push, length, length-add, length-push, map-append, max, one_if, prefixes, refl, subst, suc, sym, take, take-append-drop-push, take-push, take_all, take_all-push, transactions, transactions-push, zero, ℕ, ◌++◌, ◌+◌, ◌-◌, ◌<◌, ◌↔◌, ◌∙◌, ◌∷◌, ◌≡◌, ◌≤◌}
-use Rattle.std.proofs.lemmas.List.{take-append-drop}
+use Rattle.tmw_counts.proofs.Shared.{Event, HasWide, HasWide-open, HasWide_push, IsCutAt, IsCutAt-push, IsCutAt_push, IsFalse, IsLastCut, IsLastCut-open, IsTrue, List, [], ap, arith, cases_lt, count_by, drop, inl, inr, is_cut, is_cut-push, length, length-add, length-push, map-append, max, one_if, prefixes, refl, subst, suc, sym, take, take-append-drop, take-append-drop-push, take-push, take_all, take_all-push, transactions, transactions-push, zero, ℕ, ◌++◌, ◌+◌, ◌-◌, ◌<◌, ◌↔◌, ◌∙◌, ◌∷◌, ◌≡◌, ◌≤◌}
 use Rattle.tmw_counts.proofs.Sums.{count-append}
 use Rattle.tmw_cuts.proofs.AcrossCuts.{length-transactions_cut}
 

@@ -98,8 +98,10 @@ impl Counter {
         self.counts.overlapping = self.counts.overlapping.saturating_add(met);
         self.counts.transactions = add_if(self.counts.transactions, note.begins);
         self.counts.unasked = add_if(self.counts.unasked, aborts(note.ends) && !asked);
-        let open = self.counts.transactions.saturating_sub(self.before);
-        self.counts.widest = self.counts.widest.max(open);
+        if note.begins {
+            let open = self.counts.transactions.saturating_sub(self.before);
+            self.counts.widest = self.counts.widest.max(open);
+        }
         if live == 0 {
             self.before = self.counts.transactions;
         }
@@ -152,7 +154,7 @@ impl Counter {
 
 /// Adds one to a count, if there is one more. The greatest number of 64 bits stays.
 #[inline(always)]
-const fn add_if(count: u64, more: bool) -> u64
+fn add_if(count: u64, more: bool) -> u64
     ensures { result ≡ held (count + one_if more) }
 {
     count.saturating_add(u64::from(more))

@@ -1,9 +1,5 @@
 -- The part of a history that is counted, with one event more.
-use Rattle.std.proofs.Common.{max, ◌==◌}
-use Rattle.tmw_counts.specs.CountedPart.{counted_by}
-use Rattle.tmw_defs.specs.declared.verdict.Verdict.{Verdict}
-use Rattle.tmw_judge.proofs.Shared.{AreFed, AreJudged, AreReports, Asked, Bool, Both, Bounds, ByCriterion, CountsFor, Event, Header, IsFalse, IsTrue, Judges, List, Monitor, Opacity, Report, Strict, [], any_open, ap, arith, as_formed, as_formed-le, both_ways, cases_Bool, counted_of, counted_part, false, inl, inr, is_open, length, length-push, step, subst, sym, take, take-push, take_all-push, take_whole, told_verdicts, trace_rules, true, verdict_of, verdicts_of, ℕ, ◌++◌, ◌+◌, ◌||◌, ◌∙◌, ◌∷◌, ◌≡◌, ◌≤◌}
-use Rattle.std.proofs.lemmas.Bool.{cases_lt, eq-eqb, eqb-true}
+use Rattle.tmw_judge.proofs.Shared.{AreFed, AreJudged, AreReports, Asked, Bool, Both, Bounds, ByCriterion, CountsFor, Event, Header, IsTrue, Judges, List, Monitor, Opacity, Report, Strict, Verdict, [], any_open, ap, arith, as_formed, as_formed-le, both_ways, cases_Bool, cases_lt, counted_by, counted_of, counted_part, eq-eqb, eqb-true, false, inl, inr, is_open, length, length-push, max, step, subst, sym, take, take-push, take_all-push, take_whole, told_verdicts, trace_rules, true, verdict_of, verdicts_of, ℕ, ◌++◌, ◌+◌, ◌==◌, ◌||◌, ◌∙◌, ◌∷◌, ◌≡◌, ◌≤◌}
 use Rattle.tmw_defs.proofs.QuietProof.{or_none}
 use Rattle.tmw_defs.specs.History.{is_well_formed}
 use Rattle.tmw_defs.proofs.VerdictProof.{verdict-one}
@@ -138,7 +134,7 @@ pub judged-more : {C : Type 0} (Counts : CountsFor C) (header : Header) (bounds 
 judged-more {C = C} Counts header bounds asked h e old new was fed more same =
     let s = steps header bounds asked h e old.monitors new.monitors was.fed fed in
     let kept : covers header bounds asked h e new.monitors ≡ false → (xs : List Event) → counted_part (verdicts_of old.monitors) h ≡ xs
-        → Counts header.registers.number xs new.counting =
+    → Counts header.registers.number xs new.counting =
     λ is xs part. subst (λ (c : C). Counts header.registers.number xs c) (sym (same is))
     (subst (λ (ys : List Event). Counts header.registers.number ys old.counting) part was.counted) in
     record {

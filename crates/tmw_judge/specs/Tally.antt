@@ -1,8 +1,7 @@
 -- Which events of a trace are counted beside their verdict: those up to the verdict's event, before it where the history is malformed,
 -- or all. With two verdicts the larger number of them is counted.
-use Rattle.tmw_judge.specs.Shared.{Asked, Bounds, Event, Header, Monitor, Summary, Verdict, verdict_of}
+use Rattle.tmw_judge.specs.Shared.{Asked, Bounds, Event, Header, Monitor, Summary, Verdict, counted_by, is_open, verdict_of}
 use Rattle.std.specs.Prelude.{◌≡◌, ◌==◌, ℕ, Bool, true, false, ◌&&◌, ◌||◌, List, length, max, take, Option, Some, None}
-use Rattle.tmw_counts.specs.CountedPart.{counted_by, is_open}
 use Rattle.tmw_counts.specs.Summary.{IsSummary}
 use Rattle.tmw_judge.specs.declared.by_criterion.ByCriterion.{ByCriterion}
 use Rattle.tmw_judge.specs.declared.by_criterion.ByCriterion.TheVariants.{Opacity, Strict, Both}

@@ -1,7 +1,6 @@
-ghost use Rattle.tmw_judge.specs.Shared.{HasFailed, IsOver, reading_failures};
+ghost use Rattle.tmw_judge.specs.Shared.{HasFailed, IsOver, append-nil, append_assoc, reading_failures};
 ghost use Rattle.std.specs.Prelude.{◌≡◌, ◌++◌, IfErr, OnOk};
 ghost use Rattle.tmw_judge.specs.FeedEvents.{AreFedAllRead, FeedsEvents, judges_taking};
-ghost use Rattle.std.proofs.Common.{append_assoc, append-nil};
 
 use crate::judges::Judges;
 use crate::tally::Tally;

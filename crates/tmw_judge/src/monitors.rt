@@ -1,7 +1,6 @@
 //! The monitors that judge a trace: one for each requested criterion.
-ghost use Rattle.tmw_judge.specs.Shared.{Asked, Bounds, Event, Fits, Header, Rules, TellsBroken, fed_of, verdict_of};
+ghost use Rattle.tmw_judge.specs.Shared.{Asked, Bounds, Event, Fits, Header, Rules, TellsBroken, counted_by, fed_of, verdict_of};
 ghost use Rattle.std.specs.Prelude.{◌≡◌, ◌==◌, ◌<◌, ◌^◌, List, [], IfOk, length};
-ghost use Rattle.tmw_counts.specs.CountedPart.{counted_by};
 ghost use Rattle.tmw_judge.specs.ByCriterion.{Each};
 ghost use Rattle.tmw_judge.specs.Tally.{TellsCovered, any_open, verdicts_of};
 ghost use Rattle.tmw_judge.specs.FeedEvents.{FeedsEach};

@@ -1,6 +1,5 @@
 -- A `LastWindow` takes events by being fed them.
-use Rattle.tmw_window.proofs.Shared.{Event, [], arith, length-append, ℕ, ◌+◌, ◌<◌, ◌^◌, ◌∷◌}
-use Rattle.std.proofs.Common.{◌++◌}
+use Rattle.tmw_window.proofs.Shared.{Event, [], arith, length-append, ℕ, ◌++◌, ◌+◌, ◌<◌, ◌^◌, ◌∷◌}
 use Rattle.tmw_window.specs.declared.last_window.LastWindow.{LastWindow}
 use Rattle.tmw_window.specs.WindowTaker.{WatchesSoMany, window_taking}
 

@@ -1,6 +1,5 @@
 -- What was told is the first line and what was read behind it.
-use Rattle.tmw_show.proofs.Shared.{Err, [], refl, rules_for, trace_grammar, ◌++◌}
-use Rattle.std.proofs.Common.{◌∷◌}
+use Rattle.tmw_show.proofs.Shared.{Err, [], refl, rules_for, trace_grammar, ◌++◌, ◌∷◌}
 use Rattle.tmw_lines.specs.declared.text_fault.TextFault.TheVariants.{Memory}
 use Rattle.tmw_lines.proofs.TextsRead.{given-read, soon-behind, text_fault-first, text_fault-read}
 use Rattle.tmw_streams.proofs.Transfers.{Tells-more}
