@@ -1,8 +1,6 @@
 -- A counter that stands for a history, one event further.
-use Rattle.tmw_counts.proofs.Shared.{AllByRecursion, AreCounted, Bool, Counter, Counts, CountsSo, Event, HasCounts, HasWide, IsStep, IsTrue, Kind, Lies, List, None, Notes, Option, Some, Txn, X, [], aborts, add_event, and_parts, ap, arith, begun, both_ways, call_of, cases_Bool, commits, count_by, end_of, ends, eq-eqb, eqb-true, false, goes_on, if◌then◌else◌, inl, inr, is_aborted, is_call, is_committed, is_cut, is_some, is_unasked, is_well_formed, length, length-add, length-map, lies-transactions, live_count, live_count-add, live_of, max, meets, not, one_if, overlaps_any, pending_call, prefixes, refl, status_of, still, subst, suc, sym, take-push, take_all-push, text_of, transactions, transactions-push, transactions_from, true, zero, ℕ, ◌&&◌, ◌++◌, ◌+◌, ◌-◌, ◌<◌, ◌==◌, ◌^◌, ◌↔◌, ◌∙◌, ◌∷◌, ◌≡◌, ◌≤◌}
+use Rattle.tmw_counts.proofs.Shared.{AllByRecursion, AreCounted, Bool, Counter, Counts, CountsSo, Event, HasCounts, HasThreads, HasWide, IsStep, IsTrue, Kind, Lies, List, None, Notes, Option, Some, Threads, Txn, X, [], aborts, add_event, and_parts, ap, arith, begun, both_ways, call_of, cases_Bool, cases_lt, commits, count_by, end_of, ends, eq-eqb, eqb-true, false, goes_on, if◌then◌else◌, inl, inr, is_aborted, is_call, is_committed, is_cut, is_some, is_unasked, is_well_formed, length, length-add, length-map, lies-transactions, live_count, live_count-add, live_of, lt-ltb, ltb-true, max, meets, nat_lt, not, one_if, overlaps_any, pending_call, prefixes, refl, status_of, still, subst, suc, sym, take-push, take_all-push, text_of, transactions, transactions-push, transactions_from, true, zero, ℕ, ◌&&◌, ◌++◌, ◌+◌, ◌-◌, ◌<◌, ◌==◌, ◌^◌, ◌↔◌, ◌∙◌, ◌∷◌, ◌≡◌, ◌≤◌}
 use Rattle.tmw_defs.proofs.TextsProof.{texts_law}
-use Rattle.tmw_counts.specs.declared.threads.Threads.{Threads}
-use Rattle.tmw_counts.specs.Threads.{HasThreads}
 use Rattle.tmw_wellformed.specs.declared.note.End.{End}
 use Rattle.tmw_wellformed.specs.declared.note.Note.{Note}
 use Rattle.tmw_wellformed.specs.declared.tracker.Tracker.{Tracker}
@@ -11,7 +9,7 @@ use Rattle.tmw_wellformed.proofs.TrackerSteps.{is_well_formed-push}
 use Rattle.tmw_counts.proofs.Outcomes.{aborted-add, committed-add, unasked-add}
 use Rattle.tmw_counts.proofs.Overlaps.{apart-begins, apart-ends, apart-grows, apart-none, begins-add, grows-add, is_apart, old-all, overlapping-begins, overlapping-grows}
 use Rattle.tmw_counts.proofs.Sums.{count-cons, count-length, one_if-le}
-use Rattle.tmw_counts.proofs.Windows.{cuts-push, last-cut, last-uncut, widest-push}
+use Rattle.tmw_counts.proofs.Windows.{cuts-push, last-cut, last-uncut, widest-open, widest-push}
 
 -- a history has no more transactions than events, and no more cuts
 transactions-few : (h : List Event) → length (transactions h) ≤ length h
@@ -246,8 +244,16 @@ counted-push registers h e note others asked live old counts low so taken step =
           omega (arith, step.cuts, was.cuts, more, cut, count-length is_cut (prefixes h), prefixes-few h, low, one_if-le (live == 0));
       widest = λ most.
           let next = widest-push old.counts.widest so.cut h e so.last was.widest most in
+          let grows = λ (b : Bool). if b then max old.counts.widest (counts.transactions - old.before) else old.counts.widest in
+          let most_is : counts.widest ≡ max old.counts.widest (counts.transactions - old.before) = elim (cases_Bool note.begins) [
+            | inl is ↦ step.widest ∙ ap grows is
+            | inr past ↦
+                let within = widest-open old.counts.widest so.cut h so.last was.widest in
+                let none = ap one_if past in
+                step.widest ∙ ap grows past ∙ omega (arith, all, grown, counted, begins, flip, none, so.before, within)
+          ] in
           subst (λ (n : ℕ). HasWide most (h ++ e ∷ []) ↔ most < n)
-          (sym (step.widest ∙ ap (λ (n : ℕ). max old.counts.widest (n - old.before)) all
+          (sym (most_is ∙ ap (λ (n : ℕ). max old.counts.widest (n - old.before)) all
           ∙ ap (λ (n : ℕ). max old.counts.widest (length (transactions (h ++ e ∷ [])) - n)) so.before)) next;
     }
 
@@ -298,3 +304,113 @@ counts-push registers h e note others asked live old new tracker threads low so 
       unasked = counted.unasked;
       widest = counted.widest;
     }
+
+-- so much is known of one, by how many transactions were live before it
+pub taken-of : (registers : ℕ) (h : List Event) (e : Event) (note : Note) (asked : Bool) (before live : ℕ) (old new : Tracker)
+    → Tracks registers h old → Tracks registers (h ++ e ∷ []) new → Notes h e note → before ≡ live_count h
+    → (IsTrue asked ↔ (pending_call e.thread.number h ≡ Some X)) → live ≡ live_count (h ++ e ∷ [])
+    → ((live ≡ 0) ↔ IsTrue (is_cut (h ++ e ∷ []))) → Taken registers h e note (nat_lt 0 before) asked live
+taken-of registers h e note asked before live old new was now notes others asks count cut = record {
+  before = was.formed;
+  formed = now.formed;
+  notes = notes;
+  some = λ is. (let more = ltb-true 0 before is in omega (arith, more, others));
+  none = λ is. elim (cases_lt 0 before) [
+    | inl more ↦ absurd (both_ways _ is (lt-ltb 0 before more))
+    | inr least ↦ omega (arith, least, others)
+  ];
+  asks = asks;
+  count = count;
+  cut = cut;
+}
+
+module _ {registers : ℕ} {h : List Event} {e : Event} {note : Note} {others asked : Bool} {live : ℕ}
+    (taken : Taken registers h e note others asked live) where
+  -- an event that begins a transaction ends none
+  pub begins-none : note.begins ≡ true → note.ends ≡ None
+  begins-none is = taken.notes.ends ∙ no_end e.kind (begins-ends registers h e taken.before taken.formed (goes-on is))
+    where
+      goes-on : note.begins ≡ true → is_some (live_in h e) ≡ false
+      goes-on is = elim (cases_Bool (is_some (live_in h e))) [
+        | inl has ↦ absurd (let bad : true ≡ false = sym is ∙ (begins_is h e note taken.notes ∙ ap not has) in cc)
+        | inr none ↦ none
+      ]
+
+      no_end : (k : Kind) → ends k ≡ false → end_of k ≡ None
+      no_end k is = grind arith
+
+  -- one that begins none goes on with its thread's
+  pub goes-live : note.begins ≡ false → is_some (live_in h e) ≡ true
+  goes-live is = elim (cases_Bool (is_some (live_in h e))) [
+    | inl has ↦ has
+    | inr none ↦ absurd (let bad : true ≡ false = sym (begins_is h e note taken.notes ∙ ap not none) ∙ is in cc)
+  ]
+
+  -- an event in the midst of a transaction changes no count
+  pub step-midst : (old : Counter) (tracker : Tracker) → length h < 2 ^ 64 - 1 → CountsSo registers h old → note.begins ≡ false → note.ends ≡ None
+      → IsStep note others asked live (record old { tracker = tracker; threads = old.threads }) (record old { tracker = tracker })
+  step-midst old tracker low so begins ends_none =
+      let ts = transactions h in
+      let was = so.counts in
+      let few = transactions-few h in
+      let has = goes-live begins in
+      let on : ends e.kind ≡ false = goes_on_kind e.kind (sym taken.notes.ends ∙ ends_none) in
+      let now = taken.count ∙ ap (count_by still) (transactions-push h e) in
+      let counted = live_count-add (length h) e ts in
+      let same : live ≡ count_by still ts =
+      omega (arith, counted, now, ap one_if has, ap (λ (b : Bool). one_if (not b)) on) in
+      let some : (live == 0) ≡ false = positive live (omega (arith, same, some-live e.thread.number ts has)) in
+      let no_abort = ap (λ (o : Option End). one_if (aborts o)) ends_none in
+      let no_commit = ap (λ (o : Option End). one_if (commits o)) ends_none in
+      let not_unasked = ap (λ (o : Option End). one_if (aborts o && not asked)) ends_none in
+      let no_begin = ap one_if begins in
+      let never = ap one_if some in
+      record {
+        tracker = refl;
+        threads = refl;
+        counts = record {
+          aborted = omega (arith, was.aborted, no_abort, few, low, count-length (λ (t : Txn). is_aborted (status_of t.text)) ts);
+          committed = omega (arith, was.committed, no_commit, few, low, count-length (λ (t : Txn). is_committed (status_of t.text)) ts);
+          cuts = omega (arith, was.cuts, never, low, count-length is_cut (prefixes h), prefixes-few h);
+          live_now = was.live ∙ sym same;
+          overlapping = omega (
+            arith,
+            was.overlapping,
+            ap (λ (b : Bool). meets b others old.apart) begins,
+            few,
+            low,
+            count-length (overlaps_any ts) ts,
+          );
+          all = omega (arith, was.all, no_begin, few, low);
+          unasked = omega (arith, was.unasked, not_unasked, few, low, count-length (λ (t : Txn). is_unasked t.text) ts);
+          widest = ap (λ (b : Bool). if b then max old.counts.widest (old.counts.transactions - old.before) else old.counts.widest) (sym begins);
+        };
+        before = ap (λ (b : Bool). if b then old.counts.transactions else old.before) (sym some);
+        apart = rw (begins, some) (sym (stays old.apart));
+      }
+    where
+      goes_on_kind : (k : Kind) → end_of k ≡ None → ends k ≡ false
+      goes_on_kind k is = grind arith
+
+      positive : (n : ℕ) → 0 < n → (n == 0) ≡ false
+      positive n more = elim (cases_Bool (n == 0)) [
+        | inl none ↦ absurd (omega (arith, more, eqb-true n 0 none))
+        | inr some ↦ some
+      ]
+
+      stays : (b : Bool) → (b && not false) ≡ b
+      stays true = refl
+      stays false = refl
+
+  -- the step by what is known of the event
+  pub step-begins : (old new : Counter) → note.begins ≡ true
+      → IsStep (record { begins = true; ends = None }) others asked live old new → IsStep note others asked live old new
+  step-begins old new is step =
+      subst (λ (b : Bool). IsStep (record { begins = b; ends = note.ends }) others asked live old new) (sym is)
+      (subst (λ (o : Option End). IsStep (record { begins = true; ends = o }) others asked live old new) (sym (begins-none is)) step)
+
+  pub step-ends : (old new : Counter) (end : End) → note.begins ≡ false → note.ends ≡ Some end
+      → IsStep (record { begins = false; ends = Some end }) others asked live old new → IsStep note others asked live old new
+  step-ends old new end is ended step =
+      subst (λ (b : Bool). IsStep (record { begins = b; ends = note.ends }) others asked live old new) (sym is)
+      (subst (λ (o : Option End). IsStep (record { begins = false; ends = o }) others asked live old new) (sym ended) step)

@@ -1,5 +1,6 @@
 pub mod CountedPart
 mod CounterSteps
+mod OfThreads
 mod Outcomes
 mod Overlaps
 mod Shared

@@ -1,5 +1,5 @@
 -- The cuts and the widest window of a history, with one event more.
-use Rattle.tmw_counts.proofs.Shared.{Event, HasWide, HasWide-open, HasWide_push, IsCutAt, IsCutAt-push, IsCutAt_push, IsFalse, IsLastCut, IsLastCut-open, IsTrue, List, [], ap, arith, cases_lt, count_by, drop, inl, inr, is_cut, is_cut-push, length, length-add, length-push, map-append, max, one_if, prefixes, refl, subst, sym, take, take-append-drop-push, take-push, take_all, take_all-push, transactions, transactions-push, ℕ, ◌++◌, ◌+◌, ◌-◌, ◌<◌, ◌↔◌, ◌∙◌, ◌∷◌, ◌≡◌, ◌≤◌}
+use Rattle.tmw_counts.proofs.Shared.{Event, HasWide, HasWide-open, HasWide_push, IsCutAt, IsCutAt-push, IsCutAt_push, IsFalse, IsLastCut, IsLastCut-open, IsTrue, List, [], ap, arith, cases_lt, count_by, drop, inl, inr, is_cut, is_cut-push, length, length-add, length-push, map-append, max, one_if, prefixes, refl, subst, suc, sym, take, take-append-drop, take-append-drop-push, take-push, take_all, take_all-push, transactions, transactions-push, zero, ℕ, ◌++◌, ◌+◌, ◌-◌, ◌<◌, ◌↔◌, ◌∙◌, ◌∷◌, ◌≡◌, ◌≤◌}
 use Rattle.tmw_counts.proofs.Sums.{count-append}
 use Rattle.tmw_cuts.proofs.AcrossCuts.{length-transactions_cut}
 
@@ -75,6 +75,30 @@ widest-push w c h e last is most =
         | inr past ↦ HasWide-open most c h e last (omega (arith, less, past, lasts))
       ],
     )
+
+-- the widest window has no fewer transactions than the open one
+pub widest-open : (w c : ℕ) (h : List Event) → IsLastCut h c → ((most : ℕ) → HasWide most h ↔ most < w)
+    → length (transactions h) ≤ length (transactions (take c h)) + w
+widest-open w c h last is = reaches (length (transactions (drop c h))) refl
+  where
+    parts : length (transactions h) ≡ length (transactions (take c h)) + length (transactions (drop c h))
+    parts = ap (λ (xs : List Event). length (transactions xs)) (sym (take-append-drop c h)) ∙ length-transactions_cut (take c h) (drop c h) last.is.1
+
+    reaches : (n : ℕ) → length (transactions (drop c h)) ≡ n → length (transactions h) ≤ length (transactions (take c h)) + w
+    reaches zero none = omega (arith, parts, none)
+    reaches (suc most) some =
+        let less = (is most).0 record {
+          from = c;
+          upto = length h;
+          window = record {
+            order = last.is.0;
+            opens = last.is;
+            inside = λ at after before cut. last.last at after cut;
+            closes = inl refl;
+          };
+          wide = rw (take_all (length h) h (omega arith)) (omega (arith, some));
+        } in
+        omega (arith, parts, some, less)
 
 -- the last cut with the event
 pub last-uncut : (c : ℕ) (h : List Event) (e : Event) → IsLastCut h c → IsFalse (is_cut (h ++ e ∷ [])) → IsLastCut (h ++ e ∷ []) c

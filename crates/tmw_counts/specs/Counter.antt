@@ -53,7 +53,7 @@ pub record AreCounted (note : Note) (others asked : Bool) (live : ℕ) (old : Co
   pub overlapping : counts.overlapping ≡ held (old.counts.overlapping + meets note.begins others old.apart)
   pub all : counts.transactions ≡ held (old.counts.transactions + one_if note.begins)
   pub unasked : counts.unasked ≡ held (old.counts.unasked + one_if (aborts note.ends && not asked))
-  pub widest : counts.widest ≡ max old.counts.widest (counts.transactions - old.before)
+  pub widest : counts.widest ≡ (if note.begins then max old.counts.widest (counts.transactions - old.before) else old.counts.widest)
 
 -- What that event makes of the counter.
 pub record IsStep (note : Note) (others asked : Bool) (live : ℕ) (old new : Counter) : Type 0 where

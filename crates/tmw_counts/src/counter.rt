@@ -1,5 +1,5 @@
-ghost use Rattle.std.specs.Prelude.{◌≡◌, ◌<◌, ◌-◌, ◌^◌, ℕ, List, [], ◌∷◌, ◌++◌, length, IfOk, IfErr, OnErr};
-ghost use Rattle.tmw_counts.specs.Counter.{AreCounted, CountsSo, IsStep, aborts, commits, meets};
+ghost use Rattle.std.specs.Prelude.{◌≡◌, ◌+◌, ◌<◌, ◌-◌, ◌^◌, ℕ, true, false, Some, None, List, [], ◌∷◌, ◌++◌, length, IfOk, IfErr, OnErr};
+ghost use Rattle.tmw_counts.specs.Counter.{CountsSo, IsStep, aborts, commits, held, meets, one_if};
 ghost use Rattle.tmw_counts.specs.Summary.{IsSummary};
 ghost use Rattle.tmw_events.specs.declared.event.Event.{Event};
 ghost use Rattle.tmw_wellformed.specs.Faults.{Refuses};
@@ -7,7 +7,7 @@ ghost use Rattle.tmw_wellformed.specs.Faults.{Refuses};
 use crate::summary::Summary;
 use crate::threads::Threads;
 use tmw_defs::Counts;
-use tmw_events::{Event, Ix, Registers};
+use tmw_events::{Event, Registers};
 use tmw_wellformed::{End, Malformed, Note, Tracker};
 
 /// Counts what a history has shown, event by event, and refuses each event that would make it ill-formed. It holds no event.
@@ -59,11 +59,16 @@ impl Counter {
         let others = self.tracker.live() > 0;
         let asked = self.tracker.asks_abort(event.thread);
         let note = self.tracker.step(event)?;
+        let live = self.tracker.live();
         // Most events are in the midst of a transaction, and change no count.
         if note.begins {
-            self.count_begin(event.thread, others);
-        } else if let Some(end) = note.ends {
-            self.count_end(end, asked);
+            self.threads = self.threads.with(event.thread);
+            self.count_begin(others, asked, live);
+            return Ok(());
+        }
+        match note.ends {
+            Some(end) => self.count_end(end, others, asked, live),
+            None => {}
         }
         Ok(())
     }
@@ -85,51 +90,52 @@ impl Counter {
     fn count(&mut self, note: Note, others: bool, asked: bool, live: u8)
         ensures { IsStep note others asked live self.old self.new }
     {
-        let counts = self.counted(note, others, asked, live);
+        let met = self.met(note.begins, others);
+        self.counts.aborted = add_if(self.counts.aborted, aborts(note.ends));
+        self.counts.committed = add_if(self.counts.committed, commits(note.ends));
+        self.counts.cuts = add_if(self.counts.cuts, live == 0);
+        self.counts.live = u64::from(live);
+        self.counts.overlapping = self.counts.overlapping.saturating_add(met);
+        self.counts.transactions = add_if(self.counts.transactions, note.begins);
+        self.counts.unasked = add_if(self.counts.unasked, aborts(note.ends) && !asked);
+        if note.begins {
+            let open = self.counts.transactions.saturating_sub(self.before);
+            self.counts.widest = self.counts.widest.max(open);
+        }
         if live == 0 {
-            self.before = counts.transactions;
+            self.before = self.counts.transactions;
         }
         self.apart = if note.begins {
             !others
         } else {
             self.apart && live > 0
         };
-        self.counts = counts;
     }
 
+    /// Counts the first event of a transaction, as `count` does. It is called.
     #[inline(never)]
-    fn count_begin(&mut self, thread: Ix, others: bool) {
-        self.threads = self.threads.with(thread);
-        let live = self.tracker.live();
-        self.count(Note { begins: true, ends: None }, others, false, live);
-    }
-
-    #[inline(never)]
-    fn count_end(&mut self, end: End, asked: bool) {
-        let live = self.tracker.live();
-        self.count(Note { begins: false, ends: Some(end) }, false, asked, live);
-    }
-
-    /// Returns the counts with that event.
-    #[inline(always)]
-    fn counted(&self, note: Note, others: bool, asked: bool, live: u8) -> Counts
-        ensures { AreCounted note others asked live self.now result }
+    fn count_begin(&mut self, others: bool, asked: bool, live: u8)
+        ensures { IsStep (record { begins = true; ends = None }) others asked live self.old
+            self.new }
     {
-        let was = self.counts;
-        let transactions = was.transactions.saturating_add(u64::from(note.begins));
-        let met = self.met(note.begins, others);
-        Counts {
-            aborted: was.aborted.saturating_add(u64::from(aborts(note.ends))),
-            committed: was.committed.saturating_add(u64::from(commits(note.ends))),
-            cuts: was.cuts.saturating_add(u64::from(live == 0)),
-            live: u64::from(live),
-            overlapping: was.overlapping.saturating_add(met),
-            transactions,
-            unasked: was
-                .unasked
-                .saturating_add(u64::from(aborts(note.ends) && !asked)),
-            widest: was.widest.max(transactions.saturating_sub(self.before)),
-        }
+        let note = Note {
+            begins: true,
+            ends: None,
+        };
+        self.count(note, others, asked, live);
+    }
+
+    /// Counts the last event of a transaction, as `count` does. It is called.
+    #[inline(never)]
+    fn count_end(&mut self, end: End, others: bool, asked: bool, live: u8)
+        ensures { IsStep (record { begins = false; ends = Some end }) others asked live self.old
+            self.new }
+    {
+        let note = Note {
+            begins: false,
+            ends: Some(end),
+        };
+        self.count(note, others, asked, live);
     }
 
     /// How many transactions overlap another from this event on: the one that it begins where others are live, and then the one
@@ -144,6 +150,14 @@ impl Counter {
             0
         }
     }
+}
+
+/// Adds one to a count, if there is one more. The greatest number of 64 bits stays.
+#[inline(always)]
+fn add_if(count: u64, more: bool) -> u64
+    ensures { result ≡ held (count + one_if more) }
+{
+    count.saturating_add(u64::from(more))
 }
 
 #[inline(always)]

@@ -1,7 +1,5 @@
 -- The part of a history that is counted, with one event more.
-use Rattle.std.proofs.Common.{◌==◌}
-use Rattle.tmw_judge.proofs.Shared.{AreFed, AreJudged, AreReports, Asked, Bool, Both, Bounds, ByCriterion, CountsFor, Event, Header, IsFalse, IsTrue, Judges, List, Monitor, Opacity, Report, Strict, [], any_open, ap, arith, as_formed, as_formed-le, cases_Bool, counted_of, counted_part, false, inl, inr, is_open, length, length-push, step, subst, sym, take, take-push, take_all-push, take_whole, told_verdicts, trace_rules, true, verdict_of, verdicts_of, ℕ, ◌++◌, ◌+◌, ◌||◌, ◌∙◌, ◌∷◌, ◌≡◌, ◌≤◌}
-use Rattle.std.proofs.lemmas.Bool.{eq-eqb, eqb-true}
+use Rattle.tmw_judge.proofs.Shared.{AreFed, AreJudged, AreReports, Asked, Bool, Both, Bounds, ByCriterion, CountsFor, Event, Header, IsTrue, Judges, List, Monitor, Opacity, Report, Strict, Verdict, [], any_open, ap, arith, as_formed, as_formed-le, both_ways, cases_Bool, cases_lt, counted_by, counted_of, counted_part, eq-eqb, eqb-true, false, inl, inr, is_open, length, length-push, max, step, subst, sym, take, take-push, take_all-push, take_whole, told_verdicts, trace_rules, true, verdict_of, verdicts_of, ℕ, ◌++◌, ◌+◌, ◌==◌, ◌||◌, ◌∙◌, ◌∷◌, ◌≡◌, ◌≤◌}
 use Rattle.tmw_defs.proofs.QuietProof.{or_none}
 use Rattle.tmw_defs.specs.History.{is_well_formed}
 use Rattle.tmw_defs.proofs.VerdictProof.{verdict-one}
@@ -136,7 +134,7 @@ pub judged-more : {C : Type 0} (Counts : CountsFor C) (header : Header) (bounds 
 judged-more {C = C} Counts header bounds asked h e old new was fed more same =
     let s = steps header bounds asked h e old.monitors new.monitors was.fed fed in
     let kept : covers header bounds asked h e new.monitors ≡ false → (xs : List Event) → counted_part (verdicts_of old.monitors) h ≡ xs
-        → Counts header.registers.number xs new.counting =
+    → Counts header.registers.number xs new.counting =
     λ is xs part. subst (λ (c : C). Counts header.registers.number xs c) (sym (same is))
     (subst (λ (ys : List Event). Counts header.registers.number ys old.counting) part was.counted) in
     record {
@@ -158,6 +156,50 @@ judged-more {C = C} Counts header bounds asked h e old new was fed more same =
             (sym (part-same header bounds asked h e old.monitors new.monitors s is))
       ];
     }
+
+-- an event that is counted keeps the history well-formed, and all before it was counted
+pub counted-before : {C : Type 0} (Counts : CountsFor C) (header : Header) (bounds : Bounds) (asked : Asked) (h : List Event) (e : Event)
+    (old : Judges C) (new : ByCriterion Monitor) → AreJudged Counts header bounds asked h old → AreFed header bounds asked (h ++ e ∷ []) new
+    → covers header bounds asked h e new ≡ true
+    → Counts header.registers.number h old.counting × IsTrue (is_well_formed header.registers.number (h ++ e ∷ []))
+counted-before Counts header bounds asked h e old new was fed all =
+    let s = steps header bounds asked h e old.monitors new was.fed fed in
+    elim (cases_Bool (any_open (verdicts_of old.monitors))) [
+      | inl is ↦ elim (cases_Bool (is_well_formed header.registers.number (h ++ e ∷ []))) [
+        | inl well ↦ (
+          subst (λ (xs : List Event). Counts header.registers.number xs old.counting) (part-before header bounds asked h e old.monitors new s is)
+              was.counted,
+          well,
+        )
+        | inr broken ↦ absurd (both_ways _ (covers-ill header bounds asked h e old.monitors new s is broken) all)
+      ]
+      | inr is ↦ absurd (both_ways _ (covers-shut header bounds asked h e old.monitors new s is) all)
+    ]
+
+-- an open verdict covers all
+pub covers-open : (n : ℕ) (v : Verdict) → is_open v ≡ true → (counted_by n v == n) ≡ true
+covers-open n v is = grind (arith, eq-eqb)
+
+-- of two verdicts the one that covers more counts
+pub covers-both : (a b n : ℕ) → a ≤ n → b ≤ n → ((a == n) || (b == n)) ≡ (max a b == n)
+covers-both a b n low less = elim (cases_Bool (a == n)) [
+  | inl one ↦ rw one (sym (eq-eqb (max a b) n (let is = eqb-true a n one in omega (arith, is, less))))
+  | inr past ↦ elim (cases_Bool (b == n)) [
+    | inl one ↦ rw (past, one) (sym (eq-eqb (max a b) n (let is = eqb-true b n one in omega (arith, is, low))))
+    | inr none ↦ rw (past, none) (sym (elim (cases_Bool (max a b == n)) [
+      | inl all ↦
+          let is = eqb-true (max a b) n all in
+          elim (cases_lt a n) [
+            | inr full ↦ absurd (both_ways _ past (eq-eqb a n (omega (arith, full, low))))
+            | inl short ↦ elim (cases_lt b n) [
+              | inr full ↦ absurd (both_ways _ none (eq-eqb b n (omega (arith, full, less))))
+              | inl shorter ↦ absurd (omega (arith, is, short, shorter))
+            ]
+          ]
+      | inr fails ↦ fails
+    ]))
+  ]
+]
 
 -- the verdicts that are reported are the monitors'
 pub told-same : (header : Header) (bounds : Bounds) (asked : Asked) (h : List Event) (monitors : ByCriterion Monitor) (reports : ByCriterion Report)

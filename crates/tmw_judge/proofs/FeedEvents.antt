@@ -1,9 +1,5 @@
 -- Reading on to the end: the judges have been fed the events of the lines read.
-use Rattle.std.proofs.Common.{OnOk}
-use Rattle.tmw_judge.proofs.Shared.{AreFedAllRead, AreFedSoMany, AreJudged, AreReadAndFed, Asked, BadHeader, BadLine, Bounds, CountsFor, Cut, Err, Event, FeedsEvents, FromSource, HasRead, Header, IfOk, Io, Judges, Lines, List, Memory, Ok, Result, TextFault, TooLong, Version, judges_taking, refl, sym, trace_grammar, ℕ, ◌++◌, ◌≡◌}
-use Rattle.tmw_lines.specs.GiveItems.{AreGiven, GivesAll}
-use Rattle.tmw_lines.specs.declared.items.Reached.{Reached}
-use Rattle.tmw_lines.specs.declared.items.Reached.TheVariants.{End, Stop}
+use Rattle.tmw_judge.proofs.Shared.{AreFedAllRead, AreFedSoMany, AreGiven, AreJudged, AreReadAndFed, Asked, BadHeader, BadLine, Bounds, CountsFor, Cut, End, Err, Event, FeedsEvents, FromSource, GivesAll, HasRead, Header, IfOk, Io, Judges, Lines, List, Memory, Ok, OnOk, Reached, Result, Stop, TextFault, TooLong, Version, judges_taking, refl, sym, trace_grammar, ℕ, ◌++◌, ◌≡◌}
 
 -- the judges have been fed as many events as lines were read behind the header's
 pub fed-so_many : {C : Type 0} (Counts : CountsFor C) (lines : Lines Version) (judges : Judges C) → AreFedAllRead Counts lines judges

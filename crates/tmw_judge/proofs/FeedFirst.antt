@@ -1,8 +1,5 @@
 -- Reading on to the event at which all verdicts are final.
-use Rattle.tmw_judge.proofs.Shared.{AreJudged, AreOpen, AreReadFirst, Asked, BadHeader, BadLine, Bounds, CountsFor, Cut, Err, Event, FeedsFirst, FromSource, HasRead, Header, Io, Judges, Lines, List, Memory, Ok, Result, Tells-none, TextFault, TooLong, Version, [], any_open, append-nil, append_assoc, false, inl, inr, trace_grammar, true, verdicts_of, ℕ, ◌++◌, ◌∷◌, ◌≡◌}
-use Rattle.tmw_lines.specs.GiveItems.{AreGiven, GivesAll}
-use Rattle.tmw_lines.specs.declared.items.Reached.{Reached}
-use Rattle.tmw_lines.specs.declared.items.Reached.TheVariants.{End, Stop}
+use Rattle.tmw_judge.proofs.Shared.{AreGiven, AreJudged, AreOpen, AreReadFirst, Asked, BadHeader, BadLine, Bounds, CountsFor, Cut, End, Err, Event, FeedsFirst, FromSource, GivesAll, HasRead, Header, Io, Judges, Lines, List, Memory, Ok, Reached, Result, Stop, Tells-none, TextFault, TooLong, Version, [], any_open, append-nil, append_assoc, false, inl, inr, trace_grammar, true, verdicts_of, ℕ, ◌++◌, ◌∷◌, ◌≡◌}
 use Rattle.tmw_judge.specs.UntilFinal.{until_final_taking}
 use Rattle.tmw_judge.specs.declared.until_final.UntilFinal.{UntilFinal}
 use Rattle.tmw_judge.proofs.FirstOpen.{AreOpenBefore-push, open-fed}

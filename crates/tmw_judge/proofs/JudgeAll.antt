@@ -1,5 +1,6 @@
 -- Judging a trace: its first line is read, then its events are fed, and what was told is what was read.
-use Rattle.tmw_judge.proofs.Shared.{AnswersFed, AreReadAndFed, AreReadFor, Asked, BadHeader, BadLine, Bounds, CountsFor, Cut, Err, Event, FeedsEvents, FromSource, HasTextFault, Header, Io, IsBeginning, Judges, Lines, List, Memory, Ok, QuotesHeld, QuotesLine, ReadsBeginning, Tells, Tells-more, TextFault, ToSink, TooLong, Version, [], false, fault_of, format_by, front_of, number_of, quoted-first, quoted-read, refl, trace_grammar, unread_bytes, ℕ, ◌++◌}
+use Rattle.tmw_judge.proofs.Shared.{AnswersFed, AreReadAndFed, AreReadFor, Asked, BadHeader, BadLine, Bounds, CountsFor, Cut, Err, Event, FeedsEvents, FromSource, Header, Io, IsBeginning, Judges, Lines, List, Memory, Ok, QuotesHeld, QuotesLine, ReadsBeginning, Tells, Tells-more, TextFault, ToSink, TooLong, Version, [], false, fault_of, format_by, front_of, number_of, quoted-first, quoted-read, refl, trace_grammar, unread_bytes, ℕ, ◌++◌}
+use Rattle.tmw_lines.specs.TextFault.{HasTextFault}
 use Rattle.tmw_lines.proofs.TextsRead.{soon-behind, text_fault-first, text_fault-read}
 
 module _ {C : Type 0} (Counts : CountsFor C) where

@@ -1,18 +1,20 @@
 -- What the proofs of this crate take from the libraries, from the crates below and from its specs.
-pub use Rattle.std.proofs.Common.{Bool, Err, IfErr, IfOk, IsFalse, IsTrue, List, None, Ok, OnErr, Option, Result, Some, [], ap, append-nil, append_assoc, arith, false, inl, inr, length, length-append, refl, rules, subst, sym, true, ℕ, ◌++◌, ◌+◌, ◌-◌, ◌<◌, ◌^◌, ◌||◌, ◌∙◌, ◌∷◌, ◌≡◌, ◌≤◌}
-pub use Rattle.std.proofs.lemmas.Bool.{both_ways, cases_Bool, or_cases}
+pub use Rattle.std.proofs.Common.{Bool, Err, IfOk, IsTrue, List, Ok, OnOk, Option, Result, [], ap, append-nil, append_assoc, arith, false, inl, inr, length, length-append, max, refl, rules, subst, sym, true, ℕ, ◌++◌, ◌+◌, ◌-◌, ◌<◌, ◌==◌, ◌^◌, ◌||◌, ◌∙◌, ◌∷◌, ◌≡◌, ◌≤◌}
+pub use Rattle.std.proofs.lemmas.Bool.{both_ways, cases_Bool, cases_lt, eq-eqb, eqb-true, or_cases}
 pub use Rattle.std.specs.Prelude.{take}
 pub use Rattle.tmw_counts.proofs.CountedPart.{as_formed, as_formed-le, fine_of, step, take_whole}
-pub use Rattle.tmw_counts.specs.CountedPart.{is_open}
+pub use Rattle.tmw_counts.specs.CountedPart.{counted_by, is_open}
 pub use Rattle.tmw_counts.specs.declared.summary.Summary.{Summary}
 pub use Rattle.tmw_defs.proofs.WindowsProof.{length-push, take-push, take_all-push}
 pub use Rattle.tmw_defs.specs.declared.criterion.Asked.{Asked}
 pub use Rattle.tmw_defs.specs.declared.verdict.Verdict.{Verdict}
 pub use Rattle.tmw_events.specs.declared.event.Event.{Event}
+pub use Rattle.tmw_lines.specs.GiveItems.{AreGiven, GivesAll}
 pub use Rattle.tmw_lines.specs.LineFeeds.{front_of}
-pub use Rattle.tmw_lines.specs.Lines.{FailsAtLine, HasRead, IsReading, ReadsNext, format_by, unread, unread_bytes}
-pub use Rattle.tmw_lines.specs.ReadItems.{AreReadFor, FailsBehind, FailsHolding}
-pub use Rattle.tmw_lines.specs.TextFault.{HasTextFault, failures_after}
+pub use Rattle.tmw_lines.specs.Lines.{HasRead, format_by, unread_bytes}
+pub use Rattle.tmw_lines.specs.ReadItems.{AreReadFor, FailsBehind}
+pub use Rattle.tmw_lines.specs.declared.items.Reached.{Reached}
+pub use Rattle.tmw_lines.specs.declared.items.Reached.TheVariants.{End, Stop}
 pub use Rattle.tmw_lines.specs.declared.lines.Lines.{Lines}
 pub use Rattle.tmw_lines.specs.declared.text_fault.TextFault.{TextFault}
 pub use Rattle.tmw_lines.specs.declared.text_fault.TextFault.TheVariants.{BadHeader, BadLine, Cut, Io, Memory, TooLong}

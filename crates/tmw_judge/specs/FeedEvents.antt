@@ -1,7 +1,6 @@
 -- What is read where the events of a trace are fed to its judges as their lines are read, and what the judges have taken of it.
-use Rattle.tmw_judge.specs.Shared.{Asked, Bounds, EndsBehind, Event, FailsHolding, FromSource, HasFirstLineFault, HasRead, Header, Lines, Memory, Tells, TextFault, Version, trace_grammar, unread_bytes}
+use Rattle.tmw_judge.specs.Shared.{Asked, Bounds, EndsBehind, Event, FailsHolding, FromSource, HasFirstLineFault, HasRead, Header, Lines, Memory, Taking, Tells, TextFault, Version, trace_grammar, unread_bytes}
 use Rattle.std.specs.Prelude.{◌≡◌, ℕ, Result, Ok, Err, List, [], ◌∷◌, ◌++◌, length}
-use Rattle.tmw_lines.specs.Taker.{Taking}
 use Rattle.tmw_lines.specs.LineFeeds.{HoldsFront}
 use Rattle.tmw_judge.specs.declared.monitors.Monitors.{Monitors}
 use Rattle.tmw_judge.specs.Tally.{AreJudged, CountsFor}

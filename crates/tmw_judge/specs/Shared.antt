@@ -1,4 +1,6 @@
 -- What the definitions and contracts of this crate take from the libraries and from the crates below.
+pub use Rattle.std.proofs.Common.{append-nil, append_assoc}
+pub use Rattle.tmw_counts.specs.CountedPart.{counted_by, is_open}
 pub use Rattle.tmw_counts.specs.declared.summary.Summary.{Summary}
 pub use Rattle.tmw_defs.specs.Verdict.{IsVerdict, Rules}
 pub use Rattle.tmw_defs.specs.declared.criterion.Asked.{Asked}
@@ -7,6 +9,7 @@ pub use Rattle.tmw_defs.specs.declared.verdict.Verdict.{Verdict}
 pub use Rattle.tmw_events.specs.declared.event.Event.{Event}
 pub use Rattle.tmw_lines.specs.Lines.{HasFailed, HasRead, IsNew, IsOver, unread_bytes}
 pub use Rattle.tmw_lines.specs.ReadItems.{EndsBehind, FailsBehind, FailsHolding}
+pub use Rattle.tmw_lines.specs.Taker.{Taking}
 pub use Rattle.tmw_lines.specs.TextFault.{EndsSoon, HasFirstLineFault, HasTextFault, reading_failures}
 pub use Rattle.tmw_lines.specs.declared.lines.Lines.{Lines}
 pub use Rattle.tmw_lines.specs.declared.text_fault.TextFault.{TextFault}

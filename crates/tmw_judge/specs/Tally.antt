@@ -1,8 +1,7 @@
 -- Which events of a trace are counted beside their verdict: those up to the verdict's event, before it where the history is malformed,
 -- or all. With two verdicts the larger number of them is counted.
-use Rattle.tmw_judge.specs.Shared.{Asked, Bounds, Event, Header, Summary, Verdict, verdict_of}
-use Rattle.std.specs.Prelude.{ℕ, Bool, true, false, ◌&&◌, ◌||◌, List, length, max, take, Option, Some, None}
-use Rattle.tmw_counts.specs.CountedPart.{counted_by, is_open}
+use Rattle.tmw_judge.specs.Shared.{Asked, Bounds, Event, Header, Summary, Verdict, counted_by, is_open, verdict_of}
+use Rattle.std.specs.Prelude.{◌≡◌, ◌==◌, ℕ, Bool, true, false, ◌&&◌, ◌||◌, List, length, max, take, Option, Some, None}
 use Rattle.tmw_counts.specs.Summary.{IsSummary}
 use Rattle.tmw_judge.specs.declared.by_criterion.ByCriterion.{ByCriterion}
 use Rattle.tmw_judge.specs.declared.by_criterion.ByCriterion.TheVariants.{Opacity, Strict, Both}
@@ -36,6 +35,11 @@ pub record AreJudged {C : Type 0} (Counts : CountsFor C) (header : Header) (boun
     (judges : Judges C) : Type 0 where
   pub fed : AreFed header bounds asked history judges.monitors
   pub counted : Counts header.registers.number (counted_part (verdicts_of judges.monitors) history) judges.counting
+
+-- It is told of monitors whether the counted prefix of the history that they have been fed is all of it.
+abbrev pub TellsCovered : Monitors → Bool → Type 0
+TellsCovered had told = (header : Header) (bounds : Bounds) (asked : Asked) (history : List Event)
+    → AreFed header bounds asked history had → told ≡ (counted_of (length history) (verdicts_of had) == length history)
 
 -- One of these verdicts says that nothing is wrong so far.
 abbrev pub any_open : ByCriterion Verdict → Bool

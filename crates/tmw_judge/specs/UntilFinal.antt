@@ -1,7 +1,6 @@
 -- What judges have taken that stop at the event at which all their verdicts are final.
-use Rattle.tmw_judge.specs.Shared.{Event}
+use Rattle.tmw_judge.specs.Shared.{Event, Taking}
 use Rattle.std.specs.Prelude.{◌≡◌, true, false, [], ◌∷◌}
-use Rattle.tmw_lines.specs.Taker.{Taking}
 use Rattle.tmw_judge.specs.FeedEvents.{AreFedSoMany, TakeEvents}
 use Rattle.tmw_judge.specs.Tally.{CountsFor, any_open, verdicts_of}
 use Rattle.tmw_judge.specs.declared.until_final.UntilFinal.{UntilFinal}

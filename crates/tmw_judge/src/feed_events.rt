@@ -1,24 +1,21 @@
-ghost use Rattle.tmw_judge.specs.Shared.{HasFailed, IsOver, reading_failures};
+ghost use Rattle.tmw_judge.specs.Shared.{HasFailed, IsOver, append-nil, append_assoc, reading_failures};
 ghost use Rattle.std.specs.Prelude.{◌≡◌, ◌++◌, IfErr, OnOk};
 ghost use Rattle.tmw_judge.specs.FeedEvents.{AreFedAllRead, FeedsEvents, judges_taking};
-ghost use Rattle.std.proofs.Common.{append_assoc, append-nil};
 
 use crate::judges::Judges;
-use crate::monitors::covers_last;
 use crate::tally::Tally;
 use tmw_events::Event;
 use tmw_lines::{Reached, Stop, Taker, TextFault, give_items};
 use tmw_streams::Source;
 use tmw_trace::TraceLines;
 
-/// Judges take events by being fed them, and never stop. Each event is counted while some verdict says that nothing is wrong.
+/// Judges take events by being fed them, and never stop. Each event up to the verdict's is counted, or all.
 impl<C: Tally> Taker<Event> for Judges<C> {
     ghost taking = { judges_taking C.counts };
 
     #[inline(always)]
     fn take(&mut self, event: Event) -> Result<(), Stop> {
-        C::feed(&mut self.monitors, event);
-        if covers_last(&self.monitors) {
+        if C::feed(&mut self.monitors, event) {
             self.counting.take(event);
         }
         Ok(())

@@ -1,8 +1,7 @@
 //! The monitors that judge a trace: one for each requested criterion.
-ghost use Rattle.tmw_judge.specs.Shared.{Asked, Bounds, Event, Fits, Header, Rules, TellsBroken};
-ghost use Rattle.std.specs.Prelude.{◌≡◌, ◌==◌, List, [], IfOk, length};
-ghost use Rattle.tmw_counts.specs.CountedPart.{counted_by};
-ghost use Rattle.tmw_judge.specs.Tally.{any_open, counted_of, verdicts_of};
+ghost use Rattle.tmw_judge.specs.Shared.{Asked, Bounds, Event, Fits, Header, Rules, TellsBroken, counted_by};
+ghost use Rattle.std.specs.Prelude.{◌≡◌, ◌==◌, List, [], IfOk};
+ghost use Rattle.tmw_judge.specs.Tally.{TellsCovered, any_open, verdicts_of};
 ghost use Rattle.tmw_judge.specs.FeedEvents.{FeedsEach};
 ghost use Rattle.tmw_judge.specs.Judge.{AreFed, AreReports, HaveRoom, IsReportOn, trace_rules};
 
@@ -71,12 +70,10 @@ pub fn any_open(monitors: &Monitors) -> bool
     }
 }
 
-/// Tells whether the last event that was fed is counted beside some verdict.
+/// Tells whether the last event that was fed is counted.
 #[inline(always)]
 pub fn covers_last(monitors: &Monitors) -> bool
-    ensures { (header : Header) (bounds : Bounds) (asked : Asked) (history : List Event)
-        → AreFed header bounds asked history monitors.now
-        → result ≡ (counted_of (length history) (verdicts_of monitors.now) == length history) }
+    ensures { TellsCovered monitors.now result }
 {
     match monitors {
         Monitors::Opacity(monitor) | Monitors::Strict(monitor) => {
@@ -90,10 +87,14 @@ pub fn covers_last(monitors: &Monitors) -> bool
 
 /// Tells whether the last of so many events is counted beside this verdict.
 #[inline(always)]
-fn covers_event(events: u64, verdict: &Verdict) -> bool
+pub fn covers_event(events: u64, verdict: &Verdict) -> bool
     ensures { result ≡ (counted_by events verdict.now == events) }
 {
-    is_open(verdict) || counted_by(events, verdict) == events
+    if is_open(verdict) {
+        true
+    } else {
+        counted_by(events, verdict) == events
+    }
 }
 
 /// Feeds the event to each monitor.

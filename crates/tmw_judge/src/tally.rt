@@ -1,5 +1,5 @@
 //! What is counted of the events that are judged: nothing, or what a history has shown.
-use crate::monitors::{Monitors, feed_copy};
+use crate::monitors::{Monitors, covers_event, covers_last, feed_copy};
 use tmw_counts::{Counter, Summary};
 use tmw_events::{Event, Registers};
 
@@ -11,7 +11,7 @@ pub trait Tally: Drop {
     ghost use Rattle.tmw_judge.specs.FeedEvents.{FeedsEach};
     ghost use Rattle.tmw_defs.specs.History.{is_well_formed};
     ghost use Rattle.tmw_events.specs.declared.event.Event.{Event};
-    ghost use Rattle.tmw_judge.specs.Tally.{HasSummary};
+    ghost use Rattle.tmw_judge.specs.Tally.{HasSummary, TellsCovered};
 
     /// Whether it counts.
     ghost counted: { Bool };
@@ -25,15 +25,18 @@ pub trait Tally: Drop {
 
     /// Counts the next event, with which the history stays well-formed. It has fewer than 2^64 - 1 events.
     fn take(&mut self, event: Event)
+        requires { (registers : ℕ) × (history : List Event) × counts registers history self.old
+            × IsTrue (is_well_formed registers (history ++ event ∷ [])) }
         ensures { (registers : ℕ) (history : List Event) → length history < 2 ^ 64 - 1
             → IsTrue (is_well_formed registers (history ++ event ∷ []))
             → counts registers history self.old
             → counts registers (history ++ event ∷ []) self.new };
 
-    /// Feeds an event to each monitor.
-    fn feed(monitors: &mut Monitors, event: Event)
+    /// Feeds an event to each monitor, and tells whether what is counted ends with it.
+    fn feed(monitors: &mut Monitors, event: Event) -> bool
         requires { HaveRoom monitors.old }
-        ensures { FeedsEach monitors.old event monitors.new };
+        ensures feeds { FeedsEach monitors.old event monitors.new }
+        ensures covers { TellsCovered monitors.new result };
 
     /// Returns what the counted history has shown, if it counts.
     fn summary(&self) -> Option<Summary>
@@ -61,12 +64,13 @@ impl Tally for NoTally {
     fn take(&mut self, _event: Event) {}
 
     #[inline(always)]
-    fn feed(monitors: &mut Monitors, event: Event) {
+    fn feed(monitors: &mut Monitors, event: Event) -> bool {
         if let Monitors::Opacity(monitor) = monitors {
             monitor.take(event);
-            return;
+            return covers_event(monitor.fed(), &monitor.verdict());
         }
         feed_copy(monitors, event);
+        covers_last(monitors)
     }
 
     fn summary(&self) -> Option<Summary> {
@@ -94,12 +98,13 @@ impl Tally for StrictNoTally {
     fn take(&mut self, _event: Event) {}
 
     #[inline(always)]
-    fn feed(monitors: &mut Monitors, event: Event) {
+    fn feed(monitors: &mut Monitors, event: Event) -> bool {
         if let Monitors::Strict(monitor) = monitors {
             monitor.take(event);
-            return;
+            return covers_event(monitor.fed(), &monitor.verdict());
         }
         feed_copy(monitors, event);
+        covers_last(monitors)
     }
 
     fn summary(&self) -> Option<Summary> {
@@ -127,12 +132,13 @@ impl Tally for BothNoTally {
     fn take(&mut self, _event: Event) {}
 
     #[inline(always)]
-    fn feed(monitors: &mut Monitors, event: Event) {
+    fn feed(monitors: &mut Monitors, event: Event) -> bool {
         if let Monitors::Both(both) = monitors {
             both.take(event);
-            return;
+        } else {
+            feed_copy(monitors, event);
         }
-        feed_copy(monitors, event);
+        covers_last(monitors)
     }
 
     fn summary(&self) -> Option<Summary> {
@@ -154,12 +160,14 @@ impl Tally for Counter {
 
     #[inline(always)]
     fn take(&mut self, event: Event) {
-        let _refused = self.take(event);
+        let Ok(()) = self.take(event) else {
+            unreachable!();
+        };
     }
 
     #[inline(always)]
-    fn feed(monitors: &mut Monitors, event: Event) {
-        NoTally::feed(monitors, event);
+    fn feed(monitors: &mut Monitors, event: Event) -> bool {
+        NoTally::feed(monitors, event)
     }
 
     fn summary(&self) -> Option<Summary> {

@@ -1,6 +1,6 @@
+ghost use Rattle.tmw_judge.specs.Shared.{append-nil, append_assoc};
 ghost use Rattle.std.specs.Prelude.{◌++◌};
 ghost use Rattle.tmw_judge.specs.UntilFinal.{until_final_taking};
-ghost use Rattle.std.proofs.Common.{append_assoc, append-nil};
 
 use crate::judges::Judges;
 use crate::monitors::any_open;

@@ -1,5 +1,5 @@
 -- What the proofs of this crate take from the libraries, from the crates below and from its specs.
-pub use Rattle.std.proofs.Common.{All, Bool, IsFalse, IsTrue, List, OnOk, Result, [], ap, ap₂, arith, false, get_or, inl, inr, length, nat_lt, not, refl, rules, subst, sym, take-append-drop, true, ℕ, ◌%◌, ◌&&◌, ◌++◌, ◌+◌, ◌-◌, ◌<◌, ◌==◌, ◌^◌, ◌↔◌, ◌∙◌, ◌∷◌, ◌≡◌, ◌≤◌}
+pub use Rattle.std.proofs.Common.{All, Bool, IsFalse, IsTrue, List, [], ap, ap₂, arith, false, get_or, inl, inr, length, nat_lt, not, refl, rules, subst, sym, take-append-drop, true, ℕ, ◌%◌, ◌&&◌, ◌++◌, ◌+◌, ◌-◌, ◌<◌, ◌==◌, ◌^◌, ◌↔◌, ◌∙◌, ◌∷◌, ◌≡◌, ◌≤◌}
 pub use Rattle.std.proofs.Math.Seq.{drop-append-add, take-add, take-append-add, take-length}
 pub use Rattle.std.proofs.lemmas.Bool.{and_from, and_parts, cases_lt, ltb-true}
 pub use Rattle.std.proofs.lemmas.List.{drop-append-le, drop-set-lt, drop_all, length-append, length-drop, length-set, length-take-le, take-take, take_all, take_more}

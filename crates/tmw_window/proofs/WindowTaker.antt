@@ -1,5 +1,5 @@
 -- A `LastWindow` takes events by being fed them.
-use Rattle.tmw_window.proofs.Shared.{Event, OnOk, Result, [], arith, length-append, ℕ, ◌+◌, ◌<◌, ◌^◌, ◌∷◌}
+use Rattle.tmw_window.proofs.Shared.{Event, [], arith, length-append, ℕ, ◌++◌, ◌+◌, ◌<◌, ◌^◌, ◌∷◌}
 use Rattle.tmw_window.specs.declared.last_window.LastWindow.{LastWindow}
 use Rattle.tmw_window.specs.WindowTaker.{WatchesSoMany, window_taking}
 
@@ -7,8 +7,12 @@ use Rattle.tmw_window.specs.WindowTaker.{WatchesSoMany, window_taking}
 pub has_room : (window : LastWindow) (count : ℕ) → count < 2 ^ 40 → WatchesSoMany window count → window.monitor.count < 2 ^ 40
 has_room window count few so = grind arith
 
--- one event more, where it was taken
-pub counted-taken : {Done Fault : Type 0} (result : Result Done Fault) (before after : LastWindow) (event : Event)
-    → OnOk result (window_taking.takes before (event ∷ []) after)
-    → OnOk result ((count : ℕ) → WatchesSoMany before count → WatchesSoMany after (count + 1))
-counted-taken result before after event taken = grind (arith, length-append)
+-- one event more was taken
+pub counted-taken : (before after : LastWindow) (event : Event) → window_taking.takes before (event ∷ []) after
+    → (count : ℕ) → WatchesSoMany before count → WatchesSoMany after (count + 1)
+counted-taken before after event taken count so = record {
+  rules = so.rules;
+  history = so.history ++ event ∷ [];
+  watches = taken so.rules so.history so.watches;
+  counted = omega (arith, so.counted, length-append so.history (event ∷ []));
+}

@@ -1,5 +1,5 @@
 -- What was told is the first line and what was read behind it.
-use Rattle.tmw_show.proofs.Shared.{Err, [], refl, rules_for, trace_grammar, ◌++◌}
+use Rattle.tmw_show.proofs.Shared.{Err, [], refl, rules_for, trace_grammar, ◌++◌, ◌∷◌}
 use Rattle.tmw_lines.specs.declared.text_fault.TextFault.TheVariants.{Memory}
 use Rattle.tmw_lines.proofs.TextsRead.{given-read, soon-behind, text_fault-first, text_fault-read}
 use Rattle.tmw_streams.proofs.Transfers.{Tells-more}
@@ -24,10 +24,26 @@ returns-in-Err-clause-right g c =
           c.quote_fault.new.errors c.in-Err.fault first.2 first.3 c.quote_fault.ensures.told,
     )
 
-pub returns-in-Ok-give_items-clause-right : goal.returns-in-Ok-give_items-clause-right
-returns-in-Ok-give_items-clause-right g c =
+pub returns-in-Ok-Stop-clause-right : goal.returns-in-Ok-Stop-clause-right
+returns-in-Ok-Stop-clause-right g c =
     let first = c.in-Ok.ensures.header in
-    let all = c.in-Ok-give_items.ensures.gives in
+    let all = rw c.in-Ok-Stop.field-0-is at c.in-Ok-Stop.ensures.gives in
+    let bytes = first.0 ++ all.bytes in (
+      bytes,
+      Tells-more g.S.Source.from c.args.source.now c.header.new.source c.give_items.new.source first.0 all.bytes first.1 all.told,
+      (
+        Memory,
+        refl,
+        soon-behind trace_grammar c.give_items.new.lines c.in-Ok.header (all.items ++ all.given.last ∷ []) bytes
+            (all.given.read c.in-Ok.header [] first.0 first.2),
+      ),
+      refl,
+    )
+
+pub returns-in-Ok-End-clause-right : goal.returns-in-Ok-End-clause-right
+returns-in-Ok-End-clause-right g c =
+    let first = c.in-Ok.ensures.header in
+    let all = rw c.in-Ok-End.field-0-is at c.in-Ok-End.ensures.gives in
     let header = c.in-Ok.header in
     let end = all.given.0 header [] first.0 first.2 in
     let judged_by = rules_for c.args.options.criterion header.registers header.initial c.args.options.bounds in
@@ -46,7 +62,7 @@ returns-in-Err-give_items-clause-right g c =
     let all = c.in-Err-give_items.ensures.gives in
     let Ended = g.S.Source.from.ended c.give_items.new.source in
     let bytes = first.0 ++ all.bytes in
-    let read = given-read {Done = Unit {0}} trace_grammar Ended window_taking c.header.new.self c.give_items.new.lines
+    let read = given-read trace_grammar Ended window_taking c.header.new.self c.give_items.new.lines
     c.in-Ok-new.window c.give_items.new.taker all.items all.bytes (Err c.in-Err-give_items.fault) all.given c.in-Ok.header [] first.0
     first.2 in
     rw c.quote_fault-in-Err-give_items.ensures.fault (
