@@ -10,76 +10,76 @@ module _ (header : Header) (bounds : Bounds) (asked : Asked) (h : List Event) (e
   formed = is_well_formed header.registers.number (h ++ e ∷ [])
 
   -- How much is counted by all verdicts, before the event and with it.
-  pub record Steps (old new : ByCriterion Monitor) : Type 0 where
+  pub record Steps (old new : Monitors) : Type 0 where
     pub within : counted_of (length h) (verdicts_of old) ≤ length h
     pub all : any_open (verdicts_of old) ≡ true → counted_of (length h) (verdicts_of old) ≡ length h
     pub next : any_open (verdicts_of old) ≡ true → counted_of (length h + 1) (verdicts_of new) ≡ as_formed formed (length h)
     pub same : any_open (verdicts_of old) ≡ false → counted_of (length h + 1) (verdicts_of new) ≡ counted_of (length h) (verdicts_of old)
 
   -- the monitors are for the same criteria
-  pub steps : (old new : ByCriterion Monitor) → AreFed header bounds asked h old → AreFed header bounds asked (h ++ e ∷ []) new → Steps old new
-  steps (Opacity m) (Opacity n) one two =
+  pub steps : (old new : Monitors) → AreFed header bounds asked h old → AreFed header bounds asked (h ++ e ∷ []) new → Steps old new
+  steps (monitors.Opacity m) (monitors.Opacity n) one two =
       let s = step (trace_rules header bounds by.Opacity) h e (verdict_of m) (verdict_of n) one.each.judged two.each.judged in
       record { within = s.within; all = s.all; next = s.next; same = s.same }
-  steps (Strict m) (Strict n) one two =
+  steps (monitors.Strict m) (monitors.Strict n) one two =
       let s = step (trace_rules header bounds by.Strict) h e (verdict_of m) (verdict_of n) one.each.judged two.each.judged in
       record { within = s.within; all = s.all; next = s.next; same = s.same }
-  steps (Both m1 m2) (Both n1 n2) one two =
-      let s = step (trace_rules header bounds by.Opacity) h e (verdict_of m1) (verdict_of n1) one.each.0.judged two.each.0.judged in
-      let t = step (trace_rules header bounds by.Strict) h e (verdict_of m2) (verdict_of n2) one.each.1.judged two.each.1.judged in
+  steps (monitors.Both m) (monitors.Both n) one two =
+      let s = step (trace_rules header bounds by.Opacity) h e (verdict_of (opacity_of m)) (verdict_of (opacity_of n)) one.each.opacity.judged two.each.opacity.judged in
+      let t = step (trace_rules header bounds by.Strict) h e (verdict_of (strict_of m)) (verdict_of (strict_of n)) one.each.strict.judged two.each.strict.judged in
       let low = as_formed-le formed (length h) in
       let a = s.within in
       let b = t.within in
       record {
         within = omega (arith, a, b);
-        all = λ is. elim (cases_Bool (is_open (verdict_of m1))) [
+        all = λ is. elim (cases_Bool (is_open (verdict_of (opacity_of m)))) [
           | inl first ↦ (let all = s.all first in omega (arith, all, b))
-          | inr past ↦ (let all = t.all (second (is_open (verdict_of m1)) _ past is) in omega (arith, all, a))
+          | inr past ↦ (let all = t.all (second (is_open (verdict_of (opacity_of m))) _ past is) in omega (arith, all, a))
         ];
-        next = λ is. elim (cases_Bool (is_open (verdict_of m1))) [
-          | inl first ↦ (let all = s.next first in elim (cases_Bool (is_open (verdict_of m2))) [
+        next = λ is. elim (cases_Bool (is_open (verdict_of (opacity_of m)))) [
+          | inl first ↦ (let all = s.next first in elim (cases_Bool (is_open (verdict_of (strict_of m)))) [
             | inl other ↦ (let more = t.next other in omega (arith, all, more))
             | inr past ↦ (let more = t.same past in omega (arith, all, more, b, low))
           ])
           | inr past ↦
-              let all = t.next (second (is_open (verdict_of m1)) _ past is) in
+              let all = t.next (second (is_open (verdict_of (opacity_of m))) _ past is) in
               let more = s.same past in omega (arith, all, more, a, low)
         ];
         same = λ is.
-            let (first, other) = or_none (is_open (verdict_of m1)) (is_open (verdict_of m2)) is in
+            let (first, other) = or_none (is_open (verdict_of (opacity_of m))) (is_open (verdict_of (strict_of m))) is in
             let x = s.same first in let y = t.same other in omega (arith, x, y);
       }
     where
       second : (a b : Bool) → a ≡ false → (a || b) ≡ true → b ≡ true
       second true b past is = absurd (cc)
       second false b past is = is
-  steps (Opacity m) (Strict n) one two = absurd (let is = one.all ∙ sym two.all in cc)
-  steps (Opacity m) (Both n1 n2) one two = absurd (let is = one.all ∙ sym two.all in cc)
-  steps (Strict m) (Opacity n) one two = absurd (let is = one.all ∙ sym two.all in cc)
-  steps (Strict m) (Both n1 n2) one two = absurd (let is = one.all ∙ sym two.all in cc)
-  steps (Both m1 m2) (Opacity n) one two = absurd (let is = one.all ∙ sym two.all in cc)
-  steps (Both m1 m2) (Strict n) one two = absurd (let is = one.all ∙ sym two.all in cc)
+  steps (monitors.Opacity m) (monitors.Strict n) one two = absurd (let is = one.all ∙ sym two.all in cc)
+  steps (monitors.Opacity m) (monitors.Both n) one two = absurd (let is = one.all ∙ sym two.all in cc)
+  steps (monitors.Strict m) (monitors.Opacity n) one two = absurd (let is = one.all ∙ sym two.all in cc)
+  steps (monitors.Strict m) (monitors.Both n) one two = absurd (let is = one.all ∙ sym two.all in cc)
+  steps (monitors.Both m) (monitors.Opacity n) one two = absurd (let is = one.all ∙ sym two.all in cc)
+  steps (monitors.Both m) (monitors.Strict n) one two = absurd (let is = one.all ∙ sym two.all in cc)
 
   -- the counted part with the event: where some verdict was open, all that is well-formed; else what it was
-  pub part-formed : (old new : ByCriterion Monitor) → Steps old new → any_open (verdicts_of old) ≡ true → formed ≡ true
+  pub part-formed : (old new : Monitors) → Steps old new → any_open (verdicts_of old) ≡ true → formed ≡ true
       → counted_part (verdicts_of new) (h ++ e ∷ []) ≡ h ++ e ∷ []
   part-formed old new s is well =
       let n : counted_of (length (h ++ e ∷ [])) (verdicts_of new) ≡ length h + 1 =
       ap (λ k. counted_of k (verdicts_of new)) (length-push h e) ∙ s.next is ∙ ap (λ b. as_formed b (length h)) well in
       ap (λ k. take k (h ++ e ∷ [])) n ∙ take_all-push h e
 
-  pub part-ill : (old new : ByCriterion Monitor) → Steps old new → any_open (verdicts_of old) ≡ true → formed ≡ false
+  pub part-ill : (old new : Monitors) → Steps old new → any_open (verdicts_of old) ≡ true → formed ≡ false
       → counted_part (verdicts_of new) (h ++ e ∷ []) ≡ h
   part-ill old new s is ill =
       let n : counted_of (length (h ++ e ∷ [])) (verdicts_of new) ≡ length h =
       ap (λ k. counted_of k (verdicts_of new)) (length-push h e) ∙ s.next is ∙ ap (λ b. as_formed b (length h)) ill in
       ap (λ k. take k (h ++ e ∷ [])) n ∙ take-push (length h) h e (omega arith) ∙ take_whole h
 
-  pub part-before : (old new : ByCriterion Monitor) → Steps old new → any_open (verdicts_of old) ≡ true
+  pub part-before : (old new : Monitors) → Steps old new → any_open (verdicts_of old) ≡ true
       → counted_part (verdicts_of old) h ≡ h
   part-before old new s is = ap (λ k. take k h) (s.all is) ∙ take_whole h
 
-  pub part-same : (old new : ByCriterion Monitor) → Steps old new → any_open (verdicts_of old) ≡ false
+  pub part-same : (old new : Monitors) → Steps old new → any_open (verdicts_of old) ≡ false
       → counted_part (verdicts_of new) (h ++ e ∷ []) ≡ counted_part (verdicts_of old) h
   part-same old new s is =
       let n : counted_of (length (h ++ e ∷ [])) (verdicts_of new) ≡ counted_of (length h) (verdicts_of old) =
@@ -87,15 +87,15 @@ module _ (header : Header) (bounds : Bounds) (asked : Asked) (h : List Event) (e
       ap (λ k. take k (h ++ e ∷ [])) n ∙ take-push (counted_of (length h) (verdicts_of old)) h e s.within
 
   -- whether the counted part ends with the event
-  abbrev pub covers : ByCriterion Monitor → Bool
+  abbrev pub covers : Monitors → Bool
   covers new = counted_of (length (h ++ e ∷ [])) (verdicts_of new) == length (h ++ e ∷ [])
 
   -- it does where some verdict was open and the event keeps the history well-formed
-  pub covers-formed : (old new : ByCriterion Monitor) → Steps old new → any_open (verdicts_of old) ≡ true → formed ≡ true → covers new ≡ true
+  pub covers-formed : (old new : Monitors) → Steps old new → any_open (verdicts_of old) ≡ true → formed ≡ true → covers new ≡ true
   covers-formed old new s is well =
       eq-eqb _ _ (ap (λ k. counted_of k (verdicts_of new)) (length-push h e) ∙ s.next is ∙ ap (λ b. as_formed b (length h)) well ∙ sym (length-push h e))
 
-  covers-less : (new : ByCriterion Monitor) (n : ℕ) → counted_of (length h + 1) (verdicts_of new) ≡ n → n ≤ length h → covers new ≡ false
+  covers-less : (new : Monitors) (n : ℕ) → counted_of (length h + 1) (verdicts_of new) ≡ n → n ≤ length h → covers new ≡ false
   covers-less new n is low =
       elim (cases_Bool (covers new)) [
         | inl all ↦
@@ -105,10 +105,10 @@ module _ (header : Header) (bounds : Bounds) (asked : Asked) (h : List Event) (e
         | inr fails ↦ fails
       ]
 
-  pub covers-ill : (old new : ByCriterion Monitor) → Steps old new → any_open (verdicts_of old) ≡ true → formed ≡ false → covers new ≡ false
+  pub covers-ill : (old new : Monitors) → Steps old new → any_open (verdicts_of old) ≡ true → formed ≡ false → covers new ≡ false
   covers-ill old new s is ill = covers-less new (length h) (s.next is ∙ ap (λ b. as_formed b (length h)) ill) (omega arith)
 
-  pub covers-shut : (old new : ByCriterion Monitor) → Steps old new → any_open (verdicts_of old) ≡ false → covers new ≡ false
+  pub covers-shut : (old new : Monitors) → Steps old new → any_open (verdicts_of old) ≡ false → covers new ≡ false
   covers-shut old new s is = covers-less new (counted_of (length h) (verdicts_of old)) (s.same is) s.within
 
 abbrev none : List Event
@@ -118,10 +118,10 @@ take_nil : (n : ℕ) → take n none ≡ none
 take_nil n = grind arith
 
 -- before the first event nothing is counted
-pub judged-nothing : {C : Type 0} (Counts : CountsFor C) (header : Header) (bounds : Bounds) (asked : Asked) (monitors : ByCriterion Monitor)
-    (counting : C) → AreFed header bounds asked [] monitors → Counts header.registers.number [] counting
-    → AreJudged Counts header bounds asked [] (record { monitors = monitors; counting = counting })
-judged-nothing Counts header bounds asked monitors counting fed counts =
+pub judged-nothing : {C : Type 0} (Counts : CountsFor C) (header : Header) (bounds : Bounds) (asked : Asked) (had : Monitors)
+    (counting : C) → AreFed header bounds asked [] had → Counts header.registers.number [] counting
+    → AreJudged Counts header bounds asked [] (record { monitors = had; counting = counting })
+judged-nothing Counts header bounds asked had counting fed counts =
     grind (arith, take_nil, counted_of, verdicts_of)
 
 -- one event more is judged, and counted if the counted part ends with it
@@ -159,7 +159,7 @@ judged-more {C = C} Counts header bounds asked h e old new was fed more same =
 
 -- an event that is counted keeps the history well-formed, and all before it was counted
 pub counted-before : {C : Type 0} (Counts : CountsFor C) (header : Header) (bounds : Bounds) (asked : Asked) (h : List Event) (e : Event)
-    (old : Judges C) (new : ByCriterion Monitor) → AreJudged Counts header bounds asked h old → AreFed header bounds asked (h ++ e ∷ []) new
+    (old : Judges C) (new : Monitors) → AreJudged Counts header bounds asked h old → AreFed header bounds asked (h ++ e ∷ []) new
     → covers header bounds asked h e new ≡ true
     → Counts header.registers.number h old.counting × IsTrue (is_well_formed header.registers.number (h ++ e ∷ []))
 counted-before Counts header bounds asked h e old new was fed all =
@@ -202,7 +202,7 @@ covers-both a b n low less = elim (cases_Bool (a == n)) [
 ]
 
 -- the verdicts that are reported are the monitors'
-pub told-same : (header : Header) (bounds : Bounds) (asked : Asked) (h : List Event) (monitors : ByCriterion Monitor) (reports : ByCriterion Report)
-    → AreFed header bounds asked h monitors → AreReports header bounds asked h reports → verdicts_of monitors ≡ told_verdicts reports
-told-same header bounds asked h monitors reports fed tell =
+pub told-same : (header : Header) (bounds : Bounds) (asked : Asked) (h : List Event) (had : Monitors) (reports : ByCriterion Report)
+    → AreFed header bounds asked h had → AreReports header bounds asked h reports → verdicts_of had ≡ told_verdicts reports
+told-same header bounds asked h had reports fed tell =
     grind (arith, verdict-one, trace_rules, verdict_of)

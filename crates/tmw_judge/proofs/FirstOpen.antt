@@ -1,5 +1,8 @@
 -- Histories with which nothing is wrong by one of the criteria that are asked for: their prefixes are such too.
 use Rattle.tmw_judge.proofs.Shared.{AreFed, AreOpen, AreOpenBefore, AreReports, Asked, Both, Bounds, ByCriterion, Event, Header, List, Monitor, Opacity, Report, Strict, Verdict, [], any_open, arith, fine_of, inl, inr, is_open, length-push, or_cases, refl, rules, subst, take, take-push, told_verdicts, trace_rules, true, verdict_of, verdicts_of, ℕ, ◌++◌, ◌∷◌, ◌≡◌}
+use Rattle.tmw_monitor.specs.BothMonitor.{opacity_of, strict_of}
+use Rattle.tmw_judge.specs.declared.monitors.Monitors.{Monitors}
+use Rattle.tmw_judge.specs.declared.monitors.Monitors.TheVariants as monitors
 use Rattle.std.proofs.lemmas.List.{length-take, take-take}
 use Rattle.tmw_defs.specs.declared.verdict.Verdict.TheVariants.{OpaqueSoFar, StrictSoFar}
 use Rattle.tmw_defs.specs.Verdict.{AreFine, IsVerdict, Rules}
@@ -44,16 +47,17 @@ module _ (header : Header) (bounds : Bounds) where
 
     module _ (asked : Asked) where
       -- where one of the monitors is open, the history is
-      pub open-fed : (monitors : ByCriterion Monitor) → AreFed header bounds asked h monitors → any_open (verdicts_of monitors) ≡ true
+      pub open-fed : (had : Monitors) → AreFed header bounds asked h had → any_open (verdicts_of had) ≡ true
           → AreOpen header bounds asked h
-      open-fed (Opacity m) fed is =
+      open-fed (monitors.Opacity m) fed is =
           subst (λ (a : Asked). AreOpen header bounds a h) fed.all (opaque-fine (verdict_of m) is fed.each.judged)
-      open-fed (Strict m) fed is =
+      open-fed (monitors.Strict m) fed is =
           subst (λ (a : Asked). AreOpen header bounds a h) fed.all (strict-fine (verdict_of m) is fed.each.judged)
-      open-fed (Both m n) fed is =
-          subst (λ (a : Asked). AreOpen header bounds a h) fed.all (elim (or_cases (is_open (verdict_of m)) (is_open (verdict_of n)) is) [
-            | inl one ↦ inl (opaque-fine (verdict_of m) one fed.each.0.judged)
-            | inr one ↦ inr (strict-fine (verdict_of n) one fed.each.1.judged)
+      open-fed (monitors.Both both) fed is =
+          let (one, other) : Verdict × Verdict = (verdict_of (opacity_of both), verdict_of (strict_of both)) in
+          subst (λ (a : Asked). AreOpen header bounds a h) fed.all (elim (or_cases (is_open one) (is_open other) is) [
+            | inl fine ↦ inl (opaque-fine one fine fed.each.opacity.judged)
+            | inr fine ↦ inr (strict-fine other fine fed.each.strict.judged)
           ])
 
       -- and where one of the reports is

@@ -1,16 +1,35 @@
 -- Judges take events by being fed them.
-use Rattle.tmw_judge.proofs.Shared.{AreFed, AreFedSoMany, Asked, Bounds, ByCriterion, CountsFor, Each, Event, Header, Judges, List, Monitor, TakeEvents, [], arith, fed_of, length, length-append, trace_rules, ℕ, ◌++◌, ◌+◌, ◌-◌, ◌<◌, ◌^◌, ◌∷◌}
-use Rattle.tmw_monitor.specs.Fits.{Fits}
-use Rattle.tmw_judge.proofs.Each.{each-weaker}
+use Rattle.tmw_judge.proofs.Shared.{AreFed, AreFedSoMany, Asked, Bounds, CountsFor, Event, Header, Judges, List, TakeEvents, [], arith, length, length-append, ℕ, ◌++◌, ◌+◌, ◌-◌, ◌<◌, ◌^◌, ◌∷◌}
+use Rattle.tmw_judge.specs.Judge.{FitMonitors, HaveRoom}
+use Rattle.tmw_judge.specs.declared.monitors.Monitors.{Monitors}
+use Rattle.tmw_judge.specs.declared.monitors.Monitors.TheVariants as monitors
+
+-- each has room for an event
+fed_room : (header : Header) (bounds : Bounds) (history : List Event) (had : Monitors) → length history < 2 ^ 40
+    → FitMonitors header bounds history had → HaveRoom had
+fed_room header bounds history (monitors.Opacity m) few fits = let was = fits.counted in omega (arith, few, was)
+fed_room header bounds history (monitors.Strict m) few fits = let was = fits.counted in omega (arith, few, was)
+fed_room header bounds history (monitors.Both both) few fits =
+    let was = fits.opacity.counted in
+    let too = fits.strict.counted in
+    (omega (arith, few, was), omega (arith, few, too))
+
+-- a history that was fed has fewer events than 64 bits count
+few_events : (header : Header) (bounds : Bounds) (history : List Event) (had : Monitors) → HaveRoom had → FitMonitors header bounds history had
+    → length history < 2 ^ 64 - 1
+few_events header bounds history (monitors.Opacity m) few fits = let was = fits.counted in omega (arith, few, was)
+few_events header bounds history (monitors.Strict m) few fits = let was = fits.counted in omega (arith, few, was)
+few_events header bounds history (monitors.Both both) few fits = let was = fits.opacity.counted in let one = few.0 in omega (arith, one, was)
+
+pub few_fed : (header : Header) (bounds : Bounds) (asked : Asked) (history : List Event) (had : Monitors) → HaveRoom had
+    → AreFed header bounds asked history had → length history < 2 ^ 64 - 1
+few_fed header bounds asked history had few fed = few_events header bounds history had few fed.each
 
 module _ {C : Type 0} (Counts : CountsFor C) where
-  -- each has room for an event
-  pub have_room : (judges : Judges C) (count : ℕ) → count < 2 ^ 40 → AreFedSoMany Counts judges count
-      → Each (λ _ monitor. fed_of monitor < 2 ^ 40) judges.monitors
+  pub have_room : (judges : Judges C) (count : ℕ) → count < 2 ^ 40 → AreFedSoMany Counts judges count → HaveRoom judges.monitors
   have_room judges count few so =
       let long = so.counted in
-      each-weaker (λ criterion. Fits (trace_rules so.header so.bounds criterion) so.history) (λ _ monitor. fed_of monitor < 2 ^ 40)
-      judges.monitors (λ criterion monitor fits. let was = fits.counted in omega (arith, few, long, was)) so.fed.fed.each
+      fed_room so.header so.bounds so.history judges.monitors (omega (arith, few, long)) so.fed.fed.each
 
   -- one event more was taken
   pub counted-taken : (before after : Judges C) (event : Event) → TakeEvents Counts before (event ∷ []) after
@@ -23,8 +42,3 @@ module _ {C : Type 0} (Counts : CountsFor C) where
     fed = taken so.header so.bounds so.asked so.history so.fed;
     counted = omega (arith, so.counted, length-append so.history (event ∷ []));
   }
-
--- a history that was fed has fewer events than 64 bits count
-pub few_fed : (header : Header) (bounds : Bounds) (asked : Asked) (history : List Event) (monitors : ByCriterion Monitor)
-    → Each (λ _ monitor. fed_of monitor < 2 ^ 40) monitors → AreFed header bounds asked history monitors → length history < 2 ^ 64 - 1
-few_fed header bounds asked history monitors few fed = grind arith

@@ -1,6 +1,5 @@
 mod AnswerParts
 mod CountedPart
-mod Each
 mod FeedEvents
 mod FeedFirst
 mod FeedFor

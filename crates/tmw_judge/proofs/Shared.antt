@@ -32,7 +32,6 @@ pub use Rattle.tmw_trace.specs.Text.{trace_grammar}
 pub use Rattle.tmw_trace.specs.declared.header.Header.{Header}
 pub use Rattle.tmw_trace.specs.declared.version.Version.{Version}
 pub use Rattle.tmw_judge.specs.Answer.{AnswersBy, AreOpen, AreOpenBefore, EndsSoonBehindOpen, HasFaultFor, HasFaultInTime, IsAnswer, IsReadFor, JudgesWith, judged_lines, judged_status, lacking_lines, plain, summary_lines, told_verdicts}
-pub use Rattle.tmw_judge.specs.ByCriterion.{Each}
 pub use Rattle.tmw_judge.specs.FeedEvents.{AreFedAllRead, AreFedSoMany, AreReadAndFed, FeedsEvents, IsBeginning, ReadsBeginning, TakeEvents, judges_taking}
 pub use Rattle.tmw_judge.specs.FeedFirst.{AnswersFed, AreJudgesOf, AreReadFirst, FeedsFirst, FeedsFor}
 pub use Rattle.tmw_judge.specs.Judge.{AnswersTrace, AreFed, AreReports, JudgesBytes, report_lines, report_status, trace_rules}

@@ -1,6 +1,7 @@
 -- A monitor whose verdict is that nothing is wrong, with what the next event makes of what it keeps.
-use Rattle.tmw_monitor.proofs.Shared.{BrokenRule, Event, Fits, Follows, HistoryDigest, Keeps, KeepsNothing, List, Monitor, None, Option, Rules, Some, TellsFollowed, TellsWrong, Verdict, [], ap, arith, so_far, sym, ◌++◌, ◌+◌, ◌∙◌, ◌∷◌, ◌≡◌}
+use Rattle.tmw_monitor.proofs.Shared.{BrokenRule, Event, Fits, HistoryDigest, Keeps, KeepsNothing, List, Monitor, None, Option, Rules, Some, TellsFollowed, TellsWrong, Verdict, [], ap, arith, refl, so_far, sym, ◌++◌, ◌+◌, ◌∙◌, ◌∷◌, ◌≡◌}
 use Rattle.tmw_monitor.proofs.Final.{verdict-stays}
+use Rattle.tmw_monitor.proofs.FirstBroken.{followed-forgot}
 use Rattle.tmw_monitor.specs.Fits.{Concludes}
 use Rattle.tmw_defs.proofs.WindowsProof as windows
 
@@ -70,10 +71,12 @@ fits-final rules h e old kept broken fits final ended breaks = record {
 }
 
 -- what the next event makes of it, as it is concluded
-pub concluded : (rules : Rules) (h : List Event) (e : Event) (old new : Monitor) (kept : HistoryDigest) (wrong : Option Verdict) → Fits rules h old
-    → old.verdict ≡ so_far old.criterion → TellsWrong rules (h ++ e ∷ []) kept wrong → Follows rules.registers (h ++ e ∷ []) kept.window
-    → Concludes wrong (record old { count = old.count + 1; kept = kept }) new → Fits rules (h ++ e ∷ []) new
-concluded rules h e old new kept None fits fine told follows is = rw is (fits-next rules h e old kept fits fine told)
-concluded rules h e old new kept (Some verdict) fits fine told follows ends =
-    rw ends.is (fits-wrong rules h e old verdict kept ends.left old.broken fits told ends.nothing
-    (rw (fits.whole fine) (ends.follows rules.registers (h ++ e ∷ []) follows)))
+pub concluded : (rules : Rules) (h : List Event) (e : Event) (old new : Monitor) (kept : HistoryDigest) (broken : Option BrokenRule)
+    (wrong : Option Verdict) → Fits rules h old → old.verdict ≡ so_far old.criterion → TellsWrong rules (h ++ e ∷ []) kept wrong
+    → TellsFollowed rules.registers (h ++ e ∷ []) kept.window broken → (wrong ≡ None → broken ≡ old.broken)
+    → Concludes wrong (record old { count = old.count + 1; kept = kept; broken = broken }) new → Fits rules (h ++ e ∷ []) new
+concluded rules h e old new kept broken None fits fine told breaks whole is =
+    rw (is, whole refl) (fits-next rules h e old kept fits fine told)
+concluded rules h e old new kept broken (Some verdict) fits fine told breaks whole ends =
+    rw ends.is (fits-wrong rules h e old verdict kept ends.left broken fits told ends.nothing
+    (followed-forgot rules.registers (h ++ e ∷ []) kept.window ends.left.window broken (ends.follows rules.registers (h ++ e ∷ [])) breaks))

@@ -166,14 +166,10 @@ impl Monitor {
             event,
             &mut self.broken,
         );
-        if let Some(verdict) = wrong {
-            // After a final verdict no event needs what was kept.
-            self.kept.forget();
-            self.verdict = verdict;
-        }
+        self.conclude(wrong);
     }
 
-    /// If something is wrong, this is the verdict for good, and no event needs what was kept.
+    /// Takes the verdict, if something is wrong: it is final, and no event needs what was kept.
     pub(crate) fn conclude(&mut self, wrong: Option<Verdict>)
         ensures { Concludes wrong self.old self.new }
     {
