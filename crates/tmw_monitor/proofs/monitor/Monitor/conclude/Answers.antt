@@ -1,5 +1,5 @@
 -- What is left is as it was forgotten.
-use Rattle.tmw_monitor.proofs.Shared.{refl, sym}
+use Rattle.tmw_monitor.proofs.Shared.{refl}
 use Rattle.tmw_monitor.proofs.monitor.Monitor.conclude.Goals as goal
 
 pub returns-in-Some : goal.returns-in-Some
