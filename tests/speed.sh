@@ -22,13 +22,13 @@ export GLIBC_TUNABLES=glibc.cpu.hwcaps=-AVX2,-AVX_Fast_Unaligned_Load,-ERMS,-AVX
 # The most instructions an event, for each kind of run, by each of these words after `judge`. A run of `doomed` is strictly serializable alone.
 words=('' '--criterion strict' '--criterion both' '--first' '--summary')
 limits='
-serial    83.6 83.6 185.1 274.7 228.0
-calm      162.1 161.9 342.1 352.8 305.1
-wide      144.5 142.3 302.8 336.1 288.1
-long      80.9 80.9 165.8 284.6 224.7
-blind     291.0 291.0 616.6 453.3 433.3
-bench     90.0 90.0 193.4 287.3 233.8
-outcomes  525.8 492.0 1031.2 723.2 669.6
+serial    83.6 83.6 185.1 90.5 108.6
+calm      162.1 161.9 342.1 168.4 186.5
+wide      144.5 142.3 302.8 151.1 167.5
+long      80.9 80.9 165.8 87.3 90.6
+blind     291.0 291.0 616.6 303.4 327.8
+bench     90.0 90.0 193.4 96.8 110.8
+outcomes  525.8 492.0 1031.2 546.8 560.8
 doomed    - 132.5 - - -
 '
 
