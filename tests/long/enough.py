@@ -9,7 +9,7 @@ What a reader knows from the words alone:
 - A transaction that is drawn has the status that its last event shows. Which precede each other in real time a sentence says.
 - What a sentence says before its colon is so: who ended before another began, what was read, what a transaction leaves. What it says
   after the colon is a conclusion, which the reader wants to see follow.
-- `which only T1 can have left` says that what isn't told didn't leave the value there. The reader still looks for other
+- `which only T1's commit can have left` says that what isn't told didn't leave the value there. The reader still looks for other
   sources among what is told: a state that has the value, and each transaction that by another sentence leaves it.
 - Where the lines go by where a value comes from, they name all sources that it may have.
 - A read without such words may have its value from anywhere. `not from T1` is a conclusion too.

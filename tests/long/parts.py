@@ -118,9 +118,9 @@ def origin_of(end, names, states, window):
     if expected is not None and not may_count and any(state[register] == value for state in states):
         return f"a state has {value} in register {register}"
     if not puts:
-        return f"no earlier event of this window puts {value} into register {register}"
+        return f"no earlier event of this window sets register {register} to {value}"
     call = max(may_count or puts, key=lambda call: call[0].number)
-    return f"T{number[call[0]]} put {value} into register {register} at event {call[0].number}{fate(call)}"
+    return f"T{number[call[0]]} set register {register} to {value} at event {call[0].number}{fate(call)}"
 
 
 def random_part(rng, window, broken):

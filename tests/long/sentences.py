@@ -9,10 +9,10 @@ told by some of these words, each with the letters that it is about:
     source   B          where that read's value comes from: a transaction, START or NOBODY. By this word no undrawn transaction left it.
     not_from B          where it does not come from, as the sentence concludes
     unlike   A R W V    A was answered V, where its own earlier calls make the register W
-    put      A R V E    event E is A's, and puts V into register R
+    put      A R V E    event E is A's, and sets register R to V
     fate     STATUS     what became of that transaction, or `then`: it leaves another value or none
     stood    R V        one of the states has V in register R
-    unput    R V        no event before the read of V that the next sentence names puts V into register R
+    unput    R V        no event before the read of V that the next sentence names sets register R to V
     cycle    A          nothing more: the orders that the sentences end in contradict each other
 
 A sentence that ends in `: A before B` concludes that. A context is a line by itself, and holds for those after it until another does. The
@@ -25,22 +25,22 @@ START, NOBODY = "the start", "nobody"
 READ = "A read V from register R"
 FORMS = {
     "A ended before B began: A before B": {"ended": "A B"},
-    READ + ", which only B can have left: B before A": {"read": "A R V", "left": "B R V", "source": "B"},
+    READ + ", which only B's commit can have left: B before A": {"read": "A R V", "left": "B R V", "source": "B"},
     READ + ", which only the start can have left, and B left W there: A before B": {"read": "A R V", "left": "B R W", "source": START},
     READ + ", where B left W: A before B": {"read": "A R V", "left": "B R W"},
     "B left W in register R, where A read V: B before C": {"read": "A R V", "left": "B R W"},
     READ + ", not from B, which comes after it": {"read": "A R V", "not_from": "B"},
     READ + ", not from B: C left W there in between": {"read": "A R V", "left": "C R W", "not_from": "B"},
     READ + ", not from the start: C left W there in between": {"read": "A R V", "left": "C R W", "not_from": START},
-    READ + ": none of these states has it, and no other transaction that may have committed left it": {"read": "A R V", "source": NOBODY},
+    READ + ": the start does not have it, and no other transaction that may have committed left it": {"read": "A R V", "source": NOBODY},
     READ + ", where its own earlier calls make it W": {"unlike": "A R W V"},
-    "A put V into register R at event E": {"put": "A R V E", "fate": "stays"},
-    "A put V into register R at event E, and aborted": {"put": "A R V E", "fate": "aborted"},
-    "A put V into register R at event E, and has not yet asked to commit": {"put": "A R V E", "fate": "live"},
-    "A put V into register R at event E, and has asked to abort": {"put": "A R V E", "fate": "leaving"},
-    "A put V into register R at event E, then another value": {"put": "A R V E", "fate": "then"},
+    "A set register R to V at event E": {"put": "A R V E", "fate": "stays"},
+    "A set register R to V at event E, and aborted": {"put": "A R V E", "fate": "aborted"},
+    "A set register R to V at event E, and has not yet asked to commit": {"put": "A R V E", "fate": "live"},
+    "A set register R to V at event E, and has asked to abort": {"put": "A R V E", "fate": "leaving"},
+    "A set register R to V at event E, then another value": {"put": "A R V E", "fate": "then"},
     "a state has V in register R": {"stood": "R V"},
-    "no earlier event of this window puts V into register R": {"unput": "R V"},
+    "no earlier event of this window sets register R to V": {"unput": "R V"},
     "A would come before itself": {"cycle": "A"},
 }
 CONTEXTS = {

@@ -23,7 +23,7 @@ abbrev pub source_text : List ℕ → ValueSource → Option ℕ → List ℕ
 source_text values s None = []
 source_text values s (Some writer) =
     read_text values s
-    ++ (codes ", which only " ++ (name_text writer ++ (codes " can have left: " ++ before_text writer s.reader)))
+    ++ (codes ", which only " ++ (name_text writer ++ (codes "'s commit can have left: " ++ before_text writer s.reader)))
 
 -- The reader stands before the rival, which leaves another value.
 abbrev pub read_first_text : List ℕ → ValueSource → ℕ → ℕ → List ℕ
@@ -72,7 +72,7 @@ sourceless reader register value = record { reader = reader; register = register
 abbrev pub end_text : List ℕ → Contradiction → List ℕ
 end_text values (Cycle place) = name_text place ++ codes " would come before itself"
 end_text values (NoSource reader register value) =
-    read_text values (sourceless reader register value) ++ codes ": none of these states has it, and no other transaction that may have committed left it"
+    read_text values (sourceless reader register value) ++ codes ": the start does not have it, and no other transaction that may have committed left it"
 end_text values (Unlike reader register expected read) =
     read_text values (sourceless reader register read) ++ (codes ", where its own earlier calls make it " ++ value_text values expected)
 
@@ -87,13 +87,13 @@ fate_text Stays = []
 -- Where a value comes from in a window before which so many events stand.
 abbrev pub origin_text : List ℕ → ℕ → ℕ → ℕ → Option Origin → List ℕ
 origin_text values before register value None =
-    codes "no earlier event of this window puts " ++ (value_text values value ++ (codes " into register " ++ decimal register))
+    codes "no earlier event of this window sets register " ++ (decimal register ++ (codes " to " ++ value_text values value))
 origin_text values before register value (Some origin) =
     name_text origin.writer
-    ++ (codes " put "
-    ++ (value_text values value
-    ++ (codes " into register "
-    ++ (decimal register ++ (codes " at event " ++ (decimal (before + (origin.place + 1)) ++ fate_text origin.fate))))))
+    ++ (codes " set register "
+    ++ (decimal register
+    ++ (codes " to "
+    ++ (value_text values value ++ (codes " at event " ++ (decimal (before + (origin.place + 1)) ++ fate_text origin.fate))))))
 
 -- A state has it there, unless one that may count put it there.
 abbrev pub stands_in : List State → ℕ → ℕ → Bool

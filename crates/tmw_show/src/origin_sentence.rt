@@ -40,13 +40,13 @@ fn origin_text(
     let (value, register) = (Value(values, value), register.get());
     let Some(origin) = origin else {
         return format!(in alloc;
-            "no earlier event of this window puts {value} into register {register}"
+            "no earlier event of this window sets register {register} to {value}"
         );
     };
     let writer = TransactionName(origin.writer);
     let event = before + (origin.place as u128 + 1);
     let fate = fate_text(origin.fate);
-    format!(in alloc; "{writer} put {value} into register {register} at event {event}{fate}")
+    format!(in alloc; "{writer} set register {register} to {value} at event {event}{fate}")
 }
 
 /// Whether the value stands in the register in one of the states.

@@ -202,7 +202,7 @@ fn source_text(alloc: Global, values: &[u64], source: &ValueSource) -> Result<St
     };
     let (read, so) = (Read(values, *source), Before(writer, source.reader));
     let writer = TransactionName(writer);
-    format!(in alloc; "{read}, which only {writer} can have left: {so}")
+    format!(in alloc; "{read}, which only {writer}'s commit can have left: {so}")
 }
 
 /// Tells that the reader stands before the rival, which leaves another value.
@@ -304,7 +304,7 @@ fn end_text(alloc: Global, values: &[u64], end: &Contradiction) -> Result<String
             };
             let read = Read(values, source);
             format!(in alloc;
-                "{read}: none of these states has it, and no other transaction that may have committed left it"
+                "{read}: the start does not have it, and no other transaction that may have committed left it"
             )
         }
         Contradiction::Unlike(reader, register, expected, read) => {
