@@ -1,6 +1,10 @@
 -- Judges take events by being fed them.
-use Rattle.tmw_judge.proofs.Shared.{AreFed, AreFedSoMany, Asked, Bounds, CountsFor, Event, Header, Judges, List, TakeEvents, [], arith, length, length-append, ℕ, ◌++◌, ◌+◌, ◌-◌, ◌<◌, ◌^◌, ◌∷◌}
-use Rattle.tmw_judge.specs.Judge.{FitMonitors, HaveRoom}
+use Rattle.tmw_judge.proofs.Shared.{AreFed, AreFedSoMany, Asked, Bounds, CountsFor, Event, Header, Judges, List, TakeEvents, [], arith, length, length-append, subst, trace_rules, ℕ, ◌++◌, ◌+◌, ◌-◌, ◌<◌, ◌^◌, ◌∷◌, ◌≡◌}
+use Rattle.tmw_defs.specs.declared.criterion.Criterion.TheVariants as by
+use Rattle.tmw_monitor.specs.BothMonitor.{FeedsBoth}
+use Rattle.tmw_monitor.specs.declared.both_monitor.BothMonitor.{BothMonitor}
+use Rattle.tmw_judge.specs.FeedEvents.{FeedsEach}
+use Rattle.tmw_judge.specs.Judge.{FitMonitors, HaveRoom, asked_by}
 use Rattle.tmw_judge.specs.declared.monitors.Monitors.{Monitors}
 use Rattle.tmw_judge.specs.declared.monitors.Monitors.TheVariants as monitors
 
@@ -24,6 +28,14 @@ few_events header bounds history (monitors.Both both) few fits = let was = fits.
 pub few_fed : (header : Header) (bounds : Bounds) (asked : Asked) (history : List Event) (had : Monitors) → HaveRoom had
     → AreFed header bounds asked history had → length history < 2 ^ 64 - 1
 few_fed header bounds asked history had few fed = few_events header bounds history had few fed.each
+
+-- by both criteria, what fits them fits them with the event more
+pub feeds-both : (had : Monitors) (event : Event) (old new : BothMonitor) → had ≡ monitors.Both old → FeedsBoth event old new
+    → FeedsEach had event (monitors.Both new)
+feeds-both had event old new is feeds header bounds asked history fed = record {
+  all = subst (λ them. asked_by them ≡ asked) is fed.all;
+  each = feeds (trace_rules header bounds by.Opacity) history (subst (FitMonitors header bounds history) is fed.each);
+}
 
 module _ {C : Type 0} (Counts : CountsFor C) where
   pub have_room : (judges : Judges C) (count : ℕ) → count < 2 ^ 40 → AreFedSoMany Counts judges count → HaveRoom judges.monitors

@@ -80,12 +80,15 @@ pub fn covers_last(monitors: &Monitors) -> bool
             covers_event(monitor.fed(), &monitor.verdict())
         }
         Monitors::Both(both) => {
-            covers_event(both.fed(), &both.opacity()) || covers_event(both.fed(), &both.strict())
+            let fed = both.fed();
+            let first = counted_by(fed, &both.opacity());
+            first.max(counted_by(fed, &both.strict())) == fed
         }
     }
 }
 
 /// Tells whether the last of so many events is counted beside this verdict.
+#[tactic(auto, using(crate::proofs::CountedPart::covers_open))]
 #[inline(always)]
 pub fn covers_event(events: u64, verdict: &Verdict) -> bool
     ensures { result ≡ (counted_by events verdict.now == events) }

@@ -4,5 +4,5 @@ use Rattle.tmw_judge.proofs.tally.CounterTally.take.Goals as goal
 
 pub returns : goal.returns
 returns c registers history low formed so =
-    taken-formed c.args.event c.args.self.now c.take-refused.new.self registers history low so c.take-refused.result
-    c.take-refused.ensures.takes c.take-refused.ensures.refuses formed
+    taken-formed c.args.event c.args.self.now c.take.new.self registers history low so c.take.result
+    c.take.ensures.takes c.take.ensures.refuses formed
