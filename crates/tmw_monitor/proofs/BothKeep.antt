@@ -134,3 +134,12 @@ both-kept rules h old kept fits shared stays =
 -- where none serves both, the history fits each as it is
 pub apart : (rules : Rules) (h : List Event) (both : BothMonitor) → FitsBoth rules h both → both.shared ≡ false → FitEach rules h both
 apart rules h both fits shared = record { opacity = fits.opacity; strict = rw shared at fits.strict }
+
+-- while one serves both, what the other keeps is of no account
+pub rests : (rules : Rules) (h : List Event) (both : BothMonitor) (kept : HistoryDigest) → both.shared ≡ true → FitsBoth rules h both
+    → FitsBoth rules h (record both { strict = record both.strict { kept = kept } })
+rests rules h both kept shared fits = record {
+  opacity = fits.opacity;
+  strict = rw shared (rw shared at fits.strict);
+  fine = λ is. rw shared (rw shared at (fits.fine is));
+}

@@ -1,6 +1,8 @@
 mod AtOnce
+mod BothCut
 mod BothKeep
 mod BothOpen
+mod CutEnds
 mod FeedOpen
 pub mod Final
 mod FirstBroken

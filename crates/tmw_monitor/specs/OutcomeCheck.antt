@@ -37,6 +37,14 @@ Tells criterion old cap quiet events kept NoOutcome = StandsFor kept.window even
 Tells criterion old cap quiet events kept TooMany =
     StandsFor kept.window events × IsTrue (is_cut events) × HasMoreThan cap (EndsOf criterion old events)
 
+-- What each finding tells of events at a cut, and of the set that is then that of their end states.
+abbrev pub TellsEnds : Criterion → SetOfStates → ℕ → List Event → SetOfStates → OutcomeCheck → Type 0
+TellsEnds criterion old cap events new Outcome =
+    (length (members new) ≤ cap) × ((s : State) → Contains (members new) s ↔ EndsOf criterion old events s)
+    × (end : State) × Contains (members new) end
+TellsEnds criterion old cap events new NoOutcome = (end : State) → EndsOf criterion old events end → ⊥
+TellsEnds criterion old cap events new TooMany = HasMoreThan cap (EndsOf criterion old events)
+
 -- Of the events that stand in the window and the next one, which is this to its thread: what each finding tells of them all, from the
 -- outcomes before them.
 abbrev pub WeighsNext : Criterion → ℕ → Event → Move → (List Event → Bool) → HistoryDigest → HistoryDigest → OutcomeCheck → Type 0

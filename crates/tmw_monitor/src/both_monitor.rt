@@ -1,16 +1,37 @@
-ghost use Rattle.tmw_monitor.specs.Shared.{Begin, Event, IsNext, IsVerdict, Opacity, Rules, StandsFor, Strict, count_of, is_cut};
+ghost use Rattle.tmw_monitor.specs.Shared.{Begin, End, Event, IsNext, IsVerdict, Opacity, Rules, StandsFor, Strict, count_of, is_cut, members};
 ghost use Rattle.std.specs.Prelude.{IfOk, IsFalse, IsTrue, List, [], length, ◌++◌, ◌<◌, ◌^◌, ◌∷◌, ◌≡◌};
+ghost use Rattle.tmw_monitor.specs.declared.outcome_check.OutcomeCheck.TheVariants.{Outcome};
 
 use crate::bounds::Bounds;
 use crate::broken_rule::BrokenRule;
 use crate::monitor::Monitor;
-use crate::search_or_close::search;
+use crate::outcome_check::OutcomeCheck;
+use crate::search_or_close::{close, close_strictly, search};
 use crate::take::take_open;
 use crate::take_at_once::take_at_once;
 use std::alloc::{AllocError, Global};
-use tmw_cuts::{Move, State};
+use tmw_cuts::{Move, State, States};
 use tmw_defs::{Criterion, Verdict};
-use tmw_events::{Event, Registers};
+use tmw_events::{Event, Ix, Registers};
+
+/// Tells whether both criteria have found outcomes at a cut, and the same.
+fn closes_alike(
+    opacity: OutcomeCheck,
+    outcomes: &States,
+    strict: OutcomeCheck,
+    strict_outcomes: &States,
+) -> bool
+    ensures one { IsTrue result → opacity ≡ Outcome }
+    ensures other { IsTrue result → strict ≡ Outcome }
+    ensures same { IsTrue result → members outcomes.now ≡ members strict_outcomes.now }
+{
+    match (opacity, strict) {
+        (OutcomeCheck::Outcome, OutcomeCheck::Outcome) => {
+            outcomes.states() == strict_outcomes.states()
+        }
+        _ => false,
+    }
+}
 
 /// A judge of a history as its events come, by opacity and by strict serializability at once. What is opaque is strictly
 /// serializable, and mostly both criteria find the same outcomes at a cut: while they do, what is kept by opacity serves both.
@@ -24,6 +45,7 @@ pub struct BothMonitor {
 
 impl BothMonitor {
     ghost use Rattle.tmw_monitor.specs.BothMonitor.{Agree, FeedsBoth, FitEach, FitsBoth, Parts, by, opacity_of, strict_of};
+    ghost use Rattle.tmw_events.specs.declared.ix.Ix.{Ix};
     ghost use Rattle.tmw_monitor.specs.BrokenRule.{TellsBroken};
     ghost use Rattle.tmw_monitor.specs.Fits.{rules_of};
     ghost use Rattle.tmw_monitor.specs.Monitor.{bounds_of, fed_of, kept_of, verdict_of};
@@ -98,6 +120,10 @@ impl BothMonitor {
                 self.go_on(event, step);
                 return;
             }
+            if let Move::End(place) = step {
+                self.close(event, place);
+                return;
+            }
         }
         self.part();
         self.take_each(event);
@@ -124,6 +150,11 @@ impl BothMonitor {
             → StandsFor (kept_of (opacity_of self.now)).window events
             → IsNext (kept_of (opacity_of self.now)).window event step
             → IsFalse (is_cut (events ++ event ∷ [])) }
+        ensures cut { IsFalse result → (place : Ix) → step ≡ End place
+            → (event : Event) (events : List Event)
+            → StandsFor (kept_of (opacity_of self.now)).window events
+            → IsNext (kept_of (opacity_of self.now)).window event step
+            → IsTrue (is_cut (events ++ event ∷ [])) }
     {
         let window = &self.opacity.kept.window;
         match step {
@@ -157,6 +188,33 @@ impl BothMonitor {
         self.strict.kept.witness.forget();
         let found = search(Criterion::Strict, &mut self.strict.kept);
         self.strict.conclude(found.wrong(at));
+    }
+
+    /// Takes an event at a cut, which ends the transaction at the place.
+    fn close(&mut self, event: Event, place: Ix)
+        requires next { IsNext (kept_of (opacity_of self.old)).window event (End place) }
+        requires cut { (events : List Event)
+            → StandsFor (kept_of (opacity_of self.old)).window events
+            → IsTrue (is_cut (events ++ event ∷ [])) }
+        requires room { fed_of (opacity_of self.old) < 2 ^ 40 }
+        requires shared { IsTrue self.old.shared }
+        ensures { FeedsBoth event self.old self.new }
+    {
+        let (at, cap) = (self.opacity.count + 1, self.opacity.bounds.states);
+        self.opacity.count = at;
+        let (kept, strict) = (&mut self.opacity.kept, &mut self.strict.kept);
+        kept.window.end(event, place);
+        kept.witness.follow(&kept.window, event, Move::End(place));
+        let strictly = close_strictly(kept, &mut strict.states, &mut strict.found, cap);
+        let found = close(Criterion::Opacity, kept, cap);
+        if closes_alike(found, &kept.states, strictly, &strict.states) {
+            return;
+        }
+        self.shared = false;
+        self.strict.count = at;
+        self.strict.kept.open(self.opacity.kept.window.registers);
+        self.opacity.conclude(found.wrong(at));
+        self.strict.conclude(strictly.wrong(at));
     }
 
     /// Gives each criterion a monitor of its own.

@@ -1,7 +1,9 @@
-ghost use Rattle.tmw_monitor.specs.Shared.{HasRoom, members};
-ghost use Rattle.std.specs.Prelude.{List, length, ℕ, ◌≡◌, ◌≤◌};
+ghost use Rattle.tmw_monitor.specs.Shared.{HasRoom, StandsFor, Witnesses, members};
+ghost use Rattle.std.specs.Prelude.{List, [], ℕ, ◌≡◌};
 
+use crate::search_or_close::begin_again;
 use tmw_cuts::{States, Window};
+use tmw_events::Registers;
 use tmw_search::EndSet;
 use tmw_witness::Witness;
 
@@ -32,6 +34,17 @@ impl HistoryDigest {
         self.states.copy_from(&other.states);
         self.window.copy_from(&other.window);
         self.witness = other.witness;
+    }
+
+    /// Begins a window of no event, from the states.
+    pub fn open(&mut self, registers: Registers)
+        ensures states { members self.new.states ≡ members self.old.states }
+        ensures stands { StandsFor self.new.window [] }
+        ensures registers { self.new.window.registers ≡ registers }
+        ensures witness { Witnesses (members self.new.states) [] self.new.witness }
+    {
+        self.window = Window::open(registers);
+        begin_again(&mut self.witness, &self.states);
     }
 
     /// Forgets the history. Where the threads are stays.

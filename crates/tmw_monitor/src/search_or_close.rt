@@ -1,12 +1,12 @@
-ghost use Rattle.tmw_monitor.specs.Shared.{Event, StandsFor, Witnesses, is_cut, members, views_of};
-ghost use Rattle.std.specs.Prelude.{Bool, IsFalse, IsTrue, List, [], ℕ, ◌≡◌, ◌≤◌};
-ghost use Rattle.tmw_monitor.specs.OutcomeCheck.{Tells};
+ghost use Rattle.tmw_monitor.specs.Shared.{Event, HasRoom, StandsFor, Strict, Witnesses, is_cut, members, views_of};
+ghost use Rattle.std.specs.Prelude.{Bool, IsFalse, IsTrue, List, [], length, ℕ, ◌≡◌, ◌≤◌};
+ghost use Rattle.tmw_monitor.specs.OutcomeCheck.{Tells, TellsEnds};
 
 use crate::history_digest::HistoryDigest;
 use crate::outcome_check::OutcomeCheck;
 use tmw_cuts::States;
 use tmw_defs::Criterion;
-use tmw_search::replace_by_outcomes;
+use tmw_search::{EndSet, replace_by_outcomes};
 use tmw_witness::Witness;
 
 /// Weighs the events of a window at no cut, from the outcomes at its beginning. A serial order is looked for if none is known,
@@ -59,8 +59,36 @@ pub fn close(criterion: Criterion, kept: &mut HistoryDigest, cap: u8) -> Outcome
     OutcomeCheck::Outcome
 }
 
+/// Weighs by strict serializability the events of a window at a cut, which is kept with the outcomes at its beginning. The set becomes
+/// that of the outcomes at the cut, if these are at most `cap`.
+pub fn close_strictly(
+    kept: &HistoryDigest,
+    states: &mut States,
+    found: &mut EndSet,
+    cap: u8,
+) -> OutcomeCheck
+    requires cap { cap ≤ 64 }
+    requires room { HasRoom states.old }
+    ensures tells { (events : List Event) → StandsFor kept.now.window events
+        → IsTrue (is_cut events)
+        → Witnesses (members kept.now.states) (views_of events) kept.now.witness
+        → length (members kept.now.states) ≤ 65
+        → TellsEnds Strict kept.now.states cap events states.new result }
+    ensures room { HasRoom states.new }
+{
+    states.copy_from(&kept.states);
+    let known = kept.witness.known_end().copied();
+    if !replace_by_outcomes(Criterion::Strict, states, found, &kept.window, cap, known) {
+        return OutcomeCheck::TooMany;
+    }
+    if states.is_empty() {
+        return OutcomeCheck::NoOutcome;
+    }
+    OutcomeCheck::Outcome
+}
+
 /// Begins with a window without a transaction, from the first of these states.
-fn begin_again(witness: &mut Witness, starts: &States)
+pub fn begin_again(witness: &mut Witness, starts: &States)
     ensures { Witnesses (members starts.now) [] witness.new }
 {
     match starts.get(0) {

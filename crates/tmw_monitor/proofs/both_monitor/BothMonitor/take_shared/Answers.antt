@@ -13,3 +13,7 @@ returns c rules history fits =
     let bound = fits.opacity.states in
     c.take_each.ensures rules history
     (parted rules history c.args.self.now c.part.new.self (omega (arith, most, bound)) fits c.requires.shared c.part.ensures)
+
+pub close-requires-clause-cut : goal.close-requires-clause-cut
+close-requires-clause-cut c events stands =
+    c.goes_on.ensures.cut c.if-goes_on.false c.in-End.place c.in-End.is c.args.event events stands c.in-Ok.ensures.ok

@@ -1,0 +1,11 @@
+-- Equal lists of states are those of equal sets.
+use Rattle.std.proofs.lemmas.Bool.Decides.{Decides-eqb}
+use Rattle.std.proofs.lemmas.Slice.Eq.{slice_eq-Decides}
+use Rattle.tmw_monitor.proofs.Shared.{refl, sym, ◌∙◌}
+use Rattle.tmw_monitor.proofs.both_monitor.closes_alike.Goals as goal
+
+pub returns-in-Outcome-Outcome-clause-same : goal.returns-in-Outcome-Outcome-clause-same
+returns-in-Outcome-Outcome-clause-same c same =
+    sym c.states.ensures.members
+    ∙ (slice_eq-Decides (λ s t. slice_eq-Decides Decides-eqb s t _ refl) c.states.result.now c.states-in-Outcome-Outcome.result.now c.eq.result c.eq.ensures).0 same
+    ∙ c.states-in-Outcome-Outcome.ensures.members
