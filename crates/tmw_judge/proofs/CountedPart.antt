@@ -177,29 +177,8 @@ counted-before Counts header bounds asked h e old new was fed all =
     ]
 
 -- an open verdict covers all
-pub covers-open : (n : ℕ) (v : Verdict) → is_open v ≡ true → (counted_by n v == n) ≡ true
-covers-open n v is = grind (arith, eq-eqb)
-
--- of two verdicts the one that covers more counts
-pub covers-both : (a b n : ℕ) → a ≤ n → b ≤ n → ((a == n) || (b == n)) ≡ (max a b == n)
-covers-both a b n low less = elim (cases_Bool (a == n)) [
-  | inl one ↦ rw one (sym (eq-eqb (max a b) n (let is = eqb-true a n one in omega (arith, is, less))))
-  | inr past ↦ elim (cases_Bool (b == n)) [
-    | inl one ↦ rw (past, one) (sym (eq-eqb (max a b) n (let is = eqb-true b n one in omega (arith, is, low))))
-    | inr none ↦ rw (past, none) (sym (elim (cases_Bool (max a b == n)) [
-      | inl all ↦
-          let is = eqb-true (max a b) n all in
-          elim (cases_lt a n) [
-            | inr full ↦ absurd (both_ways _ past (eq-eqb a n (omega (arith, full, low))))
-            | inl short ↦ elim (cases_lt b n) [
-              | inr full ↦ absurd (both_ways _ none (eq-eqb b n (omega (arith, full, less))))
-              | inl shorter ↦ absurd (omega (arith, is, short, shorter))
-            ]
-          ]
-      | inr fails ↦ fails
-    ]))
-  ]
-]
+pub covers_open : (n : ℕ) (v : Verdict) → is_open v ≡ true → (counted_by n v == n) ≡ true
+covers_open n v is = grind (arith, eq-eqb)
 
 -- the verdicts that are reported are the monitors'
 pub told-same : (header : Header) (bounds : Bounds) (asked : Asked) (h : List Event) (monitors : ByCriterion Monitor) (reports : ByCriterion Report)

@@ -73,11 +73,16 @@ pub fn covers_last(monitors: &ByCriterion<Monitor>) -> bool
 {
     match monitors {
         ByCriterion::Opacity(monitor) | ByCriterion::Strict(monitor) => covers_last_of(monitor),
-        ByCriterion::Both(opacity, strict) => covers_last_of(opacity) || covers_last_of(strict),
+        ByCriterion::Both(opacity, strict) => {
+            let fed = opacity.fed();
+            let first = counted_by(fed, &opacity.verdict());
+            first.max(counted_by(fed, &strict.verdict())) == fed
+        }
     }
 }
 
 /// Tells whether the last event that was fed is counted beside this monitor's verdict.
+#[tactic(auto, using(crate::proofs::CountedPart::covers_open))]
 #[inline(always)]
 pub fn covers_last_of(monitor: &Monitor) -> bool
     ensures { (rules : Rules) (history : List Event) → Fits rules history monitor.now
