@@ -2,7 +2,7 @@
 use crate::call_counter::CallCounter;
 use std::alloc::Global;
 use test_support::FIRST;
-use tmw_bench::{Signals, work};
+use tmw_bench::{DirectCalls, Signals, work};
 use tmw_events::Kind;
 use tmw_ring::{Refused, ring};
 use tmw_tm::Did;
@@ -15,7 +15,7 @@ fn stop_of(alloc: Global, memory: &CallCounter, patience: u64, will_pump: bool) 
     }
     let (ring, mut writers, _reader) = ring(alloc, 1, 1, 100).ok()?;
     let script = [vec![in alloc; Kind::W(FIRST, 5), Kind::T].ok()?];
-    work(memory, &ring, &mut writers[0], &script, patience, &signals)
+    work::<DirectCalls>(memory, &ring, &mut writers[0], &script, patience, &signals)
 }
 
 /// Whether it stops where it finds the ring full, and aborts its transaction.

@@ -1,7 +1,9 @@
 -- What the leader has heard and told, from one worker to the next.
-use Rattle.tmw_bench.proofs.Shared.{AllOpaque, AreNewLines, Fits, Front, HasGoneOn, HasHeard, HasJudged, HasLedTo, HasToldStop, HaveHeardUpTo, HaveToldUpTo, IsVerdict, Line, List, OpaqueSoFar, Option, Refused, RoundEnd, Rules, SameConsumer, SameProducer, Some, SomeToldStop, [], ap, append_assoc, arith, cases_lt, get_or, get_or-set_other, get_or-set_same, inl, inr, judged-none, length, length-append, length-set, length_push, received, rules, sent, set, subst, sym, ℕ, ◌++◌, ◌+◌, ◌<◌, ◌∙◌, ◌∷◌, ◌≡◌, ◌≢◌}
+use Rattle.tmw_bench.proofs.Shared.{All, All-append, All-nil, All-take, AllOpaque, AreNewLines, Fits, Front, HasGoneOn, HasHeard, HasJudged, HasLedTo, HasToldStop, HaveHeardUpTo, HaveToldUpTo, IsVerdict, Line, List, None, OpaqueSoFar, Option, Refused, RoundEnd, Rules, SameConsumer, SameProducer, Some, SomeToldStop, [], ap, append_assoc, arith, cases_lt, get_or, get_or-set_other, get_or-set_same, inl, inr, judged-none, length, length-append, length-set, length_push, received, rules, sent, set, subst, sym, take, take-append-le, take_all, ℕ, ◌++◌, ◌+◌, ◌<◌, ◌∙◌, ◌∷◌, ◌≡◌, ◌≢◌}
 use Rattle.std.specs.Option.{IsSome}
 use Rattle.std.proofs.Math.Nat.{ne_of_lt}
+use Rattle.std.proofs.lemmas.List.Elements.{All-cons}
+use Rattle.tmw_bench.specs.Lead.{AllToldEnd, HasToldEnd}
 use Rattle.tmw_bench.proofs.OpaqueRounds.{all_opaque-append, all_opaque-round}
 use Rattle.tmw_bench.proofs.Between.{up-then, down-then}
 use Rattle.tmw_pump.specs.declared.keep.Keep.{Ghosts}
@@ -74,6 +76,31 @@ module _ (old now : List Line) (count : ℕ) (item next : Line) (ended : RoundEn
     stopped = λ fallback. subst HasToldStop (sym (other some.place fallback (ne_of_lt some.low))) (some.stopped fallback);
   }
 
+  pub all_end-next : ended.stop ≡ None → AllToldEnd count now → AllToldEnd (count + 1) (set now count next)
+  all_end-next none so_far place fallback below =
+      elim (cases_lt place count) [
+        | inl before ↦ subst HasToldEnd (sym (other place fallback (ne_of_lt before))) (so_far place fallback before)
+        | inr past ↦
+            let same : count ≡ place = omega (arith, below, past) in
+            subst (λ (n : ℕ). HasToldEnd (get_or (set now count next) n fallback)) same
+            (subst HasToldEnd (sym (here fallback)) (record { earlier = received item.up; last = ended; told = heard.heard; ended = none }))
+      ]
+
+-- The worker was not stopped at the end of which it has told.
+abbrev HasEnded : RoundEnd → Type 0
+HasEnded end = end.stop ≡ None
+
+-- It has told one end more than these, all of them of whole rounds.
+ended-more : (told earlier : List RoundEnd) (last : RoundEnd) (count : ℕ) → told ≡ earlier ++ last ∷ [] → length told ≡ count + 1
+    → All HasEnded (take count told) → last.stop ≡ None → All HasEnded told
+ended-more told earlier last count is long so_far ended =
+    let n : length earlier + 1 ≡ count + 1 = sym (length_push earlier last) ∙ ap (λ (l : List RoundEnd). length l) (sym is) ∙ long in
+    let cut : take count told ≡ earlier
+    = ap (λ (l : List RoundEnd). take count l) is ∙ take-append-le count earlier (last ∷ []) (omega (arith, n)) ∙ take_all count earlier (omega (arith, n)) in
+    subst (λ (l : List RoundEnd). All HasEnded l) (sym is)
+    (All-append HasEnded earlier (last ∷ []) (subst (λ (l : List RoundEnd). All HasEnded l) cut so_far)
+    (All-cons HasEnded last [] ended (All-nil HasEnded)))
+
 module _ (rules : Rules) (bounds : List ℕ) (first old new : List Line) (before after : Front) (more : ℕ) where
   -- all have told that one round more has ended
   pub led-heard : HasLedTo rules (length bounds) bounds before first old → HaveHeardUpTo (length old) old new → HasJudged more before after
@@ -91,6 +118,11 @@ module _ (rules : Rules) (bounds : List ℕ) (first old new : List Line) (before
           down = subst (SameProducer (get_or first place fallback).down) (sym one.down) line.down;
           told = ap sent one.down ∙ line.told;
           heard = let so_far = line.heard in omega (arith, more, so_far);
+          ended =
+              let same = ap (λ (l : List RoundEnd). take (length bounds) l) one.heard
+              ∙ take-append-le (length bounds) (received (get_or old place fallback).up)
+              ((heard.each place fallback (let n = led.line_count in omega (arith, n, low))).0 ∷ []) (let so_far = line.heard in omega (arith, so_far)) in
+              subst (λ (l : List RoundEnd). All HasEnded l) (sym same) line.ended;
         };
     fits = goes_on.fits rules led.fits;
     opaque = subst (AllOpaque rules bounds) (sym goes_on.judged) (all_opaque-append rules bounds before.judged.items goes_on.more led.opaque);
@@ -108,8 +140,8 @@ module _ (rules : Rules) (bounds : List ℕ) (first old new : List Line) (before
 -- all were told where the round has ended
 pub led-told : (rules : Rules) (bounds : List ℕ) (bound : ℕ) (first old new : List Line) (front : Front)
     → HasLedTo rules (length bounds + 1) bounds front first old → length front.judged.items ≡ bound → IsVerdict rules front.judged.items OpaqueSoFar
-    → HaveToldUpTo bound (length old) old new → HasLedTo rules (length bounds + 1) (bound ∷ bounds) front first new
-led-told rules bounds bound first old new front led is verdict told = record {
+    → HaveToldUpTo bound (length old) old new → AllToldEnd (length old) old → HasLedTo rules (length bounds + 1) (bound ∷ bounds) front first new
+led-told rules bounds bound first old new front led is verdict told ended = record {
   line_count = told.counted ∙ led.line_count;
   lines = λ place fallback low.
       let line = led.lines place fallback low in
@@ -119,6 +151,11 @@ led-told rules bounds bound first old new front led is verdict told = record {
         down = up-then (get_or first place fallback).down (get_or old place fallback).down (get_or new place fallback).down line.down one.down;
         told = one.told ∙ ap (λ (l : List ℕ). l ++ bound ∷ []) line.told;
         heard = ap (λ line. length (received line)) one.up ∙ line.heard;
+        ended =
+            let end = ended place fallback (let n = led.line_count in omega (arith, n, low)) in
+            subst (λ (l : List RoundEnd). All HasEnded (take (length (bound ∷ bounds)) l)) (ap received (sym one.up))
+            (All-take HasEnded (length (bound ∷ bounds)) (received (get_or old place fallback).up)
+            (ended-more (received (get_or old place fallback).up) end.earlier end.last (length bounds) end.told line.heard line.ended end.ended));
       };
   fits = led.fits;
   opaque = all_opaque-round rules bounds bound front.judged.items led.opaque (sym is) verdict;
@@ -127,4 +164,4 @@ led-told rules bounds bound first old new front led is verdict told = record {
 -- at first
 pub led-new : (rules : Rules) (lines : List Line) (front : Front) → AreNewLines lines → front.judged.items ≡ [] → Fits rules [] front.monitor
     → HasLedTo rules 0 [] front lines lines
-led-new rules lines front new none fits = grind arith
+led-new rules lines front new none fits = grind (arith, All-nil)

@@ -1,5 +1,6 @@
 pub mod AllBack
 pub mod Between
+mod CallTurns
 mod CallsLeft
 mod Claims
 pub mod InRounds

@@ -1,6 +1,6 @@
 -- What the leader of a bench has done, that tells its workers where each round has ended.
 use Rattle.tmw_bench.specs.Shared.{Fits, Front, Refused, Rules, SameConsumer, SameProducer, judged_of, monitor_of, received, sent}
-use Rattle.std.specs.Prelude.{◌≡◌, ◌≤◌, ◌<◌, ◌+◌, ◌++◌, ℕ, List, [], ◌∷◌, Some, length, get_or}
+use Rattle.std.specs.Prelude.{◌≡◌, ◌≤◌, ◌<◌, ◌+◌, ◌++◌, ℕ, List, [], ◌∷◌, Some, None, length, get_or, take, All}
 use Rattle.tmw_bench.specs.Rounds.{AllOpaque}
 use Rattle.tmw_bench.specs.Worker.{in_order}
 use Rattle.tmw_bench.specs.declared.round_end.RoundEnd.{RoundEnd}
@@ -32,6 +32,17 @@ pub record SomeToldStop (count : ℕ) (lines : List Line) : Type 0 where
   pub low : place < count
   pub stopped : (fallback : Line) → HasToldStop (get_or lines place fallback)
 
+-- The worker has last told of a round that it has ended.
+pub record HasToldEnd (line : Line) : Type 0 where
+  pub earlier : List RoundEnd
+  pub last : RoundEnd
+  pub told : received line.up ≡ earlier ++ last ∷ []
+  pub ended : last.stop ≡ None
+
+-- So have the first workers.
+abbrev pub AllToldEnd : ℕ → List Line → Type 0
+AllToldEnd count lines = (place : ℕ) (fallback : Line) → place < count → HasToldEnd (get_or lines place fallback)
+
 -- The worker of this line was told this, next.
 pub record HasTold (bound : ℕ) (old new : Line) : Type 0 where
   pub down : SameProducer old.down new.down
@@ -49,12 +60,13 @@ abbrev pub AreNewLines : List Line → Type 0
 AreNewLines lines = (place : ℕ) (fallback : Line) → place < length lines
     → (received (get_or lines place fallback).up ≡ []) × (sent (get_or lines place fallback).down ≡ [])
 
--- The worker of this line was told these bounds, and has told so many things.
+-- The worker of this line was told these bounds, each after a round in which it was not stopped, and has told so many things.
 pub record IsLineAt (count : ℕ) (bounds : List ℕ) (old new : Line) : Type 0 where
   pub up : SameConsumer old.up new.up
   pub down : SameProducer old.down new.down
   pub told : sent new.down ≡ in_order bounds
   pub heard : length (received new.up) ≡ count
+  pub ended : All (λ end. end.stop ≡ None) (take (length bounds) (received new.up))
 
 -- All workers were told these bounds, at each of which the verdict was opaque so far, and have each told so many things.
 pub record HasLedTo (rules : Rules) (count : ℕ) (bounds : List ℕ) (front : Front) (old new : List Line) : Type 0 where

@@ -3,6 +3,7 @@ pub mod BenchKeep
 pub mod CallSteps
 pub mod Lead
 pub mod LeaderLines
+pub mod MemoryCalls
 pub mod PlayRounds
 pub mod RecordSoon
 pub mod RoundMeeting

@@ -1,6 +1,6 @@
 -- What the definitions and contracts of this crate take from the libraries and from the crates below.
 pub use Rattle.rtrb.specs.Ring.{IsPair, SameConsumer, SameProducer, received, sent}
-pub use Rattle.tmw_defs.specs.History.{answers}
+pub use Rattle.tmw_defs.specs.History.{answers, ends}
 pub use Rattle.tmw_defs.specs.Opaque.{zeros}
 pub use Rattle.tmw_defs.specs.Verdict.{IsVerdict, Rules}
 pub use Rattle.tmw_defs.specs.declared.verdict.Verdict.TheVariants.{Malformed, OpaqueSoFar}

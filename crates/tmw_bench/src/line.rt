@@ -1,7 +1,7 @@
 //! The leader's ends of the lines to its workers.
 ghost use Rattle.tmw_bench.specs.Shared.{ReaderOf, pump_in, reader_of};
-ghost use Rattle.std.specs.Prelude.{length, IfOk, OnOk, IsTrue, IsSome};
-ghost use Rattle.tmw_bench.specs.Lead.{HasHeard, HaveHeardUpTo, HaveToldUpTo, SomeToldStop};
+ghost use Rattle.std.specs.Prelude.{◌≡◌, None, length, IfOk, OnOk, IsTrue, IsFalse, IsSome};
+ghost use Rattle.tmw_bench.specs.Lead.{AllToldEnd, HasHeard, HaveHeardUpTo, HaveToldUpTo, SomeToldStop};
 ghost use Rattle.tmw_bench.specs.BenchKeep.{HasGoneOn};
 
 use crate::bench_keep::BenchKeep;
@@ -56,7 +56,8 @@ fn hear<R: Wait, K: BenchKeep>(
 
 /// Whether the worker was stopped.
 fn is_stopped(ended: &RoundEnd) -> bool
-    ensures { IsTrue result → IsSome ended.now.stop }
+    ensures stopped { IsTrue result → IsSome ended.now.stop }
+    ensures ended { IsFalse result → ended.now.stop ≡ None }
 {
     ended.stop.is_some()
 }
@@ -76,6 +77,8 @@ pub fn hear_all<R: Wait, K: BenchKeep>(
     ensures heard { OnOk result (HaveHeardUpTo (length lines.old) lines.old lines.new) }
     ensures stopped { IfOk result
         (λ heard. IsTrue heard.1 → SomeToldStop (length lines.old) lines.new) }
+    ensures ended { IfOk result
+        (λ heard. IsFalse heard.1 → AllToldEnd (length lines.old) lines.new) }
 {
     let mut most = 0;
     let mut stopped = false;

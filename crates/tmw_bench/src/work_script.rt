@@ -3,8 +3,10 @@ ghost use Rattle.std.specs.Prelude.{◌≡◌, ◌==◌, ◌+◌, ◌<◌, ◌^�
 ghost use Rattle.tmw_drive.specs.FreshTx.{IsFresh};
 ghost use Rattle.tmw_events.specs.declared.event.Kind.TheVariants.{A};
 ghost use Rattle.tmw_bench.specs.CallSteps.{HasCalled, StopsAt};
+ghost use Rattle.tmw_bench.specs.MemoryCalls.{HasCalledInTurn, StopsInTurn, TakesOneTurn};
 ghost use Rattle.tmw_bench.specs.Work.{HasWorked};
 
+use crate::memory_calls::MemoryCalls;
 use crate::record_soon::record_soon;
 use crate::signals::Signals;
 use tmw_drive::{Player, ends};
@@ -18,7 +20,7 @@ use tmw_tm::Tm;
 /// A record for which the ring lacks room is tried `patience` times in all, where 0 counts as 1, unless nobody pumps
 /// any more. One for which the ring's places are spent is tried once. If a transaction has begun in the memory and has
 /// not ended there when the thread stops, it is aborted in the memory; in the record it stays live.
-pub fn work(
+pub fn work<M: MemoryCalls>(
     memory: &(dyn Tm + Sync),
     ring: &Ring,
     writer: &mut Writer,
@@ -32,11 +34,12 @@ pub fn work(
     ensures number { writer.new.number ≡ writer.old.number }
     ensures worked { HasWorked (gives memory.now) (calls_of script.now) writer.old result
         writer.new }
+    ensures called { HasCalledInTurn M.asked M.left writer.old.made result writer.new.made }
 {
     let tries = patience.saturating_sub(1);
     let mut player = Player::new(writer.number());
     while let Some(call) = player.next(script) {
-        if let Some(refused) = step(memory, ring, writer, &mut player, call, tries, signals) {
+        if let Some(refused) = step::<M>(memory, ring, writer, &mut player, call, tries, signals) {
             return Some(refused);
         }
     }
@@ -45,7 +48,7 @@ pub fn work(
 
 /// Makes the player's next call: it is recorded, the memory is asked, and its answer is recorded. Where a record is refused, it
 /// aborts a transaction that the memory still has, and answers the refusal.
-fn step(
+fn step<M: MemoryCalls>(
     memory: &(dyn Tm + Sync),
     ring: &Ring,
     writer: &mut Writer,
@@ -63,18 +66,22 @@ fn step(
     ensures number { writer.new.number ≡ writer.old.number }
     ensures called { IfNone result
         (HasCalled (gives memory.now) call player.old player.new writer.old writer.new) }
+    ensures turn { IfNone result (TakesOneTurn M.asked writer.old.made writer.new.made
+        player.old player.new) }
     ensures stopped { IfSome result (λ refused. StopsAt call refused writer.old writer.new) }
+    ensures leaves { IfSome result (λ _. StopsInTurn M.asked M.left
+        (IsTrue (player.old.call == 0)) writer.old.made writer.new.made player.old.tx) }
 {
     if let Err(refused) = record_soon(ring, writer, call, tries, signals) {
         if player.call > 0 {
-            memory.abort(&mut player.tx);
+            M::leave(memory, player);
         }
         return Some(refused);
     }
-    let answer = player.ask(memory, call);
+    let answer = M::ask(memory, player, call, writer);
     if let Err(refused) = record_soon(ring, writer, answer, tries, signals) {
         if !ends(answer) {
-            memory.abort(&mut player.tx);
+            M::leave(memory, player);
         }
         return Some(refused);
     }

@@ -6,6 +6,7 @@ ghost use Rattle.tmw_bench.specs.Worker.{HasPlayedOn};
 
 use crate::bench_stage::BenchStage;
 use crate::memory_answers::MemoryAnswers;
+use crate::memory_calls::DirectCalls;
 use crate::round_end::RoundEnd;
 use crate::waits::{next_bound, see, tell, wait_for_all};
 use crate::work;
@@ -49,7 +50,7 @@ pub fn play_on<R: Wait, J: MemoryAnswers>(
         stage.orders.begun.rise(threads);
         begun = begun.saturating_add(threads);
         wait_for_all(rt, stage.orders, begun);
-        let stop = work(
+        let stop = work::<DirectCalls>(
             memory,
             stage.ring,
             &mut worker.writer,

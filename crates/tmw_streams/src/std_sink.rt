@@ -1,10 +1,12 @@
-ghost use Rattle.std.specs.Prelude.{◌≡◌, ◌-◌, ◌^◌, ◌<◌, ◌≤◌, [], length, take, min, IfSome, IfNone, replicate};
+ghost use Rattle.std.specs.Prelude.{◌≡◌, ◌≢◌, ◌-◌, ◌^◌, ◌<◌, ◌≤◌, [], length, take, min, IfOk, IfErr, OnErr, replicate};
 ghost use Rattle.std.specs.Io.KnownBytes.{Appends};
+ghost use Rattle.std.specs.IoError.{error_kind};
 ghost use Rattle.std.proofs.Common.{rules};
 ghost use Rattle.std.proofs.lemmas.Grind.{common_steps};
 
 use crate::io_fault::IoFault;
 use crate::sink::Sink;
+use std::io;
 use std::io::{ErrorKind, Write};
 
 /// A sink over a std writer. A failure is what the sink returns as one: no contract knows which of the writer's calls
@@ -45,7 +47,7 @@ impl<W: Write> Sink for StdSink<W> {
 
     fn put(&mut self, bytes: &[u8]) -> Result<usize, IoFault> {
         let written = write_again(&mut self.writer, bytes);
-        let Some(count) = written else {
+        let Ok(count) = written else {
             self.failures = self.failures.saturating_add(1);
             return Err(IoFault);
         };
@@ -57,24 +59,25 @@ impl<W: Write> Sink for StdSink<W> {
         (replicate (taken_count sink) 0, Prim.search (rules, common_steps)) };
 }
 
-/// Writes once, and again after a signal has interrupted it. A write that takes none of some bytes has failed.
-fn write_again<W: Write>(writer: &mut W, bytes: &[u8]) -> Option<usize>
-    ensures within { IfSome result (λ count. count ≤ length bytes.now) }
-    ensures some { IfSome result (λ count. 0 < length bytes.now → 0 < count) }
-    ensures takes { IfSome result (λ count.
+/// Writes once, and again after a signal has interrupted it: 2^64 times at most. A write that takes none of some bytes has failed.
+fn write_again<W: Write>(writer: &mut W, bytes: &[u8]) -> io::Result<usize>
+    ensures within { IfOk result (λ count. count ≤ length bytes.now) }
+    ensures some { IfOk result (λ count. 0 < length bytes.now → 0 < count) }
+    ensures takes { IfOk result (λ count.
         Appends (W.contents writer.old) (W.contents writer.new) (take count bytes.now)) }
-    ensures kept { IfNone result (Appends (W.contents writer.old) (W.contents writer.new) []) }
+    ensures kept { OnErr result (Appends (W.contents writer.old) (W.contents writer.new) []) }
+    ensures retried { IfErr result (λ fault. error_kind fault ≢ ErrorKind.Interrupted) }
 {
     for _ in 0..u64::MAX {
         match writer.write(bytes) {
-            Ok(0) if !bytes.is_empty() => return None,
-            Ok(count) => return Some(count),
+            Ok(0) if !bytes.is_empty() => return Err(io::Error::from(ErrorKind::WriteZero)),
+            Ok(count) => return Ok(count),
             Err(fault) => {
                 if fault.kind() != ErrorKind::Interrupted {
-                    return None;
+                    return Err(fault);
                 }
             }
         }
     }
-    None
+    Err(io::Error::from(ErrorKind::TimedOut))
 }

@@ -1,6 +1,7 @@
-ghost use Rattle.std.specs.Prelude.{◌≡◌, ◌+◌, ◌-◌, ◌^◌, ◌<◌, ◌≤◌, [], length, take, IfSome, IfNone, IsTrue, false, replicate};
+ghost use Rattle.std.specs.Prelude.{◌≡◌, ◌≢◌, ◌+◌, ◌-◌, ◌^◌, ◌<◌, ◌≤◌, [], length, take, IfOk, IfErr, OnErr, IsTrue, false, replicate};
 ghost use Rattle.std.specs.Coded.{→_prop};
 ghost use Rattle.std.specs.Io.KnownBytes.{Consumes, IsAtEnd};
+ghost use Rattle.std.specs.IoError.{error_kind};
 ghost use Rattle.tmw_streams.specs.AtEnd.{IsAtEnd-prop};
 ghost use Rattle.tmw_streams.specs.Transfers.{one_more};
 ghost use Rattle.std.proofs.Common.{rules};
@@ -8,6 +9,7 @@ ghost use Rattle.std.proofs.lemmas.Grind.{common_steps};
 
 use crate::io_fault::IoFault;
 use crate::source::Source;
+use std::io;
 use std::io::{ErrorKind, Read};
 
 /// The most bytes that a source over a std reader tells.
@@ -75,7 +77,7 @@ impl<R: Read> Source for StdSource<R> {
             return Err(self.fail());
         }
         let room = (MOST_TOLD - self.told).min(buffer.len() as u64) as usize;
-        let Some(count) = read_again(&mut self.reader, &mut buffer[..room]) else {
+        let Ok(count) = read_again(&mut self.reader, &mut buffer[..room]) else {
             return Err(self.fail());
         };
         self.told += count as u64;
@@ -89,24 +91,25 @@ impl<R: Read> Source for StdSource<R> {
     ghost none_left = { λ source over. source.at_end over };
 }
 
-/// Reads once, and again after a signal has interrupted it.
-fn read_again<R: Read>(reader: &mut R, buffer: &mut [u8]) -> Option<usize>
-    ensures within { IfSome result (λ count. count ≤ length buffer.old) }
-    ensures gives { IfSome result (λ count.
+/// Reads once, and again after a signal has interrupted it: 2^64 times at most.
+fn read_again<R: Read>(reader: &mut R, buffer: &mut [u8]) -> io::Result<usize>
+    ensures within { IfOk result (λ count. count ≤ length buffer.old) }
+    ensures gives { IfOk result (λ count.
         Consumes (R.remaining reader.old) (R.remaining reader.new) (take count buffer.new)) }
-    ensures end { IfSome result
+    ensures end { IfOk result
         (λ count. 0 < length buffer.old → count ≡ 0 → IsAtEnd (R.remaining reader.new)) }
-    ensures kept { IfNone result (Consumes (R.remaining reader.old) (R.remaining reader.new) []) }
+    ensures kept { OnErr result (Consumes (R.remaining reader.old) (R.remaining reader.new) []) }
+    ensures retried { IfErr result (λ fault. error_kind fault ≢ ErrorKind.Interrupted) }
 {
     for _ in 0..u64::MAX {
         match reader.read(buffer) {
-            Ok(count) => return Some(count),
+            Ok(count) => return Ok(count),
             Err(fault) => {
                 if fault.kind() != ErrorKind::Interrupted {
-                    return None;
+                    return Err(fault);
                 }
             }
         }
     }
-    None
+    Err(io::Error::from(ErrorKind::TimedOut))
 }

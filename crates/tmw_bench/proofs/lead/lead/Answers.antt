@@ -52,7 +52,8 @@ loop-round-preserved g c =
             subst (λ (n : ℕ). HasLedTo rules n (c.in_ok-tail.tail ∷ was.0) c.judge_up_to.new.pump.front c.args.lines.now c.tell_all.new.lines)
                 (omega arith)
                 (led-told rules was.0 c.in_ok-tail.tail c.args.lines.now c.hear_all.new.lines c.tell_all.new.lines
-                c.judge_up_to.new.pump.front led two.judged verdict told),
+                c.judge_up_to.new.pump.front led two.judged verdict told
+                (λ place fallback low. one.ended c.if-stopped.false place fallback (let n = one.heard.counted in omega (arith, n, low)))),
           ),
       gone_on-then c.args.pump.now at.pump c.judge_up_to.new.pump at.invariant.3
           (gone_on-then at.pump c.hear_all.new.pump c.judge_up_to.new.pump one.goes_on two.goes_on),

@@ -1,5 +1,6 @@
-use Rattle.tmw_bench.proofs.Shared.{IsTrue, Line, arith, get_or, get_or_default, length, subst, ◌<◌, ◌≡◌}
-use Rattle.tmw_bench.proofs.Leads.{gone_on-then, heard-next, some_stop-here, some_stop-later}
+use Rattle.std.specs.Prelude.{IsFalse}
+use Rattle.tmw_bench.proofs.Shared.{IsTrue, Line, arith, get_or, get_or_default, length, rules, subst, ◌<◌, ◌≡◌}
+use Rattle.tmw_bench.proofs.Leads.{all_end-next, gone_on-then, heard-next, some_stop-here, some_stop-later}
 use Rattle.tmw_bench.proofs.line.hear_all.Goals.{then-is_stopped, else-is_stopped}
 use Rattle.tmw_bench.proofs.line.hear_all.Goals as goal
 
@@ -16,9 +17,15 @@ loop-line-preserved g c =
       elim c.if-is_stopped.branch [
         | then-is_stopped w ↦ λ _.
             some_stop-here c.args.lines.now at.lines at.line-index item c.hear.new.line c.in_ok-ended.ended low is one.heard
-            (c.is_stopped.ensures w.if-is_stopped.true)
+            (c.is_stopped.ensures.stopped w.if-is_stopped.true)
         | else-is_stopped w ↦ λ told.
             some_stop-later c.args.lines.now at.lines at.line-index item c.hear.new.line c.in_ok-ended.ended low is one.heard
             (at.invariant.3 (subst IsTrue w.stopped-is told))
+      ],
+      elim c.if-is_stopped.branch [
+        | then-is_stopped w ↦ λ untold. absurd (search rules)
+        | else-is_stopped w ↦ λ untold.
+            all_end-next c.args.lines.now at.lines at.line-index item c.hear.new.line c.in_ok-ended.ended low is one.heard
+            (c.is_stopped.ensures.ended w.if-is_stopped.false) (at.invariant.4 (subst IsFalse w.stopped-is untold))
       ],
     )

@@ -1,4 +1,6 @@
 -- The first workers have told one thing more.
+use Rattle.std.specs.Prelude.{IsFalse}
+use Rattle.tmw_bench.specs.Lead.{AllToldEnd}
 use Rattle.tmw_bench.proofs.Shared.{HasGoneOn, HaveHeardUpTo, IsTrue, ReaderOf, SomeToldStop}
 use Rattle.tmw_bench.proofs.line.hear_all.Given as goal
 
@@ -6,3 +8,4 @@ abbrev pub invariant-loop-line : goal.invariant-loop-line
 invariant-loop-line g l =
     ReaderOf l.ring l.pump.reader × HasGoneOn l.fn.pump l.pump
     × HaveHeardUpTo l.line-index l.fn.lines l.lines × (IsTrue l.stopped → SomeToldStop l.line-index l.lines)
+    × (IsFalse l.stopped → AllToldEnd l.line-index l.lines)

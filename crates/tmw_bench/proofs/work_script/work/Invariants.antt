@@ -1,5 +1,6 @@
 -- The player's run of the script so far is recorded.
 use Rattle.tmw_bench.proofs.Shared.{HasRunSoFar, WriterOf, calls_of, left_of, ◌≡◌}
+use Rattle.tmw_bench.proofs.CallTurns.{IsBetweenTurns}
 use Rattle.tmw_bench.proofs.CallsLeft.{calls_left}
 use Rattle.tmw_bench.proofs.work_script.work.Given as goal
 
@@ -8,6 +9,7 @@ invariant-loop-call g l =
     WriterOf l.ring l.writer
     × (l.writer.number ≡ l.fn.writer.number)
     × HasRunSoFar ((goal.Tm-dyn g l.memory.now).gives l.memory.now.1) (calls_of l.script) l.player l.fn.writer l.writer
+    × IsBetweenTurns g.M.MemoryCalls.asked l.fn.writer.made l.writer.made l.player
 
 abbrev pub decreases-loop-call : goal.decreases-loop-call
 decreases-loop-call g l = calls_left (left_of (calls_of l.script) l.player)
