@@ -27,10 +27,23 @@ tests_of() {
     sed -n 's/^test result: .* \([0-9]*\) passed; \([0-9]*\) failed;.*/\1 passed, \2 failed/p' "$folder/$1.output" | grep .
 }
 
+# Runs these scripts, one after another, with less of what takes long.
+lane() {
+    local name
+    for name; do
+        case $name in
+        c) part c env ROUNDS=500 "$top/tests/c.sh" --alone ;;
+        c_waits) part c_waits env ROUNDS=20 "$top/tests/c_waits.sh" ;;
+        orders) part orders "$top/tests/orders.sh" --model ;;
+        *) part "$name" "$top/tests/$name.sh" ;;
+        esac
+    done
+}
 # Adds up what a part came to, and prints its failed rows and what it has skipped. One that ends with a fault and names no failure counts
 # as one.
 end_part() {
     local status seconds well=0 badly=0
+    [ -e "$folder/parts/$1.status" ] || { echo "$1: not run" && return; }
     read -r status seconds <"$folder/parts/$1.status"
     read -r well badly < <(sed -n 's/^\([0-9]*\) passed, \([0-9]*\) failed.*/\1 \2/p' "$folder/parts/$1" | tail -n 1) || true
     [ "$status" -eq 0 ] || [ "${badly:-0}" -gt 0 ] || badly=1
@@ -44,28 +57,23 @@ crates=$(grep -rl '#\[test\]' "$top"/crates/*/src | sed "s|^$top/crates/||; s|/.
 for crate in $crates; do
     part "$crate" tests_of "$crate" &
 done
-part orders "$top/tests/orders.sh" --model &
+lane repository orders &
 mkdir -p "$BUILT/bin"
-part library "$top/tests/unproved.py" library "$BUILT" &
-library=$!
-part program "$top/tests/unproved.py" program "$PROGRAM" &
-wait "$library" $!
-lane() {
-    local name
-    for name; do
-        case $name in
-        c) part c env ROUNDS=500 "$top/tests/c.sh" --alone ;;
-        c_waits) part c_waits env ROUNDS=20 "$top/tests/c_waits.sh" ;;
-        *) part "$name" "$top/tests/$name.sh" ;;
-        esac
-    done
-}
-lane repository command gallery import ci &
-lane c c_waits &
-lane lines &
-lane jobs runs &
+(
+    part program "$top/tests/unproved.py" program "$PROGRAM" &
+    ! has "${CC:-cc}" 'the library for C' || part library "$top/tests/unproved.py" library "$BUILT" &
+    wait
+)
+if [ -x "$PROGRAM" ]; then
+    lane command gallery import &
+    if [ -x "$BUILT/bin/tmwatch-bench" ]; then
+        lane c ci &
+        lane c_waits lines &
+        lane jobs runs &
+    fi
+fi
 wait
-for it in $crates program library repository command gallery import ci c c_waits orders jobs runs lines; do
+for it in $crates repository orders program library command gallery import c ci c_waits lines jobs runs; do
     end_part "$it"
 done
 end_rows && status=0 || status=1

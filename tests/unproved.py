@@ -168,15 +168,17 @@ def lay_out_kit(room):
     for path in glob.glob(f"{KIT}/toolchain/bin/*"):
         if os.path.basename(path) != "clang":
             os.symlink(path, f"{room}/kit/toolchain/bin/{os.path.basename(path)}")
-    keeper = f"{room}/kit/toolchain/bin/clang"
-    with open(keeper, "w", encoding="utf-8") as it:
-        it.write(KEEPER.format(kit=KIT))
-    os.chmod(keeper, 0o755)
     os.mkdir(f"{room}/kit/bin")
     for path in glob.glob(f"{KIT}/bin/*"):
         # (a script finds its kit by where it stands itself)
         put = shutil.copy if os.path.basename(path) in ("rt", "rtlib.py") else os.symlink
         put(path, f"{room}/kit/bin/{os.path.basename(path)}")
+    # (beside a try the prover looks for names that a check refuses, for as long as the try takes)
+    os.remove(f"{room}/kit/bin/rattle")
+    for path, text in (("toolchain/bin/clang", KEEPER.format(kit=KIT)), ("bin/rattle", "#!/bin/sh\n")):
+        with open(f"{room}/kit/{path}", "w", encoding="utf-8") as it:
+            it.write(text)
+        os.chmod(f"{room}/kit/{path}", 0o755)
 
 
 def hints_of(top, crate):
