@@ -9,7 +9,7 @@ libraries that are built here. Goals that the prover refuses where no proof file
 more without its answers, with the edit and without: a goal whose statement the function as it stands doesn't have, or which known values
 break, is a clause's too. All others are refused by a name or an answer alone, as far as this can tell: change a value, so that each name
 stays. 15 to 60 seconds an edit.
-The last line is 'N by a clause, M by a name or an answer alone, K not refused'. Exit status: 0 all are by a clause; 1 not all; 2 other words.
+The last line says how many of each there are. Exit status: 0 all are refused by a clause; 1 not all; 2 other words.
 Environment: JOBS (1), how many at a time.
 """
 import concurrent.futures
@@ -23,6 +23,13 @@ import sys
 import tempfile
 
 TOP = os.path.dirname(os.path.dirname(os.path.dirname(os.path.realpath(__file__))))
+ENDS = {
+    "clause": "by a clause",
+    "name": "by a name or an answer alone",
+    "none": "not refused",
+    "bad": "not compiled",
+    "unknown": "of which nothing is known",
+}
 FUNCTION = re.compile(r"\bfn (\w+)")
 FAULT = re.compile(r"^(?:\./)?(proofs/\S+?\.antt):\d+:\d+: error", re.M)
 REFUSED = re.compile(r"^note: (?:\./)?src/\S+: it is not proved [^\n]*\(`([^`]+)`\)([^\n]*)", re.M)
@@ -95,11 +102,14 @@ def without_answers(crate, function, path, without):
 
 
 def refusal(crate, edit):
-    """Returns by what the edit is refused: `clause`, `name`, `none` or `unknown`, and what to say of it."""
+    """Returns by what the edit is refused, a word of `ENDS`, and what to say of it."""
     path, text, function = edited(edit, crate)
     said, status = check(crate, function, path, text)
     if status == 0:
         return "none", "NOT REFUSED"
+    error = re.search(r"^(?:\./)?src/\S+: error.*", said, re.M)
+    if error:
+        return "bad", f"not compiled: {error[0]}"
     goals, faults = REFUSED.findall(said), FAULT.findall(said)
     if not goals and not faults:
         return "unknown", "nothing is known: " + " ".join(said.split("\n")[-4:])[:200]
@@ -121,16 +131,16 @@ def main(words):
     edits = []
     for word in words:
         found = [word] if word.endswith(".edit") else sorted(glob.glob(f"{TOP}/edits/{word}/*.edit") + glob.glob(f"{TOP}/crates/{word}/must-fail/*.edit"))
-        edits += [(re.search(r"(?:edits|crates)/(\w+)/", os.path.realpath(it))[1], it) for it in found if os.path.exists(it)]
+        edits += [(re.search(r"(\w+)/(?:must-fail/)?[^/]*$", os.path.realpath(it))[1], it) for it in found if os.path.exists(it)]
     if not edits:
         print(__doc__, end="", file=sys.stderr)
         return 2
-    counts = {"clause": 0, "name": 0, "none": 0, "unknown": 0}
+    counts = dict.fromkeys(ENDS, 0)
     with concurrent.futures.ThreadPoolExecutor(int(os.environ.get("JOBS", "1"))) as pool:
         for (crate, edit), (kind, what) in zip(edits, pool.map(lambda it: refusal(*it), edits)):
             counts[kind] += 1
             print(f"{crate}/{os.path.basename(edit)}: {what}", flush=True)
-    print(f"{counts['clause']} by a clause, {counts['name']} by a name or an answer alone, {counts['none'] + counts['unknown']} not refused")
+    print(", ".join(f"{counts[end]} {what}" for end, what in ENDS.items()))
     return 0 if counts["clause"] == len(edits) else 1
 
 
