@@ -2,10 +2,12 @@
 """Plants mistakes into source files, one at a time, and tells which of them a command doesn't notice.
 
     measure/plant.py [OPTION VALUE].. FILE.. -- COMMAND..
+    measure/plant.py [OPTION VALUE].. --edits FOLDER FILE..
 
 An operator, a constant or a condition is turned, a statement dropped, or two arguments swapped, in a copy of the repository, where the
 COMMAND then runs. It notices a mistake if it writes `: FAILED`, fails, or is late: not done in time. The FILEs are .c, .h, .rs, .rt, .py or
-.sh.
+.sh. With --edits nothing runs: as many mistakes as --number says, of all FILEs together, in no clause of a .rt, are written as edits into
+FOLDER/CRATE, of which tests/long/refusals.py tells what the prover refuses.
 
     --seed N          by which mistakes are drawn (1)
     --number N        how many of each FILE (30); 0: all
@@ -58,6 +60,8 @@ SHELL_TESTS = {"-eq": "-ne", "-ne": "-eq", "-lt": "-le", "-le": "-lt", "-gt": "-
 OPEN, CLOSED = "([{", ")]}"
 MOST_SURVIVORS = 0.1
 FAILED = b": FAILED"  # a row of a script has
+# What is proved, and what is no code, in a .rt.
+CLAUSE = re.compile(r"\bghost\b[^;{]*(?:;|\{[^{}]*\})|\b(?:ensures|requires|invariant)\b[^{]*\{(?:[^{}]|\{[^{}]*\})*\}|\b(?:pub )?use [^;]*;|\bconst \w+:")
 
 
 class Token:
@@ -199,7 +203,8 @@ def mistakes_in(path, lines):
     with open(f"{TOP}/{path}", encoding="utf-8") as it:
         text = it.read()
     language = LANGUAGES[os.path.splitext(path)[1]]
-    tokens, seen = tokens_of(text, language), set()
+    clauses = [it.span() for it in CLAUSE.finditer(text)] if path.endswith(".rt") else []
+    tokens, seen = [it for it in tokens_of(text, language) if not any(a <= it.at < b for a, b in clauses)], set()
     for ways in (turned, turned_conditions, swapped_arms, swapped_arguments, dropped_statements):
         for change in ways(text, tokens, language):
             mistake = Mistake(path, text, change)
@@ -324,9 +329,11 @@ def read_options(words):
     parser.add_argument("--build")
     parser.add_argument("--then")
     parser.add_argument("--lines", default="1-1000000")
+    parser.add_argument("--edits")
     parser.add_argument("files", nargs="+")
-    if "--" not in words:
+    if "--" not in words and "--edits" not in words:
         parser.error("no command")
+    words = words if "--" in words else [*words, "--"]
     options = parser.parse_args(words[:words.index("--")])
     options.commands = [words[words.index("--") + 1:]] + ([["sh", "-c", options.then]] if options.then else [])
     options.span = [int(it) for it in options.lines.split("-")]
@@ -338,6 +345,25 @@ def drawn_mistakes(options):
         found = list(mistakes_in(path, options.span))
         rng = random.Random(f"{options.seed} {path}")
         yield from sorted(rng.sample(found, min(options.number or len(found), len(found))), key=lambda it: it.line)
+
+
+def write_edits(options):
+    """Writes mistakes of all files as edits, each where one line is another that stands once in its file: 0, or 1 if they are fewer."""
+    found = [it for path in options.files for it in mistakes_in(path, options.span)]
+    random.Random(options.seed).shuffle(found)
+    written = 0
+    for mistake in found:
+        crate, path = re.fullmatch(r"crates/(\w+)/(.*)", mistake.path).groups()
+        with open(f"{TOP}/{mistake.path}", encoding="utf-8") as it:
+            text = it.read()
+        before, after = text.split("\n"), mistake.text.split("\n")
+        changed = [(one, other) for one, other in zip(before, after) if one != other]
+        if written < options.number and len(before) == len(after) and len(changed) == 1 and text.count(changed[0][0]) == 1 and changed[0][1].strip():
+            os.makedirs(f"{options.edits}/{crate}", exist_ok=True)
+            written += 1
+            with open(f"{options.edits}/{crate}/{written:03}.edit", "w", encoding="utf-8") as it:
+                it.write(f"file: {path}\nold: {changed[0][0]}\nnew: {changed[0][1]}\n")
+    return 0 if written == options.number else 1
 
 
 def try_all(mistakes, copies, options, bytes_before):
@@ -379,6 +405,8 @@ def print_table(mistakes, ends, files):
 
 def main(words):
     options = read_options(words)
+    if options.edits:
+        return write_edits(options)
     for number in signal.SIGINT, signal.SIGTERM:
         signal.signal(number, lambda *_: is_over.set())
     mistakes = list(drawn_mistakes(options))

@@ -2,9 +2,9 @@
 # Compiles the programs of tests/c and examples/c over the library for C, without a warning, and runs them; then runs tests/c_steps.sh,
 # tests/c_waits.sh, tests/runs.sh, tests/jobs.sh, tests/orders.sh and tests/bindings.sh over the same library.
 #
-#   tests/c.sh
+#   tests/c.sh [--alone]
 #
-# A line for each row. The last one is 'N passed, M failed', and the exit status is 1 if a row failed. Without a C compiler nothing is
+# With --alone it runs no other script. A line for each row. The last one is 'N passed, M failed', and the exit status is 1 if a row failed. Without a C compiler nothing is
 # tested: a line says so, and the status is 0.
 # Environment: CC (cc), CXX (c++), BUILT (tests/common.sh), FLAGS (further flags of the compiler), RUN (a command that runs each program),
 # ROUNDS (2000, of the examples).
@@ -272,6 +272,7 @@ if command -v pkg-config >/dev/null; then
     ends 'the package' 0 env PKG_CONFIG_PATH="$built/lib/pkgconfig" sh -c "$cc -std=c11 ${FLAGS:-} -o '$folder/package' '$top/tests/c/misuse.c' \$(pkg-config --cflags --libs tmwatch)"
     ends 'a program by the package' 0 "${run[@]}" "$folder/package"
 fi
+[ "${1:-}" != --alone ] || { end_rows && exit; exit; }
 ends 'the bench by steps' 0 "$top/tests/c_steps.sh"
 ends 'what threads wait for' 0 "$top/tests/c_waits.sh"
 ends 'what the bench writes' 0 "$top/tests/runs.sh"

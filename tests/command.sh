@@ -17,37 +17,15 @@
 #
 # In what is read and written, \\, \r, \t and \xHH stand for bytes, as for printf, and @VERSION@ for the program's version. Empty lines
 # and lines of '#' are comments.
-# Environment: CASES, a folder, for tests/quick.sh: rows are not run, but written there as cases of `rt try --cases`. Once their answers
-# are there, rows are compared with them.
 set -eu
 # shellcheck source=tests/common.sh
 . "$(dirname "${BASH_SOURCE[0]}")/common.sh"
-[ -n "${CASES:-}" ] || [ -x "$program" ] || "$top/build"
+[ -x "$program" ] || "$top/build"
 
 # Runs the program with these words on standard input, and keeps what it writes and its exit status.
 run() {
     status=0
-    if [ -n "${CASES:-}" ]; then
-        run_case "$@"
-        return
-    fi
     "$program" "$@" >"$folder/output" 2>"$folder/errors" || status=$?
-}
-
-# Writes a case of these words and of standard input, or takes its answer.
-run_case() {
-    case=$((${case:-0} + 1))
-    if [ -d "$CASES/answers" ]; then
-        local answer=$CASES/answers/$case
-        status=$(cat "$answer.status" 2>/dev/null || echo 'no answer')
-        cat "$answer.output" 2>/dev/null >"$folder/output" || true
-        cat "$answer.errors" 2>/dev/null >"$folder/errors" || true
-    else
-        cat >"$CASES/$case"
-        printf '%s\n' "$@" >"$CASES/$case.args"
-        : >"$folder/output"
-        : >"$folder/errors"
-    fi
 }
 
 # Tells a row that has begun and has no exit status: it was never run.
@@ -212,7 +190,7 @@ count 'show --trace of two states' "1 $(printf '%s\n' 'opacity-trace 2 1 1' '0 R
     "$status $(cat "$folder/output")"
 for place in 1 2; do
     awk -v place="$place" '/^opacity-trace/ { n++ } n == place' "$folder/output" >"$folder/one_state"
-    count "judge of trace $place" '{"at":2,"events":2,"verdict":"violated"}' "$("$top/tmwatch" judge <"$folder/one_state")"
+    count "judge of trace $place" '{"at":2,"events":2,"verdict":"violated"}' "$("$program" judge <"$folder/one_state")"
 done
 # the window of each example, from its one state, is answered as the example is
 for trace in "$top"/examples/*.trace; do
@@ -254,33 +232,31 @@ expect_of '{"registers":1,"scripts":[[],[]],"order":[]}' 0 "$(printf '%s\n' '{"e
 expect_of '{"registers":1,"scripts":[[],[]],"order":[]}' 4 '{"fault":"ring"}' bench --ring 1
 # on a terminal, and there alone, a bench tells after each 100,000 rounds how far it has come, and clears that at the end
 told_on_terminal() {
-    script -qec "'$top/crates/tmwatch/out/tmwatch' bench $* <'$folder/made' >'$folder/output'" /dev/null </dev/null | sed 's/\r\x1b\[K/|/g'
+    script -qec "'$program' bench $* <'$folder/made' >'$folder/output'" /dev/null </dev/null | sed 's/\r\x1b\[K/|/g'
 }
-if [ -z "${CASES:-}" ]; then
-    printf '{"registers":1,"scripts":[[[%s"T"]]],"order":[]}' "$(yes '"W 0 5",' | head -n 17 | tr -d '\n')" >"$folder/made"
-    count 'a bench that aborts unasked, on a terminal' \
-        '|100000 rounds, 3400000 events, 100000 unasked aborts|200000 rounds, 6800000 events, 200000 unasked aborts|' \
-        "$(told_on_terminal --rounds 200001)"
-    count 'its report' '{"events":6800034,"verdict":"opaque so far"} {"ends":["done"]}' "$(paste -s -d ' ' "$folder/output")"
-    echo "$write" >"$folder/made"
-    line='|100000 rounds, 400000 events, 0 unasked aborts|'
-    for row in ":$line" "--show:$line" "--show --trace:$line" '--trace:' '--quiet:' '--quiet --show:'; do
-        count "bench ${row%%:*} on a terminal" "${row#*:}" "$(told_on_terminal --rounds 100001 ${row%%:*})"
-    done
-    count 'bench of one round on a terminal' '' "$(told_on_terminal)"
-    run bench --rounds 100001 <"$folder/made"
-    count 'bench on no terminal' '' "$(cat "$folder/errors")"
-    # the window of a violated bench is violated, from each of its states
-    run bench --memory torn --rounds 100000 --show --trace <"$top/examples/hunt.json"
-    mv "$folder/output" "$folder/windows"
-    traces=$(grep -c opacity-trace "$folder/windows" || true)
-    count 'bench --memory torn --show --trace, with a trace' '1 1' "$status $((traces > 0))"
-    for place in $(seq "$traces"); do
-        awk -v place="$place" '/^opacity-trace/ { n++ } n == place' "$folder/windows" >"$folder/window"
-        run judge <"$folder/window"
-        count "bench --memory torn --show --trace | judge of trace $place" 1 "$status"
-    done
-fi
+printf '{"registers":1,"scripts":[[[%s"T"]]],"order":[]}' "$(yes '"W 0 5",' | head -n 17 | tr -d '\n')" >"$folder/made"
+count 'a bench that aborts unasked, on a terminal' \
+    '|100000 rounds, 3400000 events, 100000 unasked aborts|200000 rounds, 6800000 events, 200000 unasked aborts|' \
+    "$(told_on_terminal --rounds 200001)"
+count 'its report' '{"events":6800034,"verdict":"opaque so far"} {"ends":["done"]}' "$(paste -s -d ' ' "$folder/output")"
+echo "$write" >"$folder/made"
+line='|100000 rounds, 400000 events, 0 unasked aborts|'
+for row in ":$line" "--show:$line" "--show --trace:$line" '--trace:' '--quiet:' '--quiet --show:'; do
+    count "bench ${row%%:*} on a terminal" "${row#*:}" "$(told_on_terminal --rounds 100001 ${row%%:*})"
+done
+count 'bench of one round on a terminal' '' "$(told_on_terminal)"
+run bench --rounds 100001 <"$folder/made"
+count 'bench on no terminal' '' "$(cat "$folder/errors")"
+# the window of a violated bench is violated, from each of its states
+run bench --memory torn --rounds 100000 --show --trace <"$top/examples/hunt.json"
+mv "$folder/output" "$folder/windows"
+traces=$(grep -c opacity-trace "$folder/windows" || true)
+count 'bench --memory torn --show --trace, with a trace' '1 1' "$status $((traces > 0))"
+for place in $(seq "$traces"); do
+    awk -v place="$place" '/^opacity-trace/ { n++ } n == place' "$folder/windows" >"$folder/window"
+    run judge <"$folder/window"
+    count "bench --memory torn --show --trace | judge of trace $place" 1 "$status"
+done
 expect_of '{' 4 '{"fault":"json"}' bench
 expect_of '[]' 4 '{"fault":"shape"}' bench --trace
 
@@ -462,14 +438,12 @@ least_time() {
     echo "$least"
 }
 # 3,000,000 events are judged within forty times what it takes to count their lines
-if [ -z "${CASES:-}" ]; then
-    { echo 'opacity-trace 1 1' && serial_events 3000000; } >"$folder/made"
-    counting=$(least_time wc -l)
-    judging=$(least_time "$program" judge)
-    echo "judge of 3,000,000 events: $((judging / counting)) times wc -l, $judging and $counting microseconds"
-    count 'judge of 3,000,000 events, within 40 times wc -l' '1 {"events":3000000,"verdict":"opaque so far"}' \
-        "$((judging <= 40 * counting)) $(cat "$folder/output")"
-fi
+{ echo 'opacity-trace 1 1' && serial_events 3000000; } >"$folder/made"
+counting=$(least_time wc -l)
+judging=$(least_time "$program" judge)
+echo "judge of 3,000,000 events: $((judging / counting)) times wc -l, $judging and $counting microseconds"
+count 'judge of 3,000,000 events, within 40 times wc -l' '1 {"events":3000000,"verdict":"opaque so far"}' \
+    "$((judging <= 40 * counting)) $(cat "$folder/output")"
 
 # each beginning of a workload but the whole is no JSON
 reads='{"registers":1,"scripts":[[["R 0","R 0","T"]]],"order":[0,0,0]}'
@@ -511,12 +485,12 @@ done
 # standard output that takes nothing, which standard error tells, and standard error that takes nothing
 for words in 'judge' 'judge --summary' 'show' 'drive' 'bench' 'steps' '--help' 'replay'; do
     status=0
-    "$top/tmwatch" $words <"$top/examples/dirty_read.trace" >/dev/full 2>"$folder/errors" || status=$?
+    "$program" $words <"$top/examples/dirty_read.trace" >/dev/full 2>"$folder/errors" || status=$?
     count "$words > /dev/full" '4 error: the output could not be written: disk full? Trust no verdict; run again' \
         "$status $(tail -n 1 "$folder/errors")"
 done
 status=0
-"$top/tmwatch" replay </dev/null >"$folder/output" 2>/dev/full || status=$?
+"$program" replay </dev/null >"$folder/output" 2>/dev/full || status=$?
 count 'replay 2> /dev/full' "4 '{\"fault\":\"usage\"}'" "$status '$(cat "$folder/output")'"
 
 # before a build, help, the version and wrong words take no kit, and a terminal is told what is compiled

@@ -8,7 +8,7 @@
 top=$(cd "$(dirname "${BASH_SOURCE[0]}")/.." && pwd)
 folder=$(mktemp -d)
 trap 'rm -rf "$folder"' EXIT
-program=$top/crates/tmwatch/out/tmwatch
+program=${PROGRAM:-$top/crates/tmwatch/out/tmwatch}
 version=$(sed -n 's/.*"tmwatch \([0-9.]*\), .*/\1/p' "$top/crates/tmw_command/specs/Version.antt")
 passed=0 failed=0
 

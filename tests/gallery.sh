@@ -11,12 +11,13 @@
 set -eu
 # shellcheck source=tests/common.sh
 . "$(dirname "${BASH_SOURCE[0]}")/common.sh"
+[ -x "$program" ] || "$top/build"
 verdicts=$top/examples/verdicts.txt
 
 # Judges a trace by a criterion, and keeps what is written and the exit status.
 judge() {
     status=0
-    output=$("$top/tmwatch" judge --criterion "$2" <"$top/examples/$1.trace") || status=$?
+    output=$("$program" judge --criterion "$2" <"$top/examples/$1.trace") || status=$?
 }
 
 # Counts whether a page has this text, after such a line: the page, the row's name, the line and the text.
@@ -34,7 +35,7 @@ settled() {
 # Why a trace is violated by opacity.
 explain() {
     printf '    $ ./tmwatch show --why < examples/%s.trace | grep why\n' "$1"
-    "$top/tmwatch" show --why <"$top/examples/$1.trace" | sed -n 's/^    why/        why/p'
+    "$program" show --why <"$top/examples/$1.trace" | sed -n 's/^    why/        why/p'
 }
 
 # A trace as the page shows it: its events in a column for each thread, then the command and its two lines, and why it is violated by opacity.
@@ -75,14 +76,14 @@ for name in $(sed -n 's/^    \$ .* examples\/\(.*\)\.trace$/\1/p' "$top/docs/GAL
         missing=''
         while IFS= read -r row; do
             grep -qxF -- "$row" <<<"$drawn" || missing=$row
-        done < <("$top/tmwatch" "${command[@]}" <"$top/examples/$name.trace" | grep '^ *[0-9]')
+        done < <("$program" "${command[@]}" <"$top/examples/$name.trace" | grep '^ *[0-9]')
         count "$words of $name: a line that the page lacks" '' "$missing"
     done
 done
 
 # What `show --why` draws of a trace, as a page has it.
 drawn_of() {
-    "$top/tmwatch" show --why <"$top/$1" | sed 's/^/    /'
+    "$program" show --why <"$top/$1" | sed 's/^/    /'
 }
 
 expect_on README.md norec_reads '    $ ./tmwatch show --why < bad.trace' "$(drawn_of examples/norec_reads.trace)"

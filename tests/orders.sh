@@ -3,9 +3,9 @@
 # have to come to all executions that C++20 allows and to no other, plain accesses; and mistakes planted into it, each of which these have to
 # notice. Then memories by --orders c++.
 #
-#   tests/orders.sh
+#   tests/orders.sh [--model]
 #
-# A line for each row. The last one is 'N passed, M failed', and the exit status is 1 if a row failed. Without a C compiler nothing is
+# With --model the model's own tests run alone: no mistake and no memory. A line for each row. The last one is 'N passed, M failed', and the exit status is 1 if a row failed. Without a C compiler nothing is
 # tested: a line says so, and the status is 0.
 # Environment: CC (cc), BUILT (tests/common.sh), FLAGS (further flags of the compiler: no mistake is then planted, and by -fsanitize=thread
 # nothing runs: the model goes by one thread, and memories are compiled so already).
@@ -48,6 +48,7 @@ ends 'the tests of a model that tells few operations apart compile' 0 compile_mo
 ends 'random runs, few operations told apart' 0 "$folder/models/random" 50000
 cp "$top/bench-c/instrumented/orders/simulation.c" "$folder/bench-c/instrumented/orders"
 unset last
+[ "${1:-}" != --model ] || { end_rows && exit; exit; }
 
 # Whether one of the model's tests fails.
 is_noticed() {

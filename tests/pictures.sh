@@ -12,7 +12,7 @@
 set -eu
 # shellcheck source=tests/common.sh
 . "$(dirname "${BASH_SOURCE[0]}")/common.sh"
-pictures=$top/docs/pictures examples=$top/examples program=${PROGRAM:-$program}
+pictures=$top/docs/pictures examples=$top/examples
 drawings=(crates verdict cut moments)
 
 # Calls these words for each picture: its file, its size, light or dark, what the page runs, and the trace with options.

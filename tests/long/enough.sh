@@ -19,6 +19,5 @@
 set -eu
 # shellcheck source=tests/common.sh
 . "$(dirname "${BASH_SOURCE[0]}")/../common.sh"
-program=${PROGRAM:-$program}
 [ -x "$program" ] || { echo 'enough.sh: the program is not built: ./build' >&2 && exit 2; }
 python3 "$top/tests/long/enough.py" "$program" "${1:-100000}" "${SEED:-1}"

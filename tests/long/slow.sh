@@ -17,10 +17,10 @@ ln -s "$top/crates" "$folder/crates"
 cp "$top"/tests/{speed,common}.sh "$folder/tests/"
 cp "$top/measure/traces.c" "$folder/measure/"
 
-ends 'the tree as it is, unproved' 0 "$top/tests/long/unproved.py" "$folder/as_it_is"
+ends 'the tree as it is, unproved' 0 "$top/tests/unproved.py" judge "$folder/as_it_is"
 ends 'its limits' 0 "$folder/tests/speed.sh" write "$folder/as_it_is"
 for name in "$@"; do
-    ends "$name, unproved" 0 "$top/tests/long/unproved.py" "$folder/$name" "$top/tests/long/slow/$name.edit"
+    ends "$name, unproved" 0 "$top/tests/unproved.py" judge "$folder/$name" "$top/tests/long/slow/$name.edit"
     [ -x "$folder/$name" ] || continue
     ends "$name" 1 "$folder/tests/speed.sh" "$folder/$name"
     grep FAILED "$folder/output" || true

@@ -1,12 +1,14 @@
 #!/usr/bin/env python3
-"""Builds `judge` alone, unproved and without checks, so that an edit's instructions are counted before it is proved.
+"""Builds unproved what ./build proves first: the program, the library for C, or `judge` alone, on which nobody may rest.
 
-    tests/long/unproved.py PROGRAM [EDIT]
+    tests/unproved.py program PROGRAM
+    tests/unproved.py library FOLDER         the library for C, as ./tmwatch-c lays it out (packaging/layout.py)
+    tests/unproved.py judge PROGRAM [EDIT]   it takes --criterion, --first and --summary, and has no checks: edits' instructions are counted by it
 
-EDIT is a file as in edits/, whose `file:` is below crates/. PROGRAM takes the words --criterion, --first and --summary, and judges nothing
-that anybody may rest on. `rt try` makes LLVM's code of the sources, with checks, and calls the kit's clang, in whose place a script here keeps
-that code. The checks go out, the functions get the inlining words of their sources, which `rt try` drops, and clang and rattle-link make the
-program. How `rt try` calls clang no kit promises. A minute, and two in all.
+EDIT is a file as in edits/, whose `file:` is below crates/. `rt try` makes LLVM's code of the sources, with checks, and calls the kit's clang,
+in whose place a script here keeps that code; clang and rattle-link make the program. A fault of the first two ends in a trap. For `judge` the
+checks go out, and functions get the inlining words of their sources, which `rt try` drops. How `rt try` calls clang no kit promises. One to
+three minutes.
 Exit status: 0 it is built; 1 it is not, and why; 2 other words.
 """
 import glob
@@ -17,9 +19,10 @@ import subprocess
 import sys
 import tempfile
 
-TOP = os.path.dirname(os.path.dirname(os.path.dirname(os.path.realpath(__file__))))
+TOP = os.path.dirname(os.path.dirname(os.path.realpath(__file__)))
 KIT = os.path.dirname(subprocess.check_output(["rt", "doc"], text=True).strip())
 TARGET = "x86_64-unknown-linux-gnu"
+CLANG = [f"{KIT}/toolchain/bin/clang", f"--target={TARGET}", "--no-default-config", "-w", "-x", "ir"]
 MAIN = """//! `judge` alone.
 #![tactic(auto)]
 
@@ -54,6 +57,35 @@ fn main(rt: HostRuntime) -> ExitCode {
     ExitCode::from(run_judge_with(rt.alloc(), &mut source, &mut sink, &mut errors, options))
 }
 """
+# What calls each function that C programs call, since code that no `main` reaches is not made: values by the types of parameters.
+LIBRARY_MAIN = """
+use std::alloc::Global;
+use tmw_handles::{{RecorderHandle, WatchHandle}};
+
+fn main(rt: HostRuntime) {{
+    let alloc = rt.alloc();
+    let mut watch = WatchHandle::empty(alloc);
+    let mut recorders = [RecorderHandle::empty(alloc)];
+    let mut number = 0;
+    {calls}
+}}
+"""
+VALUES = {
+    "Global": "alloc",
+    "&mut WatchHandle": "&mut watch",
+    "&mut [RecorderHandle]": "&mut recorders",
+    "&mut RecorderHandle": "&mut recorders[0]",
+    "&CSettings": "&crate::c_settings::CSettings { registers: 1, start: [0; 8], window: 8, states: 8, cells: 8, limit: 8 }",
+    "&mut CVerdict": "&mut crate::c_verdict::CVerdict { events: 0, at: 0, verdict: 0, why: 0 }",
+    "&mut CCounts": "&mut crate::c_counts::CCounts { aborted: 0, committed: 0, cuts: 0, live: 0, overlapping: 0, transactions: 0, "
+    "unasked: 0, widest: 0, none_overlapped: 0 }",
+    "&[Call]": "&[crate::c_turn::Call { letter: 82, register: 0, value: 0 }]",
+    "&mut CTurn": "&mut crate::c_turn::CTurn { place: 0, phase: 0 }",
+    "&mut u64": "&mut number",
+    "u64": "0",
+    "u32": "0",
+}
+EXPORT = re.compile(r'pub extern "C" fn (\w+)\(([^)]*)\)')
 # What stands in the place of the kit's clang: it keeps the code of the run with checks, and ends that run.
 KEEPER = """#!/bin/sh
 case "$*" in *-fsanitize=address*) cp module.bc "$(dirname "$0")/../../../module.bc" && exit 1 ;; esac
@@ -64,11 +96,11 @@ FUNCTION = re.compile(r"((?:[ \t]*(?:#\[[^\n]*\]|///[^\n]*)\n)+)([ \t]*)(?:pub(?
 IMPL = re.compile(r"^impl(?:<[^\n]*?>)? (?:([\w:]+)(?:<[^\n]*>)? for )?([\w:]+)", re.M)
 
 
-def crates_below():
-    """Returns the lines of crates.txt for tmw_judge and those that it stands on, by their names."""
+def crates_below(top):
+    """Returns the lines of crates.txt for this crate and those that it stands on, by their names."""
     with open(f"{TOP}/crates.txt", encoding="utf-8") as it:
         lines = {re.match(r"\w+", line)[0]: line for line in it if re.match(r"\w", line)}
-    found, left = set(), ["tmw_judge"]
+    found, left = set(), [top]
     while left:
         name = left.pop()
         if name in lines and name not in found:
@@ -77,18 +109,37 @@ def crates_below():
     return {name: lines[name] for name in lines if name in found}
 
 
-def copy_crates(room):
-    """Copies the sources of these crates into the room, and adds the program."""
-    crates = crates_below()
+def copy_crates(room, top):
+    """Copies the sources of this crate and those below it into the room, as a repository."""
+    crates = crates_below(top)
     for name in crates:
         shutil.copytree(f"{TOP}/crates/{name}/src", f"{room}/crates/{name}/src")
+    with open(f"{room}/crates.txt", "w", encoding="utf-8") as it:
+        it.writelines(line.replace(" staticlib", "") for line in crates.values())
+    shutil.copyfile(f"{TOP}/HANDLES", f"{room}/HANDLES")
+    os.mkdir(f"{room}/.git")
+
+
+def add_judge(room):
+    """Adds the program that is `judge` alone."""
     os.makedirs(f"{room}/crates/judge_alone/src")
     with open(f"{room}/crates/judge_alone/src/main.rt", "w", encoding="utf-8") as it:
         it.write(MAIN)
-    with open(f"{room}/crates.txt", "w", encoding="utf-8") as it:
-        it.writelines([*crates.values(), "judge_alone: tmw_streams tmw_defs tmw_judge tmw_monitor tmw_options\n"])
-    shutil.copyfile(f"{TOP}/HANDLES", f"{room}/HANDLES")
-    os.mkdir(f"{room}/.git")
+    with open(f"{room}/crates.txt", "a", encoding="utf-8") as it:
+        it.write("judge_alone: tmw_streams tmw_defs tmw_judge tmw_monitor tmw_options\n")
+
+
+def add_calls(folder):
+    """Makes a program of the library's crate, which calls each function that C programs call."""
+    calls = []
+    for path in sorted(glob.glob(f"{folder}/*.rt")):
+        with open(path, encoding="utf-8") as it:
+            for name, parameters in EXPORT.findall(it.read()):
+                values = [VALUES[it.partition(": ")[2]] for it in re.split(r",\s*", parameters.strip().rstrip(","))]
+                calls.append(f"{os.path.basename(path)[:-3]}::{name}({', '.join(values)});")
+    os.rename(f"{folder}/lib.rt", f"{folder}/main.rt")
+    with open(f"{folder}/main.rt", "a", encoding="utf-8") as it:
+        it.write(LIBRARY_MAIN.format(calls="\n    ".join(calls)))
 
 
 def plant(room, edit):
@@ -117,15 +168,17 @@ def lay_out_kit(room):
     for path in glob.glob(f"{KIT}/toolchain/bin/*"):
         if os.path.basename(path) != "clang":
             os.symlink(path, f"{room}/kit/toolchain/bin/{os.path.basename(path)}")
-    keeper = f"{room}/kit/toolchain/bin/clang"
-    with open(keeper, "w", encoding="utf-8") as it:
-        it.write(KEEPER.format(kit=KIT))
-    os.chmod(keeper, 0o755)
     os.mkdir(f"{room}/kit/bin")
     for path in glob.glob(f"{KIT}/bin/*"):
         # (a script finds its kit by where it stands itself)
         put = shutil.copy if os.path.basename(path) in ("rt", "rtlib.py") else os.symlink
         put(path, f"{room}/kit/bin/{os.path.basename(path)}")
+    # (beside a try the prover looks for names that a check refuses, for as long as the try takes)
+    os.remove(f"{room}/kit/bin/rattle")
+    for path, text in (("toolchain/bin/clang", KEEPER.format(kit=KIT)), ("bin/rattle", "#!/bin/sh\n")):
+        with open(f"{room}/kit/{path}", "w", encoding="utf-8") as it:
+            it.write(text)
+        os.chmod(f"{room}/kit/{path}", 0o755)
 
 
 def hints_of(top, crate):
@@ -184,40 +237,88 @@ def run(words, **how):
     return ran.returncode, ran.stdout
 
 
-def compile_program(room, program):
-    clang = [f"{KIT}/toolchain/bin/clang", f"--target={TARGET}", "--no-default-config", "-w", "-x", "ir"]
+def exported(lines):
+    """Returns the lines of LLVM's code with the functions that C programs call, by their names, and without a `main`."""
+    for line in lines:
+        line = re.sub(r'@"tmw_c::\w+::(tmwatch_\w+)"', r"@\1", line)
+        yield re.sub(r"^define i32 @main\(", "define internal i32 @none(", re.sub(r"^define internal (.*@tmwatch_)", r"define \1", line))
+
+
+def tool(*words, **how):
+    """Runs a tool, which has to succeed."""
+    status, said = run(words, **how)
+    if status:
+        sys.exit(f"unproved.py: {os.path.basename(words[0])} failed: {said}")
+
+
+def keep_code(room, crate):
+    """Has `rt try` make the code of this program, in module.bc."""
+    lay_out_kit(room)
+    _, said = run([f"{room}/kit/bin/rt", "try", "--steps", "1"], cwd=f"{room}/crates/{crate}", stdin=subprocess.DEVNULL)
+    if not os.path.exists(f"{room}/module.bc"):
+        sys.exit(f"unproved.py: rt try kept no code: {said}")
+
+
+def change_code(room, change):
+    """Makes LLVM's text of the code, and changes its lines."""
+    tool(*CLANG, f"{room}/module.bc", "-S", "-emit-llvm", "-Xclang", "-disable-llvm-passes", "-o", f"{room}/checked.ll")
+    with open(f"{room}/checked.ll", encoding="utf-8") as it, open(f"{room}/changed.ll", "w", encoding="utf-8") as to:
+        to.writelines(change(it))
+
+
+def compile_code(room, code, *words):
+    """Compiles the code to an object."""
+    flags = ["-no-trap-after-noreturn", "-trap-unreachable", "-no-x86-call-frame-opt"]
+    flags = [it for word in flags for it in ("-mllvm", word)] + ["-march=x86-64-v2", "-ffunction-sections", "-fdata-sections"]
+    tool(*CLANG, f"{room}/{code}", *flags, *words, "-c", "-o", f"{room}/code.o")
+
+
+def link(room, program):
+    words = ["--target", TARGET, "--toolchain", f"{KIT}/toolchain", "-o", program, f"{room}/code.o"]
+    tool(f"{KIT}/bin/rattle-link", *words, f"{KIT}/c/libos_c.a", f"{KIT}/c/liblibc_c.a")
+
+
+def build_program(room, program):
+    copy_crates(room, "tmwatch")
+    keep_code(room, "tmwatch")
+    compile_code(room, "module.bc", "-fPIE", "-O1")
+    link(room, program)
+
+
+def build_library(room, folder):
+    copy_crates(room, "tmw_c")
+    add_calls(f"{room}/crates/tmw_c/src")
+    keep_code(room, "tmw_c")
+    change_code(room, exported)
+    compile_code(room, "changed.ll", "-fPIC", "-O2")
+    # (as ./build makes the archive)
+    tool("ar", "x", f"{KIT}/c/liblibc_c.a", "heap.pic.o", cwd=room)
+    tool("ar", "rcs", "libtmwatch.a", "code.o", "heap.pic.o", cwd=room)
+    tool(f"{TOP}/packaging/layout.py", f"{room}/libtmwatch.a", folder)
+
+
+def build_judge(room, program, edit=None):
+    copy_crates(room, "tmw_judge")
+    add_judge(room)
+    if edit:
+        plant(room, edit)
+    keep_code(room, "judge_alone")
     hints = {}
     for path in [*glob.glob(f"{room}/crates/*/src"), *glob.glob(f"{KIT}/rattle/*/src")]:
         for key, words in hints_of(path, path.split("/")[-2]).items():
             hints.setdefault(key[2], []).append((key, words))
-    steps = [[*clang, f"{room}/module.bc", "-S", "-emit-llvm", "-Xclang", "-disable-llvm-passes", "-o", f"{room}/checked.ll"]]
-    words = ["-no-trap-after-noreturn", "-trap-unreachable", "-no-x86-call-frame-opt"]
-    words = [it for word in words for it in ("-mllvm", word)] + ["-march=x86-64-v2", "-ffunction-sections", "-fdata-sections", "-fPIE", "-O3"]
-    steps.append([*clang, f"{room}/plain.ll", *words, "-c", "-o", f"{room}/plain.o"])
-    link = [f"{KIT}/bin/rattle-link", "--target", TARGET, "--toolchain", f"{KIT}/toolchain", "-o", program, f"{room}/plain.o"]
-    steps.append([*link, f"{KIT}/c/libos_c.a", f"{KIT}/c/liblibc_c.a"])
-    for number, step in enumerate(steps):
-        if number == 1:
-            with open(f"{room}/checked.ll", encoding="utf-8") as it, open(f"{room}/plain.ll", "w", encoding="utf-8") as to:
-                to.writelines(without_checks(it, hints))
-        status, said = run(step)
-        if status:
-            sys.exit(f"unproved.py: {os.path.basename(step[0])} failed: {said}")
+    change_code(room, lambda lines: without_checks(lines, hints))
+    compile_code(room, "changed.ll", "-fPIE", "-O3")
+    link(room, program)
 
 
 def main(words):
-    if len(words) not in (1, 2):
+    build = {"program": build_program, "library": build_library, "judge": build_judge}.get(words[0] if words else "")
+    if not build or len(words) not in ((2, 3) if build is build_judge else (2,)):
         print(__doc__, end="", file=sys.stderr)
         return 2
     with tempfile.TemporaryDirectory() as room:
-        copy_crates(room)
-        if words[1:]:
-            plant(room, words[1])
-        lay_out_kit(room)
-        _, said = run([f"{room}/kit/bin/rt", "try", "--steps", "1"], cwd=f"{room}/crates/judge_alone", stdin=subprocess.DEVNULL)
-        if not os.path.exists(f"{room}/module.bc"):
-            sys.exit(f"unproved.py: rt try kept no code: {said}")
-        compile_program(room, os.path.abspath(words[0]))
+        build(room, os.path.abspath(words[1]), *words[2:])
     return 0
 
 

@@ -1,0 +1,148 @@
+#!/usr/bin/env python3
+"""Tells of wrong bodies by what the prover refuses each: a goal of a clause, or no more than a name that is gone or an answer that fits no
+longer, which says nothing of the contract.
+
+    tests/long/refusals.py CRATE|EDIT..
+
+A CRATE's edits are those of edits/CRATE and of crates/CRATE/must-fail. The turned function is checked alone (rt check --only), in a copy, over the
+libraries that are built here. Goals that the prover refuses where no proof file is at fault are a clause's. Else the function is checked once
+more without its answers, with the edit and without: a goal whose statement the function as it stands doesn't have, or which known values
+break, is a clause's too. All others are refused by a name or an answer alone, as far as this can tell: change a value, so that each name
+stays. 15 to 60 seconds an edit.
+The last line says how many of each there are. Exit status: 0 all are refused by a clause; 1 not all; 2 other words.
+Environment: JOBS (1), how many at a time.
+"""
+import concurrent.futures
+import functools
+import glob
+import os
+import re
+import shutil
+import subprocess
+import sys
+import tempfile
+
+TOP = os.path.dirname(os.path.dirname(os.path.dirname(os.path.realpath(__file__))))
+ENDS = {
+    "clause": "by a clause",
+    "name": "by a name or an answer alone",
+    "none": "not refused",
+    "bad": "not compiled",
+    "unknown": "of which nothing is known",
+}
+FUNCTION = re.compile(r"\bfn (\w+)")
+FAULT = re.compile(r"^(?:\./)?(proofs/\S+?\.antt):\d+:\d+: error", re.M)
+REFUSED = re.compile(r"^note: (?:\./)?src/\S+: it is not proved [^\n]*\(`([^`]+)`\)([^\n]*)", re.M)
+STATEMENT = re.compile(r"^note: `([^`]+)` of proofs/\S+ must prove: ([^\n]*)", re.M)
+
+
+def read(path):
+    with open(path, encoding="utf-8") as it:
+        return it.read()
+
+
+def edited(edit, crate):
+    """Returns the file that the edit changes, its text with the edit, and the function that the first change is in, if any."""
+    lines = [line.partition(": ") for line in read(edit).splitlines() if line.strip()]
+    path, pairs = lines[0][2], list(zip(lines[1::2], lines[2::2]))
+    text = read(f"{TOP}/crates/{crate}/{path}")
+    names = FUNCTION.findall(text[: text.find(pairs[0][0][2]) + len(pairs[0][0][2])])
+    for (_, _, old), (_, _, new) in pairs:
+        if text.count(old) != 1:
+            sys.exit(f"refusals.py: {edit}: {text.count(old)} times in its file: {old}")
+        text = text.replace(old, new)
+    return path, text, names[-1] if names and path.startswith("src/") else None
+
+
+def copy_crates(crate, room):
+    """Copies the crate and those that it stands on into the room, as a repository, with the libraries that are built."""
+    lines = {re.match(r"\w+", it)[0]: it for it in read(f"{TOP}/crates.txt").splitlines() if re.match(r"\w", it)}
+    found, left = [], [crate]
+    while left:
+        name = left.pop()
+        if name in lines and name not in found:
+            found.append(name)
+            left += lines[name].partition(":")[2].split()
+            for part in ("src", "specs", "proofs", *["out/rlib"] * (name != crate)):
+                if os.path.isdir(f"{TOP}/crates/{name}/{part}"):
+                    shutil.copytree(f"{TOP}/crates/{name}/{part}", f"{room}/crates/{name}/{part}")
+    with open(f"{room}/crates.txt", "w", encoding="utf-8") as it:
+        it.writelines(f"{lines[name]}\n" for name in found)
+    shutil.copyfile(f"{TOP}/HANDLES", f"{room}/HANDLES")
+    os.mkdir(f"{room}/.git")
+
+
+def module_of(crate, path):
+    return "::".join([crate, *path[4:-3].split("/")])
+
+
+def check(crate, function, path, text, without=()):
+    """Checks the function, or the crate, in a copy with this text in the file, and without these proof files: what is said, and the status."""
+    with tempfile.TemporaryDirectory() as room:
+        copy_crates(crate, room)
+        with open(f"{room}/crates/{crate}/{path}", "w", encoding="utf-8") as it:
+            it.write(text)
+        for name in without:
+            os.remove(f"{room}/crates/{crate}/{name}")
+        words = ["rt", "check", "--jobs", "1"]
+        # (where several functions have the name, the module)
+        for only in [["--only", function], ["--only", module_of(crate, path)]] if function else [[]]:
+            how = {"stdout": subprocess.PIPE, "stderr": subprocess.STDOUT, "text": True, "check": False}
+            ran = subprocess.run([*words, *only], cwd=f"{room}/crates/{crate}", **how)
+            if "error: several functions are named" not in ran.stdout:
+                break
+        return ran.stdout, ran.returncode
+
+
+@functools.lru_cache(maxsize=None)
+def without_answers(crate, function, path, without):
+    """Returns the statements that the function as it stands leaves unproved without its answers."""
+    said, _ = check(crate, function, path, read(f"{TOP}/crates/{crate}/{path}"), without)
+    return frozenset(it for _, it in STATEMENT.findall(said))
+
+
+def refusal(crate, edit):
+    """Returns by what the edit is refused, a word of `ENDS`, and what to say of it."""
+    path, text, function = edited(edit, crate)
+    said, status = check(crate, function, path, text)
+    if status == 0:
+        return "none", "NOT REFUSED"
+    error = re.search(r"^(?:\./)?src/\S+: error.*", said, re.M)
+    if error:
+        return "bad", f"not compiled: {error[0]}"
+    goals, faults = REFUSED.findall(said), FAULT.findall(said)
+    if not goals and not faults:
+        return "unknown", "nothing is known: " + " ".join(said.split("\n")[-4:])[:200]
+    if not faults or any("allow values" in rest for _, rest in goals):
+        return "clause", f"by a clause: {goals[0][0]}"
+    without = tuple(sorted({it for it in faults if it.endswith("/Answers.antt") and it != path}))
+    if not without or not function:
+        return "name", f"by a name alone: {re.search(FAULT.pattern + '.*', said, re.M)[0][:200]}"
+    said, status = check(crate, function, path, text, without)
+    broken = {name for name, rest in REFUSED.findall(said) if "allow values" in rest}
+    before = without_answers(crate, function, path, without)
+    new = [name for name, it in STATEMENT.findall(said) if name in broken or it not in before]
+    if new:
+        return "clause", f"by a clause, without the answers: {new[0]}"
+    return "name", f"by {'an answer' if status == 0 else 'a name or an answer'} alone: {faults[0]}"
+
+
+def main(words):
+    edits = []
+    for word in words:
+        found = [word] if word.endswith(".edit") else sorted(glob.glob(f"{TOP}/edits/{word}/*.edit") + glob.glob(f"{TOP}/crates/{word}/must-fail/*.edit"))
+        edits += [(re.search(r"(\w+)/(?:must-fail/)?[^/]*$", os.path.realpath(it))[1], it) for it in found if os.path.exists(it)]
+    if not edits:
+        print(__doc__, end="", file=sys.stderr)
+        return 2
+    counts = dict.fromkeys(ENDS, 0)
+    with concurrent.futures.ThreadPoolExecutor(int(os.environ.get("JOBS", "1"))) as pool:
+        for (crate, edit), (kind, what) in zip(edits, pool.map(lambda it: refusal(*it), edits)):
+            counts[kind] += 1
+            print(f"{crate}/{os.path.basename(edit)}: {what}", flush=True)
+    print(", ".join(f"{counts[end]} {what}" for end, what in ENDS.items()))
+    return 0 if counts["clause"] == len(edits) else 1
+
+
+if __name__ == "__main__":
+    sys.exit(main(sys.argv[1:]))
