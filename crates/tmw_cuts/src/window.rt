@@ -44,11 +44,7 @@ fn no_txns() -> [Txn; MOST_TRANSACTIONS]
 }
 
 /// Puts transactions into these places that show the same as the first so many.
-fn copy_txns(
-    copied: &mut [Txn; MOST_TRANSACTIONS],
-    slots: &[Txn; MOST_TRANSACTIONS],
-    count: u8,
-)
+fn copy_txns(copied: &mut [Txn; MOST_TRANSACTIONS], slots: &[Txn; MOST_TRANSACTIONS], count: u8)
     requires few { count ≤ 8 }
     ensures shown { map view (take count copied.new) ≡ map view (take count slots.now) }
     ensures eight { length copied.new ≡ 8 }

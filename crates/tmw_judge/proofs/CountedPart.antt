@@ -1,11 +1,9 @@
 -- The part of a history that is counted, with one event more.
-use Rattle.tmw_judge.proofs.Shared.{AreFed, AreJudged, AreReports, Asked, Bool, Both, Bounds, ByCriterion, CountsFor, Event, Header, IsTrue, Judges, List, Monitor, Opacity, Report, Strict, Verdict, [], any_open, ap, arith, as_formed, as_formed-le, both_ways, cases_Bool, cases_lt, counted_by, counted_of, counted_part, eq-eqb, eqb-true, false, inl, inr, is_open, length, length-push, max, step, subst, sym, take, take-push, take_all-push, take_whole, told_verdicts, trace_rules, true, verdict_of, verdicts_of, ℕ, ◌++◌, ◌+◌, ◌==◌, ◌||◌, ◌∙◌, ◌∷◌, ◌≡◌, ◌≤◌}
-use Rattle.tmw_monitor.specs.BothMonitor.{opacity_of, strict_of}
-use Rattle.tmw_judge.specs.declared.monitors.Monitors.{Monitors}
-use Rattle.tmw_judge.specs.declared.monitors.Monitors.TheVariants as monitors
+use Rattle.tmw_judge.proofs.Shared.{AreFed, AreJudged, AreReports, Asked, Bool, Bounds, ByCriterion, CountsFor, Event, Header, IsTrue, Judges, List, Monitors, Report, Verdict, [], any_open, ap, arith, as_formed, as_formed-le, both_ways, cases_Bool, counted_by, counted_of, counted_part, eq-eqb, eqb-true, false, inl, inr, is_open, length, length-push, opacity_of, step, strict_of, subst, sym, take, take-push, take_all-push, take_whole, told_verdicts, trace_rules, true, verdict_of, verdicts_of, ℕ, ◌++◌, ◌+◌, ◌==◌, ◌||◌, ◌∙◌, ◌∷◌, ◌≡◌, ◌≤◌}
 use Rattle.tmw_defs.proofs.QuietProof.{or_none}
 use Rattle.tmw_defs.specs.History.{is_well_formed}
 use Rattle.tmw_defs.proofs.VerdictProof.{verdict-one}
+use Rattle.tmw_judge.specs.declared.monitors.Monitors.TheVariants as monitors
 use Rattle.tmw_defs.specs.declared.criterion.Criterion.TheVariants as by
 
 module _ (header : Header) (bounds : Bounds) (asked : Asked) (h : List Event) (e : Event) where

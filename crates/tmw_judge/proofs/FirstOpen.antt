@@ -1,11 +1,10 @@
 -- Histories with which nothing is wrong by one of the criteria that are asked for: their prefixes are such too.
-use Rattle.tmw_judge.proofs.Shared.{AreFed, AreOpen, AreOpenBefore, AreReports, Asked, Both, Bounds, ByCriterion, Event, Header, List, Monitor, Opacity, Report, Strict, Verdict, [], any_open, arith, fine_of, inl, inr, is_open, length-push, or_cases, refl, rules, subst, take, take-push, told_verdicts, trace_rules, true, verdict_of, verdicts_of, ℕ, ◌++◌, ◌∷◌, ◌≡◌}
-use Rattle.tmw_monitor.specs.BothMonitor.{opacity_of, strict_of}
-use Rattle.tmw_judge.specs.declared.monitors.Monitors.{Monitors}
-use Rattle.tmw_judge.specs.declared.monitors.Monitors.TheVariants as monitors
+use Rattle.tmw_judge.proofs.Shared.{AreFed, AreOpen, AreOpenBefore, AreReports, Asked, Bounds, ByCriterion, Event, Header, List, Monitors, Report, Verdict, [], any_open, arith, fine_of, inl, inr, is_open, length-push, opacity_of, or_cases, refl, rules, strict_of, subst, take, take-push, told_verdicts, trace_rules, true, verdict_of, verdicts_of, ℕ, ◌++◌, ◌∷◌, ◌≡◌}
+use Rattle.tmw_judge.specs.declared.by_criterion.ByCriterion.TheVariants.{Both, Opacity, Strict}
 use Rattle.std.proofs.lemmas.List.{length-take, take-take}
 use Rattle.tmw_defs.specs.declared.verdict.Verdict.TheVariants.{OpaqueSoFar, StrictSoFar}
 use Rattle.tmw_defs.specs.Verdict.{AreFine, IsVerdict, Rules}
+use Rattle.tmw_judge.specs.declared.monitors.Monitors.TheVariants as monitors
 use Rattle.tmw_defs.specs.declared.criterion.Asked.TheVariants as asks
 use Rattle.tmw_defs.specs.declared.criterion.Criterion.TheVariants as by
 

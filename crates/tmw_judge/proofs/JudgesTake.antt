@@ -1,11 +1,7 @@
 -- Judges take events by being fed them.
-use Rattle.tmw_judge.proofs.Shared.{AreFed, AreFedSoMany, Asked, Bounds, CountsFor, Event, Header, Judges, List, TakeEvents, [], arith, length, length-append, subst, trace_rules, ℕ, ◌++◌, ◌+◌, ◌-◌, ◌<◌, ◌^◌, ◌∷◌, ◌≡◌}
-use Rattle.tmw_defs.specs.declared.criterion.Criterion.TheVariants as by
-use Rattle.tmw_monitor.specs.BothMonitor.{FeedsBoth}
+use Rattle.tmw_judge.proofs.Shared.{AreFed, AreFedSoMany, Asked, Bounds, CountsFor, Event, FeedsBoth, FeedsEach, FitMonitors, HaveRoom, Header, Judges, List, Monitors, TakeEvents, [], arith, asked_by, length, length-append, subst, trace_rules, ℕ, ◌++◌, ◌+◌, ◌-◌, ◌<◌, ◌^◌, ◌∷◌, ◌≡◌}
 use Rattle.tmw_monitor.specs.declared.both_monitor.BothMonitor.{BothMonitor}
-use Rattle.tmw_judge.specs.FeedEvents.{FeedsEach}
-use Rattle.tmw_judge.specs.Judge.{FitMonitors, HaveRoom, asked_by}
-use Rattle.tmw_judge.specs.declared.monitors.Monitors.{Monitors}
+use Rattle.tmw_defs.specs.declared.criterion.Criterion.TheVariants as by
 use Rattle.tmw_judge.specs.declared.monitors.Monitors.TheVariants as monitors
 
 -- each has room for an event

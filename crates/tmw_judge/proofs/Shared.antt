@@ -1,6 +1,6 @@
 -- What the proofs of this crate take from the libraries, from the crates below and from its specs.
-pub use Rattle.std.proofs.Common.{Bool, Err, IfOk, IsTrue, List, Ok, OnOk, Option, Result, [], ap, append-nil, append_assoc, arith, false, inl, inr, length, length-append, max, refl, rules, subst, sym, true, ℕ, ◌++◌, ◌+◌, ◌-◌, ◌<◌, ◌==◌, ◌^◌, ◌||◌, ◌∙◌, ◌∷◌, ◌≡◌, ◌≤◌}
-pub use Rattle.std.proofs.lemmas.Bool.{both_ways, cases_Bool, cases_lt, eq-eqb, eqb-true, or_cases}
+pub use Rattle.std.proofs.Common.{Bool, Err, IfOk, IsTrue, List, Ok, OnOk, Option, Result, [], ap, append-nil, append_assoc, arith, false, inl, inr, length, length-append, refl, rules, subst, sym, true, ℕ, ◌++◌, ◌+◌, ◌-◌, ◌<◌, ◌==◌, ◌^◌, ◌||◌, ◌∙◌, ◌∷◌, ◌≡◌, ◌≤◌}
+pub use Rattle.std.proofs.lemmas.Bool.{both_ways, cases_Bool, eq-eqb, eqb-true, or_cases}
 pub use Rattle.std.specs.Prelude.{take}
 pub use Rattle.tmw_counts.proofs.CountedPart.{as_formed, as_formed-le, fine_of, step, take_whole}
 pub use Rattle.tmw_counts.specs.CountedPart.{counted_by, is_open}
@@ -18,9 +18,9 @@ pub use Rattle.tmw_lines.specs.declared.items.Reached.TheVariants.{End, Stop}
 pub use Rattle.tmw_lines.specs.declared.lines.Lines.{Lines}
 pub use Rattle.tmw_lines.specs.declared.text_fault.TextFault.{TextFault}
 pub use Rattle.tmw_lines.specs.declared.text_fault.TextFault.TheVariants.{BadHeader, BadLine, Cut, Io, Memory, TooLong}
-pub use Rattle.tmw_monitor.specs.Monitor.{fed_of, verdict_of}
+pub use Rattle.tmw_monitor.specs.BothMonitor.{FeedsBoth, opacity_of, strict_of}
+pub use Rattle.tmw_monitor.specs.Monitor.{verdict_of}
 pub use Rattle.tmw_monitor.specs.declared.bounds.Bounds.{Bounds}
-pub use Rattle.tmw_monitor.specs.declared.monitor.Monitor.{Monitor}
 pub use Rattle.tmw_report.proofs.Quotes.{quoted-first, quoted-read}
 pub use Rattle.tmw_report.specs.Quote.{QuotesLine, number_of}
 pub use Rattle.tmw_report.specs.QuotesHeld.{QuotesHeld}
@@ -32,12 +32,12 @@ pub use Rattle.tmw_trace.specs.Text.{trace_grammar}
 pub use Rattle.tmw_trace.specs.declared.header.Header.{Header}
 pub use Rattle.tmw_trace.specs.declared.version.Version.{Version}
 pub use Rattle.tmw_judge.specs.Answer.{AnswersBy, AreOpen, AreOpenBefore, EndsSoonBehindOpen, HasFaultFor, HasFaultInTime, IsAnswer, IsReadFor, JudgesWith, judged_lines, judged_status, lacking_lines, plain, summary_lines, told_verdicts}
-pub use Rattle.tmw_judge.specs.FeedEvents.{AreFedAllRead, AreFedSoMany, AreReadAndFed, FeedsEvents, IsBeginning, ReadsBeginning, TakeEvents, judges_taking}
+pub use Rattle.tmw_judge.specs.FeedEvents.{AreFedAllRead, AreFedSoMany, AreReadAndFed, FeedsEach, FeedsEvents, IsBeginning, ReadsBeginning, TakeEvents, judges_taking}
 pub use Rattle.tmw_judge.specs.FeedFirst.{AnswersFed, AreJudgesOf, AreReadFirst, FeedsFirst, FeedsFor}
-pub use Rattle.tmw_judge.specs.Judge.{AnswersTrace, AreFed, AreReports, JudgesBytes, report_lines, report_status, trace_rules}
+pub use Rattle.tmw_judge.specs.Judge.{AnswersTrace, AreFed, AreReports, FitMonitors, HaveRoom, JudgesBytes, asked_by, report_lines, report_status, trace_rules}
 pub use Rattle.tmw_judge.specs.Tally.{AreJudged, CountsFor, HasSummary, all_open, any_open, counted_of, counted_part, verdicts_of}
 pub use Rattle.tmw_judge.specs.declared.by_criterion.ByCriterion.{ByCriterion}
-pub use Rattle.tmw_judge.specs.declared.by_criterion.ByCriterion.TheVariants.{Both, Opacity, Strict}
 pub use Rattle.tmw_judge.specs.declared.judge_result.JudgeResult.{JudgeResult}
 pub use Rattle.tmw_judge.specs.declared.judges.Judges.{Judges}
+pub use Rattle.tmw_judge.specs.declared.monitors.Monitors.{Monitors}
 pub use Rattle.tmw_judge.specs.declared.report.Report.{Report}

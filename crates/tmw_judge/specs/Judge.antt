@@ -1,15 +1,14 @@
 -- What `judge` without options promises: from the bytes that its source tells to the lines that its sink takes and the exit status.
-use Rattle.tmw_judge.specs.Shared.{AnswersTextFault, AreEvents, Asked, Bounds, Criterion, Event, Fault, Fits, FromSource, HasTextFault, Header, IsCommandRun, IsVerdict, Rules, ToSink, both_status, fed_of, report_text, rules_for, strict_text, trace_grammar, trace_text, verdict_status}
+use Rattle.tmw_judge.specs.Shared.{AnswersTextFault, AreEvents, Asked, Bounds, Criterion, Event, Fault, Fits, FitsBoth, FromSource, HasTextFault, Header, IsCommandRun, IsVerdict, Rules, ToSink, both_status, fed_of, opacity_of, report_text, rules_for, strict_of, strict_text, trace_grammar, trace_text, verdict_status}
 use Rattle.std.specs.Prelude.{◌≡◌, ◌++◌, ◌<◌, ◌^◌, ℕ, List, length, Result, Ok, Err}
 use Rattle.tmw_judge.specs.declared.by_criterion.ByCriterion.{ByCriterion}
 use Rattle.tmw_judge.specs.declared.by_criterion.ByCriterion.TheVariants.{Opacity, Strict, Both}
-use Rattle.tmw_defs.specs.declared.criterion.Asked.TheVariants as asks
-use Rattle.tmw_defs.specs.declared.criterion.Criterion.TheVariants as by
-use Rattle.tmw_monitor.specs.BothMonitor.{FitsBoth, opacity_of, strict_of}
 use Rattle.tmw_judge.specs.declared.monitors.Monitors.{Monitors}
-use Rattle.tmw_judge.specs.declared.monitors.Monitors.TheVariants as monitors
 use Rattle.tmw_judge.specs.declared.report.Report.{Report}
 use Rattle.tmw_judge.specs.ByCriterion.{AreFor}
+use Rattle.tmw_defs.specs.declared.criterion.Asked.TheVariants as asks
+use Rattle.tmw_defs.specs.declared.criterion.Criterion.TheVariants as by
+use Rattle.tmw_judge.specs.declared.monitors.Monitors.TheVariants as monitors
 
 -- What the history of a trace with this header is judged by.
 abbrev pub trace_rules : Header → Bounds → Criterion → Rules

@@ -14,11 +14,11 @@ pub use Rattle.tmw_lines.specs.TextFault.{EndsSoon, HasFirstLineFault, HasTextFa
 pub use Rattle.tmw_lines.specs.declared.lines.Lines.{Lines}
 pub use Rattle.tmw_lines.specs.declared.text_fault.TextFault.{TextFault}
 pub use Rattle.tmw_lines.specs.declared.text_fault.TextFault.TheVariants.{Memory}
+pub use Rattle.tmw_monitor.specs.BothMonitor.{FitsBoth, opacity_of, strict_of}
 pub use Rattle.tmw_monitor.specs.BrokenRule.{TellsBroken}
 pub use Rattle.tmw_monitor.specs.Fits.{Fits, rules_for}
 pub use Rattle.tmw_monitor.specs.Monitor.{fed_of, verdict_of}
 pub use Rattle.tmw_monitor.specs.declared.bounds.Bounds.{Bounds}
-pub use Rattle.tmw_monitor.specs.declared.monitor.Monitor.{Monitor}
 pub use Rattle.tmw_report.specs.CommandRun.{AnswersTextFault, IsCommandRun, failures_after_answer}
 pub use Rattle.tmw_report.specs.Lines.{both_status, fault_line, report_text, strict_text, verdict_status}
 pub use Rattle.tmw_report.specs.Quote.{RemarksFault, RemarksTrace}

@@ -1,15 +1,14 @@
 -- Which events of a trace are counted beside their verdict: those up to the verdict's event, before it where the history is malformed,
 -- or all. With two verdicts the larger number of them is counted.
-use Rattle.tmw_judge.specs.Shared.{Asked, Bounds, Event, Header, Summary, Verdict, counted_by, is_open, verdict_of}
+use Rattle.tmw_judge.specs.Shared.{Asked, Bounds, Event, Header, Summary, Verdict, counted_by, is_open, opacity_of, strict_of, verdict_of}
 use Rattle.std.specs.Prelude.{◌≡◌, ◌==◌, ℕ, Bool, true, false, ◌&&◌, ◌||◌, List, length, max, take, Option, Some, None}
 use Rattle.tmw_counts.specs.Summary.{IsSummary}
 use Rattle.tmw_judge.specs.declared.by_criterion.ByCriterion.{ByCriterion}
 use Rattle.tmw_judge.specs.declared.by_criterion.ByCriterion.TheVariants.{Opacity, Strict, Both}
-use Rattle.tmw_monitor.specs.BothMonitor.{opacity_of, strict_of}
 use Rattle.tmw_judge.specs.declared.monitors.Monitors.{Monitors}
-use Rattle.tmw_judge.specs.declared.monitors.Monitors.TheVariants as monitors
 use Rattle.tmw_judge.specs.declared.judges.Judges.{Judges}
 use Rattle.tmw_judge.specs.Judge.{AreFed}
+use Rattle.tmw_judge.specs.declared.monitors.Monitors.TheVariants as monitors
 
 -- How many of so many events are counted.
 abbrev pub counted_of : ℕ → ByCriterion Verdict → ℕ

@@ -142,8 +142,14 @@ pub fn reports_of(monitors: &Monitors) -> ByCriterion<Report>
         Monitors::Strict(monitor) => ByCriterion::Strict(report_of(monitor)),
         Monitors::Both(both) => {
             let events = both.fed();
-            let opacity = Report { events, verdict: both.opacity() };
-            let strict = Report { events, verdict: both.strict() };
+            let opacity = Report {
+                events,
+                verdict: both.opacity(),
+            };
+            let strict = Report {
+                events,
+                verdict: both.strict(),
+            };
             ByCriterion::Both(opacity, strict)
         }
     }

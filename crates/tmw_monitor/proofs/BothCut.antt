@@ -1,16 +1,11 @@
 -- An event at a cut, by both criteria.
-use Rattle.tmw_monitor.proofs.Shared.{Contains, End, Event, Follows, HistoryDigest, IsNext, IsTrue, Ix, Keeps, List, NoOutcome, Opacity, Outcome, Registers, Rules, StandsFor, Strict, Tells, TellsWrong, TooMany, Window, Witnesses, [], ap, append-nil, drop, formed-next, grows, inl, inr, is_cut, is_quiet_by, is_well_formed, length, members, refl, subst, transactions, true, views_of, wrong_of, ℕ, ◌++◌, ◌+◌, ◌∙◌, ◌∷◌, ◌≡◌, ◌≤◌}
-use Rattle.tmw_cuts.specs.declared.states.States.{States}
-use Rattle.tmw_cuts.proofs.Follows as following
-use Rattle.tmw_defs.proofs.WindowsProof as windows
+use Rattle.tmw_monitor.proofs.Shared.{BothMonitor, Contains, End, Event, FitsBoth, Follows, HistoryDigest, IsNext, IsTrue, Ix, Keeps, List, NoOutcome, Opacity, Outcome, OutcomeCheck, Registers, Rules, StandsFor, States, Strict, Tells, TellsEnds, TellsWrong, TooMany, Window, Witnesses, [], ap, append-nil, by, drop, formed-next, grows, inl, inr, is_cut, is_quiet_by, is_well_formed, length, members, refl, subst, transactions, true, views_of, wrong_of, ℕ, ◌++◌, ◌+◌, ◌∙◌, ◌∷◌, ◌≡◌, ◌≤◌}
 use Rattle.tmw_monitor.proofs.BothKeep.{both-next, keeps-one, keeps-strictly}
 use Rattle.tmw_monitor.proofs.BothOpen.{Weighs, next-told}
 use Rattle.tmw_monitor.proofs.NextVerdict.{follows-told}
 use Rattle.tmw_monitor.proofs.OpenWindow.{formed_whole, narrow-push}
-use Rattle.tmw_monitor.specs.BothMonitor.{FitsBoth, by}
-use Rattle.tmw_monitor.specs.OutcomeCheck.{TellsEnds}
-use Rattle.tmw_monitor.specs.declared.both_monitor.BothMonitor.{BothMonitor}
-use Rattle.tmw_monitor.specs.declared.outcome_check.OutcomeCheck.{OutcomeCheck}
+use Rattle.tmw_cuts.proofs.Follows as following
+use Rattle.tmw_defs.proofs.WindowsProof as windows
 
 -- outcomes that both criteria have found alike are those of each
 closed-alike : (states found : States) (cap : ℕ) (events : List Event) (e : Event) (new : HistoryDigest) → IsTrue (is_cut (events ++ e ∷ []))

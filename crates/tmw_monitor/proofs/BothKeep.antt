@@ -1,10 +1,7 @@
 -- What one monitor keeps serves by both criteria, where both find the same outcomes at the last cut.
-use Rattle.tmw_monitor.proofs.Shared.{Bool, Event, Fits, HistoryDigest, Keeps, List, None, Opacity, Rules, StaysKept, Strict, TellsWrong, [], arith, cases_lt, drop, false, inl, inr, members, refl, so_far, true, ℕ, ◌++◌, ◌+◌, ◌∷◌, ◌≡◌, ◌≤◌}
-use Rattle.tmw_defs.specs.LastCut.{IsLastCut}
+use Rattle.tmw_monitor.proofs.Shared.{Agree, Bool, BothMonitor, Event, FitEach, Fits, FitsBoth, HistoryDigest, IsCopy, IsLastCut, Keeps, List, None, Opacity, Parts, Rules, StaysKept, Strict, TellsWrong, [], arith, by, cases_lt, drop, false, inl, inr, members, refl, so_far, strict_in, true, ℕ, ◌++◌, ◌+◌, ◌∷◌, ◌≡◌, ◌≤◌}
 use Rattle.tmw_monitor.proofs.FeedOpen.{fits-kept, fits-next}
 use Rattle.tmw_monitor.proofs.OnlyOpen.{few_outcomes}
-use Rattle.tmw_monitor.specs.BothMonitor.{Agree, FitEach, FitsBoth, IsCopy, Parts, by, strict_in}
-use Rattle.tmw_monitor.specs.declared.both_monitor.BothMonitor.{BothMonitor}
 
 -- a history has one last cut
 one_last : (h : List Event) (c d : ℕ) → IsLastCut h c → IsLastCut h d → c ≡ d

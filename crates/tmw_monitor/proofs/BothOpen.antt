@@ -1,17 +1,9 @@
 -- An event at no cut, by both criteria.
-use Rattle.tmw_monitor.proofs.Shared.{Begin, Bool, Contains, Criterion, Event, Follows, HistoryDigest, IsFalse, IsNext, Keeps, Kind, List, Move, NoOutcome, Opacity, Outcome, Registers, Rules, StandsFor, Strict, Tells, TellsWrong, TooMany, Txn, Window, Witnesses, [], ap, arith, drop, ends-by, false, formed-next, grows, inl, inr, is_cut, is_quiet_by, is_some, length, length-views_of, members, refl, transactions, true, views_of, wrong_of, ℕ, ◌++◌, ◌+◌, ◌<◌, ◌∙◌, ◌∷◌, ◌≡◌, ◌≤◌}
-use Rattle.tmw_events.specs.declared.event.Kind.TheVariants.{V, C, A}
-use Rattle.tmw_cuts.specs.declared.states.States.{States}
-use Rattle.tmw_cuts.specs.StandsFor.{count_of}
+use Rattle.tmw_monitor.proofs.Shared.{A, Begin, Bool, BothMonitor, C, Contains, Criterion, Event, FitsBoth, Follows, HasRoom, HistoryDigest, IsCopy, IsFalse, IsNext, Keeps, Kind, List, Move, NoOutcome, Opacity, Outcome, OutcomeCheck, Registers, Rules, StandsFor, States, Strict, Tells, TellsWrong, TooMany, Txn, V, WeighsNext, Window, Witnesses, [], ap, arith, by, count_of, drop, ends-by, false, formed-next, grows, inl, inr, is_cut, is_quiet_by, is_some, length, length-views_of, members, refl, transactions, true, views_of, wrong_of, ℕ, ◌++◌, ◌+◌, ◌<◌, ◌∙◌, ◌∷◌, ◌≡◌, ◌≤◌}
 use Rattle.tmw_monitor.proofs.BothKeep.{both-next, keeps-one, keeps-strictly}
 use Rattle.tmw_monitor.proofs.OnlyOpen.{few_outcomes}
 use Rattle.tmw_monitor.proofs.NextVerdict.{follows-found, follows-told}
 use Rattle.tmw_monitor.proofs.OpenWindow.{formed_whole, narrow-push}
-use Rattle.tmw_cuts.specs.Members.{HasRoom}
-use Rattle.tmw_monitor.specs.BothMonitor.{FitsBoth, IsCopy, by}
-use Rattle.tmw_monitor.specs.OutcomeCheck.{WeighsNext}
-use Rattle.tmw_monitor.specs.declared.both_monitor.BothMonitor.{BothMonitor}
-use Rattle.tmw_monitor.specs.declared.outcome_check.OutcomeCheck.{OutcomeCheck}
 
 -- What weighing the next event by the criterion has told.
 abbrev pub Weighs : Criterion → ℕ → Event → Move → HistoryDigest → HistoryDigest → OutcomeCheck → Type 0
@@ -125,4 +117,3 @@ strictly-told rules h e old taken copy new keeps bound move found most is next r
     next-told (by Strict rules) h e (record old { states = copy.states; room = copy.room }) new
     (keeps-states (by Strict rules) h old copy.states copy.room held keeps) bound move found is next room
     (same ∙ copies.registers ∙ registers) weighs
-

@@ -1,8 +1,7 @@
 -- A monitor whose verdict is that nothing is wrong, with what the next event makes of what it keeps.
-use Rattle.tmw_monitor.proofs.Shared.{BrokenRule, Event, Fits, HistoryDigest, Keeps, KeepsNothing, List, Monitor, None, Option, Rules, Some, TellsFollowed, TellsWrong, Verdict, [], ap, arith, refl, so_far, sym, ◌++◌, ◌+◌, ◌∙◌, ◌∷◌, ◌≡◌}
+use Rattle.tmw_monitor.proofs.Shared.{BrokenRule, Concludes, Event, Fits, HistoryDigest, Keeps, KeepsNothing, List, Monitor, None, Option, Rules, Some, TellsFollowed, TellsWrong, Verdict, [], ap, arith, refl, so_far, sym, ◌++◌, ◌+◌, ◌∙◌, ◌∷◌, ◌≡◌}
 use Rattle.tmw_monitor.proofs.Final.{verdict-stays}
 use Rattle.tmw_monitor.proofs.FirstBroken.{followed-forgot}
-use Rattle.tmw_monitor.specs.Fits.{Concludes}
 use Rattle.tmw_defs.proofs.WindowsProof as windows
 
 -- nothing is wrong with the event either

@@ -1,6 +1,5 @@
 -- What was found of the open window with an event more is the verdict on the history, and what is then kept is kept of it.
-use Rattle.tmw_monitor.proofs.Shared.{Bool, Closes, Contains, EndsBy, Event, Follows, HistoryDigest, IsFalse, IsTrue, Keeps, List, NoOutcome, None, Outcome, Rules, StandsFor, State, StaysOpen, SumsUp, Tells, TellsWrong, TooMany, Witnesses, [], append-nil, arith, drop, drop-append-le, drop_all, inl, inr, is_cut, is_quiet_by, is_well_formed, length, members, so_far-fine, subst, sums_up-cut, sums_up-open, sums_up-quiet, sym, transactions, true, verdict-many, verdict-violated, views_of, wrong_of, ℕ, ◌++◌, ◌+◌, ◌∙◌, ◌∷◌, ◌≡◌, ◌≤◌, ◌⊎◌}
-use Rattle.tmw_monitor.specs.declared.outcome_check.OutcomeCheck.{OutcomeCheck}
+use Rattle.tmw_monitor.proofs.Shared.{Bool, Closes, Contains, EndsBy, Event, Follows, HistoryDigest, IsFalse, IsTrue, Keeps, List, NoOutcome, None, Outcome, OutcomeCheck, Rules, StandsFor, State, StaysOpen, SumsUp, Tells, TellsWrong, TooMany, Witnesses, [], append-nil, arith, drop, drop-append-le, drop_all, inl, inr, is_cut, is_quiet_by, is_well_formed, length, members, so_far-fine, subst, sums_up-cut, sums_up-open, sums_up-quiet, sym, transactions, true, verdict-many, verdict-violated, views_of, wrong_of, ℕ, ◌++◌, ◌+◌, ◌∙◌, ◌∷◌, ◌≡◌, ◌≤◌, ◌⊎◌}
 use Rattle.tmw_monitor.proofs.StateCount.{not_more_among, more_than-rising}
 use Rattle.tmw_monitor.proofs.OpenWindow.{follows_next}
 use Rattle.tmw_monitor.proofs.SoFar.{so_far-apart}

@@ -1,7 +1,6 @@
 -- The monitor by opacity tells it for both criteria.
+use Rattle.tmw_judge.proofs.Shared.{FitMonitors, subst, trace_rules}
 use Rattle.tmw_defs.specs.declared.criterion.Criterion.TheVariants as by
-use Rattle.tmw_judge.proofs.Shared.{subst, trace_rules}
-use Rattle.tmw_judge.specs.Judge.{FitMonitors}
 use Rattle.tmw_judge.proofs.monitors.broken_of.Goals as goal
 
 pub returns-in-Both : goal.returns-in-Both

@@ -1,7 +1,5 @@
 -- Equal lists of states are those of equal sets.
-use Rattle.std.proofs.lemmas.Bool.Decides.{Decides-eqb}
-use Rattle.std.proofs.lemmas.Slice.Eq.{slice_eq-Decides}
-use Rattle.tmw_monitor.proofs.Shared.{refl, sym, ◌∙◌}
+use Rattle.tmw_monitor.proofs.Shared.{Decides-eqb, refl, slice_eq-Decides, sym, ◌∙◌}
 use Rattle.tmw_monitor.proofs.both_monitor.BothMonitor.agree.Goals as goal
 
 pub returns : goal.returns

@@ -1,12 +1,10 @@
 -- Where both criteria find the same outcomes one goes on to serve both, and else each has its own.
-use Rattle.tmw_monitor.proofs.Shared.{End, Event, Fits, List, Opacity, StandsFor, Strict, Witnesses, [], arith, drop, length, members, refl, so_far, subst, true, views_of, ℕ, ◌++◌, ◌+◌, ◌∙◌, ◌∷◌, ◌≡◌}
+use Rattle.tmw_monitor.proofs.Shared.{End, Event, Fits, List, Opacity, StandsFor, Strict, TellsEnds, Witnesses, [], arith, by, drop, length, members, refl, so_far, strict_in, subst, true, views_of, ℕ, ◌++◌, ◌+◌, ◌∙◌, ◌∷◌, ◌≡◌}
 use Rattle.tmw_monitor.proofs.BothCut.{both-closed, ends-same, strictly-closed}
 use Rattle.tmw_monitor.proofs.BothKeep.{keeps-one, keeps-strictly, rests}
 use Rattle.tmw_monitor.proofs.BothOpen.{Weighs, next-told}
 use Rattle.tmw_monitor.proofs.FeedOpen.{concluded}
 use Rattle.tmw_monitor.proofs.OnlyOpen.{few_outcomes}
-use Rattle.tmw_monitor.specs.BothMonitor.{by, strict_in}
-use Rattle.tmw_monitor.specs.OutcomeCheck.{TellsEnds}
 use Rattle.tmw_monitor.proofs.both_monitor.BothMonitor.close.Goals as goal
 
 pub returns-then-closes_alike : goal.returns-then-closes_alike
@@ -23,7 +21,7 @@ returns-then-closes_alike c rules history fits =
     c.close-found.ensures.tells _ (events ++ e ∷ []) stood (c.requires.cut events stands)
     (c.follow.ensures (members kept.states) kept.window events stands next stood was) in
     let ends : (events : List Event) → StandsFor kept.window events → Witnesses (members kept.states) (views_of events) kept.witness
-        → TellsEnds Strict kept.states old.opacity.bounds.states (events ++ e ∷ []) c.close_strictly-strictly.new.states c.close_strictly-strictly.result =
+    → TellsEnds Strict kept.states old.opacity.bounds.states (events ++ e ∷ []) c.close_strictly-strictly.new.states c.close_strictly-strictly.result =
     λ events stands was.
     let stood = c.end.ensures.stands events stands c.requires.next in
     c.close_strictly-strictly.ensures.tells (events ++ e ∷ []) stood (c.requires.cut events stands)

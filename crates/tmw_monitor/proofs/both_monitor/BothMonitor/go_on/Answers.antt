@@ -1,10 +1,8 @@
 -- What is fine by opacity is fine by strict serializability. Where it is not, the one has its verdict, and the other is searched.
-use Rattle.tmw_monitor.proofs.Shared.{Fits, Opacity, Strict, ap, arith, length, refl, so_far, true, ◌+◌, ◌∙◌, ◌≡◌}
-use Rattle.std.specs.Prelude.{not}
+use Rattle.tmw_monitor.proofs.Shared.{Fits, Opacity, Strict, ap, arith, by, length, not, refl, so_far, strict_in, true, ◌+◌, ◌∙◌, ◌≡◌}
 use Rattle.tmw_monitor.proofs.BothKeep.{keeps-one, keeps-strictly}
 use Rattle.tmw_monitor.proofs.BothOpen.{both-on, next-told, outcome-of, stands-wrong, strictly-told}
 use Rattle.tmw_monitor.proofs.FeedOpen.{concluded}
-use Rattle.tmw_monitor.specs.BothMonitor.{by, strict_in}
 use Rattle.tmw_monitor.proofs.both_monitor.BothMonitor.go_on.Goals as goal
 
 pub returns-then-is_none : goal.returns-then-is_none

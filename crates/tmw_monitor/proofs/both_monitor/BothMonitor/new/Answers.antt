@@ -1,6 +1,5 @@
 -- Both stand for no event.
-use Rattle.tmw_monitor.proofs.Shared.{[]}
-use Rattle.tmw_monitor.specs.Fits.{rules_of}
+use Rattle.tmw_monitor.proofs.Shared.{[], rules_of}
 use Rattle.tmw_monitor.proofs.both_monitor.BothMonitor.new.Goals as goal
 
 pub returns : goal.returns

@@ -1,7 +1,6 @@
 -- What was taken at once is fine by both criteria. What was not is kept as before.
-use Rattle.tmw_monitor.proofs.Shared.{Opacity, Strict, refl}
+use Rattle.tmw_monitor.proofs.Shared.{Opacity, Strict, by, refl}
 use Rattle.tmw_monitor.proofs.BothKeep.{both-kept, both-next, keeps-one, keeps-strictly}
-use Rattle.tmw_monitor.specs.BothMonitor.{by}
 use Rattle.tmw_monitor.proofs.both_monitor.BothMonitor.take.Goals.{else-self-via-then-self+then-is_known+else-take_at_once, else-self-via-then-self+else-is_known, else-self-via-else-self}
 use Rattle.tmw_monitor.proofs.both_monitor.BothMonitor.take.Goals as goal
 

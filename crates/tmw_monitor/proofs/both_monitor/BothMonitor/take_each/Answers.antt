@@ -1,6 +1,5 @@
 -- The event is fed to each.
-use Rattle.tmw_monitor.proofs.Shared.{Opacity, Strict, [], ◌++◌, ◌∷◌}
-use Rattle.tmw_monitor.specs.BothMonitor.{by}
+use Rattle.tmw_monitor.proofs.Shared.{Opacity, Strict, [], by, ◌++◌, ◌∷◌}
 use Rattle.tmw_monitor.proofs.both_monitor.BothMonitor.take_each.Goals as goal
 
 pub returns : goal.returns
