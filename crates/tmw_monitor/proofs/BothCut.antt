@@ -65,7 +65,7 @@ closed-told rules h e old new ended keeps Outcome formed narrow cut stands first
     (inr (record { cut = cut; exact = ends.1; end = ends.2; some = ends.3; few = ends.0; stands = opens; witness = witness }))
 closed-told rules h e old new ended keeps NoOutcome formed narrow cut stands first number ends opens witness =
     follows-told (by Strict rules) h e old keeps (length h + 1) rules.states _ (record old { window = ended }) NoOutcome refl refl formed first narrow
-    refl (stands, ends)
+    refl (stands, ends.0)
 closed-told rules h e old new ended keeps TooMany formed narrow cut stands first number ends opens witness =
     follows-told (by Strict rules) h e old keeps (length h + 1) rules.states _ (record old { window = ended }) TooMany refl refl formed first narrow
     refl (stands, cut, ends)
@@ -93,5 +93,5 @@ strictly-closed rules h e old new ended keeps p found next cut stands same ends 
 pub ends-same : (old one other : States) (cap : ℕ) (events : List Event) (found : OutcomeCheck) → members other ≡ members one
     → TellsEnds Strict old cap events one found → TellsEnds Strict old cap events other found
 ends-same old one other cap events Outcome same ends = rw same ends
-ends-same old one other cap events NoOutcome same ends = ends
+ends-same old one other cap events NoOutcome same ends = (ends.0, same ∙ ends.1)
 ends-same old one other cap events TooMany same ends = ends

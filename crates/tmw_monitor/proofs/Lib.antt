@@ -2,6 +2,7 @@ mod AtOnce
 mod BothCut
 mod BothKeep
 mod BothOpen
+mod Committed
 mod CutEnds
 mod FeedOpen
 pub mod Final

@@ -1,12 +1,12 @@
 ghost use Rattle.tmw_monitor.specs.Shared.{Begin, End, Event, IsNext, IsVerdict, Opacity, Rules, StandsFor, Strict, count_of, is_cut, members};
-ghost use Rattle.std.specs.Prelude.{IfOk, IsFalse, IsTrue, List, [], length, ◌++◌, ◌<◌, ◌^◌, ◌∷◌, ◌≡◌};
+ghost use Rattle.std.specs.Prelude.{IfOk, IsFalse, IsTrue, List, [], length, ◌++◌, ◌<◌, ◌^◌, ◌↔◌, ◌∷◌, ◌≡◌};
 ghost use Rattle.tmw_monitor.specs.declared.outcome_check.OutcomeCheck.TheVariants.{Outcome};
 
 use crate::bounds::Bounds;
 use crate::broken_rule::BrokenRule;
 use crate::monitor::Monitor;
 use crate::outcome_check::OutcomeCheck;
-use crate::search_or_close::{close, close_strictly, search};
+use crate::search_or_close::{close_opaquely, close_strictly, search};
 use crate::take::take_open;
 use crate::take_at_once::take_at_once;
 use std::alloc::{AllocError, Global};
@@ -24,6 +24,8 @@ fn closes_alike(
     ensures one { IsTrue result → opacity ≡ Outcome }
     ensures other { IsTrue result → strict ≡ Outcome }
     ensures same { IsTrue result → members outcomes.now ≡ members strict_outcomes.now }
+    ensures all { opacity ≡ Outcome → strict ≡ Outcome
+        → members outcomes.now ≡ members strict_outcomes.now → IsTrue result }
 {
     match (opacity, strict) {
         (OutcomeCheck::Outcome, OutcomeCheck::Outcome) => {
@@ -38,7 +40,7 @@ fn closes_alike(
 #[derive(Debug, Drop)]
 pub struct BothMonitor {
     opacity: Monitor,
-    /// While one serves both, it rests: only its verdict and its room count.
+    /// While one serves both, what it counts and keeps is of no account.
     strict: Monitor,
     shared: bool,
 }
@@ -206,7 +208,7 @@ impl BothMonitor {
         kept.window.end(event, place);
         kept.witness.follow(&kept.window, event, Move::End(place));
         let strictly = close_strictly(kept, &mut strict.states, &mut strict.found, cap);
-        let found = close(Criterion::Opacity, kept, cap);
+        let found = close_opaquely(kept, &strict.states, strictly, cap);
         if closes_alike(found, &kept.states, strictly, &strict.states) {
             return;
         }
@@ -236,7 +238,7 @@ impl BothMonitor {
 
     /// Tells whether both have found nothing wrong, and the same outcomes at the last cut.
     fn agree(&self) -> bool
-        ensures { IsTrue result → Agree self.now }
+        ensures { IsTrue result ↔ Agree self.now }
     {
         if !self.opacity.is_open() || !self.strict.is_open() {
             return false;

@@ -1,11 +1,11 @@
-ghost use Rattle.tmw_monitor.specs.Shared.{Event, HasRoom, StandsFor, Strict, Witnesses, is_cut, members, views_of};
+ghost use Rattle.tmw_monitor.specs.Shared.{Event, HasRoom, Opacity, StandsFor, Strict, Witnesses, is_cut, members, views_of};
 ghost use Rattle.std.specs.Prelude.{Bool, IsFalse, IsTrue, List, [], length, ℕ, ◌≡◌, ◌≤◌};
-ghost use Rattle.tmw_monitor.specs.OutcomeCheck.{Tells, TellsEnds};
+ghost use Rattle.tmw_monitor.specs.OutcomeCheck.{Tells, TellsEnds, have_committed};
 
 use crate::history_digest::HistoryDigest;
 use crate::outcome_check::OutcomeCheck;
-use tmw_cuts::States;
-use tmw_defs::Criterion;
+use tmw_cuts::{States, Txn};
+use tmw_defs::{Criterion, Status};
 use tmw_search::{EndSet, replace_by_outcomes};
 use tmw_witness::Witness;
 
@@ -85,6 +85,42 @@ pub fn close_strictly(
         return OutcomeCheck::NoOutcome;
     }
     OutcomeCheck::Outcome
+}
+
+/// Tells whether all of these have committed. Both criteria then ask the same of them.
+fn have_committed(items: &[Txn]) -> bool
+    ensures { result ≡ have_committed items.now }
+{
+    items
+        .iter()
+        .all(|item| matches!(item.status, Status::Committed))
+}
+
+/// Weighs by opacity the events of a window at a cut, where this was found of them by strict serializability, with these outcomes. The
+/// set becomes that of the outcomes at the cut, if these are at most `cap`, and the window is cleared.
+pub fn close_opaquely(
+    kept: &mut HistoryDigest,
+    outcomes: &States,
+    strictly: OutcomeCheck,
+    cap: u8,
+) -> OutcomeCheck
+    requires cap { cap ≤ 64 }
+    ensures tells { (quiet : Bool) (events : List Event)
+        → StandsFor kept.old.window events → IsTrue (is_cut events)
+        → Witnesses (members kept.old.states) (views_of events) kept.old.witness
+        → TellsEnds Strict kept.old.states cap events outcomes.now strictly
+        → Tells Opacity kept.old.states cap quiet events kept.new result }
+    ensures registers { kept.new.window.registers ≡ kept.old.window.registers }
+{
+    if !have_committed(kept.window.transactions()) {
+        return close(Criterion::Opacity, kept, cap);
+    }
+    if let OutcomeCheck::Outcome = strictly {
+        kept.states.copy_from(outcomes);
+        begin_again(&mut kept.witness, &kept.states);
+        kept.window.clear();
+    }
+    strictly
 }
 
 /// Begins with a window without a transaction, from the first of these states.

@@ -19,7 +19,8 @@ returns-then-is_empty-clause-tells c events stands cut was few =
     let same = c.copy_from.ensures.members (omega (arith, room, few)) in
     let known = known_by Strict old.states old.witness c.known_end.result c.known_end.ensures.end events was in
     let found = rw c.if-not-replace_by_outcomes.false at (c.replace_by_outcomes.ensures.replaces events stands (rw (same, c.copied-known.ensures) known)) in
-    λ end is. none_in end (subst (λ (xs : List State). Contains xs end) (c.is_empty.ensures.0 c.if-is_empty.true) ((found.1 end).1 (rw same is)))
+    let none = c.is_empty.ensures.0 c.if-is_empty.true in
+    (λ end is. none_in end (subst (λ (xs : List State). Contains xs end) none ((found.1 end).1 (rw same is))), none)
 
 pub returns-clause-tells : goal.returns-clause-tells
 returns-clause-tells c events stands cut was few =
