@@ -47,8 +47,8 @@ abbrev pub TakesOneTurn : Asking → (old made : List Made) → (before after : 
 TakesOneTurn asked old made before after =
     (turn : Turn) × (turn.before ≡ before.tx) × TakesTurn asked turn old made after.tx × GoesOn turn.answer.event.kind before after
 
--- Behind its last turn the thread was stopped: at the record of a call, which is not made then, or of an answer. It leaves no
--- transaction open in the memory.
+-- Behind its last turn the thread was stopped, at the record of a call or of an answer. It has asked for the abort of a transaction that
+-- is open then.
 abbrev pub StopsInTurn : Asking → Leaving → (NoneOpen : Type 0) → (old made : List Made) → Tx → Type 0
 StopsInTurn asked left NoneOpen old made tx =
     ((made ≡ old) × Leaves left NoneOpen tx)
@@ -59,8 +59,8 @@ abbrev pub EndsTurns : Asking → Leaving → List Turn → (old made : List Mad
 EndsTurns asked left turns old made tx None = made ≡ old
 EndsTurns asked left turns old made tx (Some refused) = StopsInTurn asked left (HasNoneOpen turns) old made tx
 
--- From these places on the thread has made just the calls that are recorded, each once and in order. It makes no other, but for the abort
--- of a transaction that is open in the memory when the thread is stopped.
+-- From these places on each answer that the thread has recorded was returned by a call that it made after the call's record. Where it is
+-- stopped it has asked for the abort of a transaction that its turns leave open. (Calls that are not recorded are not spoken of.)
 pub record HasCalledInTurn (asked : Asking) (left : Leaving) (start : List Made) (stop : Option Refused) (made : List Made)
     : Type 0 where
   pub turns : List Turn

@@ -8,8 +8,8 @@ use tmw_events::Kind;
 use tmw_ring::Writer;
 use tmw_tm::Tm;
 
-/// How a worker calls the memory. It shows its writer with each call. What a call may do is left open, so that only a call shows it: by
-/// that contracts say which calls were made, after which records.
+/// How a worker calls the memory. It shows its writer with each `ask`. What a call may do is left open, so that only a call shows it: by
+/// that contracts say after which record a call was made.
 pub trait MemoryCalls {
     ghost use Rattle.tmw_bench.specs.MemoryCalls.{Asking, Leaving};
 

@@ -149,7 +149,7 @@ impl States {
         self.items.clear();
     }
 
-    /// Becomes the set of the other's states. It takes memory only if there is no room for them, and is empty if there is none.
+    /// Becomes the set of the other's states, if there is room for them.
     pub fn copy_from(&mut self, other: &States)
         ensures members { length (members other.now) ≤ room_of self.old
             → members self.new ≡ members other.now }

@@ -9,7 +9,7 @@ use tmw_lines::{Reached, Stop, Taker, TextFault, give_items};
 use tmw_streams::Source;
 use tmw_trace::TraceLines;
 
-/// Judges take events by being fed them, and never stop. Each event up to the verdict's is counted, or all.
+/// Judges take events by being fed them, and never stop. Each event that a verdict covers is counted.
 impl<C: Tally> Taker<Event> for Judges<C> {
     ghost taking = { judges_taking C.counts };
 

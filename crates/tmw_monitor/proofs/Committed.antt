@@ -1,21 +1,10 @@
 -- Where all transactions have committed, each completion holds all of them, so that both criteria ask the same.
-use Rattle.tmw_monitor.proofs.Shared.{Bool, Contains, EndsOf, Event, HistoryDigest, IsTrue, List, NoOutcome, Opacity, Outcome, StandsFor, State, Strict, Tells, TooMany, Txn, Witnesses, [], ap, arith, ends-by, false, inl, inr, is_cut, members, refl, transactions, true, views_of, ℕ, ◌∙◌, ◌∷◌, ◌≡◌}
-use Rattle.std.specs.List.{list_all}
-use Rattle.std.specs.Prelude.{map}
-use Rattle.std.proofs.lemmas.Bool.{and_from, and_parts}
-use Rattle.tmw_cuts.specs.StandsFor.{view_of}
+use Rattle.tmw_monitor.proofs.Shared.{Bool, Contains, EndsBy, EndsOf, Event, HistoryDigest, IsTrue, List, NoOutcome, Opacity, Outcome, OutcomeCheck, StandsFor, State, States, Strict, Tells, TellsEnds, TooMany, Txn, Witnesses, [], and_from, and_parts, ap, arith, ends-by, false, have_committed, inl, inr, is_cut, list_all, map, may_hold, members, refl, status_of, transactions, true, view_of, views_of, ℕ, ◌∙◌, ◌∷◌, ◌≡◌}
 use Rattle.tmw_cuts.specs.Views.{View, view}
-use Rattle.tmw_cuts.specs.declared.txn.Txn as cuts
-use Rattle.tmw_cuts.specs.declared.states.States.{States}
-use Rattle.tmw_defs.specs.Criteria.{EndsBy}
-use Rattle.tmw_defs.specs.History.{status_of}
-use Rattle.tmw_defs.specs.Opaque.{may_hold}
 use Rattle.tmw_defs.specs.Strict.{AreHeld}
 use Rattle.tmw_defs.specs.declared.status.Status.{Status}
-use Rattle.tmw_defs.specs.declared.status.Status.TheVariants.{Committed}
 use Rattle.tmw_defs.specs.Counts.{is_committed}
-use Rattle.tmw_monitor.specs.OutcomeCheck.{TellsEnds, have_committed}
-use Rattle.tmw_monitor.specs.declared.outcome_check.OutcomeCheck.{OutcomeCheck}
+use Rattle.tmw_cuts.specs.declared.txn.Txn as cuts
 
 abbrev committed_views : List View → Bool
 committed_views xs = list_all (λ x. is_committed x.status) xs

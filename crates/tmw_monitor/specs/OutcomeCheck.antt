@@ -1,9 +1,8 @@
 -- What is found of the events since a history's last cut, from the set of its outcomes there.
-use Rattle.tmw_monitor.specs.Shared.{Contains, Criterion, Event, IsNext, StandsFor, State, Verdict, Witnesses, is_cut, members, views_of}
+use Rattle.tmw_monitor.specs.Shared.{Contains, Criterion, Event, IsNext, StandsFor, State, Verdict, Witnesses, is_cut, list_all, members, views_of}
 use Rattle.std.specs.Prelude.{Bool, IsFalse, IsTrue, List, None, Option, Some, [], length, ℕ, ◌++◌, ◌↔◌, ◌∷◌, ◌≡◌, ◌≤◌, ◌⊎◌}
 use Rattle.tmw_defs.specs.declared.verdict.Verdict.TheVariants.{Violated, Undecided}
 use Rattle.tmw_defs.specs.declared.verdict.Why.TheVariants.{States}
-use Rattle.std.specs.List.{list_all}
 use Rattle.tmw_cuts.specs.declared.txn.Txn.{Txn}
 use Rattle.tmw_defs.specs.Counts.{is_committed}
 use Rattle.tmw_search.specs.EndStates.{EndsOf, HasMoreThan}

@@ -1,5 +1,5 @@
 -- What the definitions and contracts of this crate take from the libraries and from the crates below.
-pub use Rattle.std.specs.List.{Contains}
+pub use Rattle.std.specs.List.{Contains, list_all}
 pub use Rattle.tmw_cuts.specs.Members.{HasRoom, members}
 pub use Rattle.tmw_cuts.specs.StandsFor.{Follows, IsNext, StandsFor, begun_by, count_of, turn_at, views, views_of}
 pub use Rattle.tmw_cuts.specs.declared.turn.Move.TheVariants.{Answer, Begin, End}

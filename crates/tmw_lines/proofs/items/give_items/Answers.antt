@@ -1,4 +1,4 @@
--- Each item that was read is given, and where memory is refused for one, no line is read after its line.
+-- Each item that was read is given, and where it stops for one, no line is read after its line.
 use Rattle.tmw_lines.proofs.Shared.{arith, refl, subst, sym, ◌∙◌}
 use Rattle.tmw_lines.proofs.GiveItems.{HasGiven-none, HasGiven-held, HasGiven-push, gives-held-up_to, gives-up_to, count-next, gives-end, gives-fault, reads_on}
 use Rattle.tmw_lines.proofs.items.give_items.Goals as goal

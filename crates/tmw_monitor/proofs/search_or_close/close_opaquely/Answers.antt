@@ -1,5 +1,5 @@
 -- Where all have committed, what was found strictly is found by opacity.
-use Rattle.tmw_monitor.proofs.Shared.{arith, length, members, subst, sym, ◌∙◌, ◌≤◌}
+use Rattle.tmw_monitor.proofs.Shared.{arith, length, members, sym, ◌∙◌, ◌≤◌}
 use Rattle.tmw_monitor.proofs.Committed.{opaque-fine, opaque-wrong, same_ends}
 use Rattle.tmw_monitor.proofs.search_or_close.close_opaquely.Goals as goal
 
