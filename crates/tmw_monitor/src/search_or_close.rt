@@ -116,9 +116,10 @@ pub fn close_opaquely(
         return close(Criterion::Opacity, kept, cap);
     }
     if let OutcomeCheck::Outcome = strictly {
-        kept.states.copy_from(outcomes);
-        begin_again(&mut kept.witness, &kept.states);
-        kept.window.clear();
+        let (states, window) = (&mut kept.states, &mut kept.window);
+        states.copy_from(outcomes);
+        begin_again(&mut kept.witness, states);
+        window.clear();
     }
     strictly
 }

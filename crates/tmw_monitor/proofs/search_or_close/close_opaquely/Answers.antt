@@ -23,4 +23,4 @@ returns-in_default-clause-tells c quiet events stands cut was ends =
     let old = c.args.kept.now in
     let same = same_ends old.states events c.transactions.result.now (sym c.have_committed.ensures ∙ c.if-not-have_committed.false)
     (c.transactions.ensures.stands events stands) in
-    opaque-wrong old.states c.args.outcomes.now c.args.cap quiet events old c.args.strictly cut same ends c.in_default.not-Outcome stands
+    opaque-wrong old.states c.args.outcomes.now c.args.cap quiet events _ c.args.strictly cut same ends c.in_default.not-Outcome stands
