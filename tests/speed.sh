@@ -22,14 +22,14 @@ export GLIBC_TUNABLES=glibc.cpu.hwcaps=-AVX2,-AVX_Fast_Unaligned_Load,-ERMS,-AVX
 # The most instructions an event, for each kind of run, by each of these words after `judge`. A run of `doomed` is strictly serializable alone.
 words=('' '--criterion strict' '--criterion both' '--first' '--summary')
 limits='
-serial    83.6 83.6 185.1 90.5 108.6
-calm      162.1 161.9 342.1 168.4 186.5
-wide      144.5 142.3 302.8 151.1 167.5
-long      80.9 80.9 165.8 87.3 90.6
-blind     291.0 291.0 616.6 303.4 327.8
-bench     90.0 90.0 193.4 96.8 110.8
-outcomes  525.8 492.0 1031.2 546.8 560.8
-doomed    - 132.5 - - -
+serial    82.3 82.3 86.4 88.2 109.7
+calm      163.5 163.2 200.6 169.5 191.0
+wide      144.2 141.9 192.0 150.2 170.4
+long      79.5 79.5 84.4 85.7 93.4
+blind     291.2 291.2 313.7 297.0 324.3
+bench     89.6 89.4 98.2 95.7 113.5
+outcomes  525.4 491.5 940.2 531.5 549.3
+doomed    - 131.9 - - -
 '
 
 mode=check

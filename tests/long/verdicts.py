@@ -60,10 +60,15 @@ def changed(rng, start, events):
     return start, tuple(Event(number + 1, event.thread, event.kind) for number, event in enumerate(events))
 
 
-def judged(program, criterion, trace):
-    command = [program, "judge", "--criterion", criterion]
+def judged(program, criterion, trace, *options):
+    command = [program, "judge", "--criterion", criterion, *options]
     done = subprocess.run(command, input=trace, stdout=subprocess.PIPE, stderr=subprocess.DEVNULL, text=True, check=False)
     return done.stdout, done.returncode
+
+
+def is_as_alone(program, trace, *options):
+    """Whether both criteria at once report what each does alone."""
+    return judged(program, "both", trace, *options)[0] == "".join(judged(program, criterion, trace, *options)[0] for criterion in CRITERIA)
 
 
 def main():
@@ -79,6 +84,12 @@ def main():
         if longer and longer[1] and rng.random() < 0.7:
             longer = changed(rng, *longer)
         looks_at_each = rng.random() < 0.1
+        bounds = ["--states", rng.choice(["1", "2", "64"]), "--window", rng.choice(["2", "8"])]
+        for trace in [trace_of(start, events), trace_of(*random_history(rng, most=40, steps=200))]:
+            is_right = is_as_alone(program, trace, *bounds)
+            passed, failed = passed + is_right, failed + (not is_right)
+            if not is_right:
+                print(f"both at once by {' '.join(bounds)} is not as each alone\n< {' | '.join(trace.splitlines())}")
         for criterion in CRITERIA:
             trace = trace_of(start, events)
             line, _ = judged(program, criterion, trace)
