@@ -119,15 +119,15 @@ take_nil : (n : ℕ) → take n none ≡ none
 take_nil n = grind arith
 
 -- before the first event nothing is counted
-pub judged-nothing : {C : Type 0} (Counts : CountsFor C) (header : Header) (bounds : Bounds) (asked : Asked) (had : Monitors)
-    (counting : C) → AreFed header bounds asked [] had → Counts header.registers.number [] counting
-    → AreJudged Counts header bounds asked [] (record { monitors = had; counting = counting })
-judged-nothing Counts header bounds asked had counting fed counts =
+pub judged-nothing : {C F : Type 0} (Counts : CountsFor C) (header : Header) (bounds : Bounds) (asked : Asked) (judges : Judges C F)
+    → AreFed header bounds asked [] judges.monitors → Counts header.registers.number [] judges.counting
+    → AreJudged Counts header bounds asked [] judges
+judged-nothing Counts header bounds asked judges fed counts =
     grind (arith, take_nil, counted_of, verdicts_of)
 
 -- one event more is judged, and counted if the counted part ends with it
-pub judged-more : {C : Type 0} (Counts : CountsFor C) (header : Header) (bounds : Bounds) (asked : Asked) (h : List Event) (e : Event)
-    (old new : Judges C) → AreJudged Counts header bounds asked h old → AreFed header bounds asked (h ++ e ∷ []) new.monitors
+pub judged-more : {C F : Type 0} (Counts : CountsFor C) (header : Header) (bounds : Bounds) (asked : Asked) (h : List Event) (e : Event)
+    (old new : Judges C F) → AreJudged Counts header bounds asked h old → AreFed header bounds asked (h ++ e ∷ []) new.monitors
     → (covers header bounds asked h e new.monitors ≡ true → IsTrue (is_well_formed header.registers.number (h ++ e ∷ []))
     → Counts header.registers.number h old.counting → Counts header.registers.number (h ++ e ∷ []) new.counting)
     → (covers header bounds asked h e new.monitors ≡ false → new.counting ≡ old.counting)
@@ -159,8 +159,8 @@ judged-more {C = C} Counts header bounds asked h e old new was fed more same =
     }
 
 -- an event that is counted keeps the history well-formed, and all before it was counted
-pub counted-before : {C : Type 0} (Counts : CountsFor C) (header : Header) (bounds : Bounds) (asked : Asked) (h : List Event) (e : Event)
-    (old : Judges C) (new : Monitors) → AreJudged Counts header bounds asked h old → AreFed header bounds asked (h ++ e ∷ []) new
+pub counted-before : {C F : Type 0} (Counts : CountsFor C) (header : Header) (bounds : Bounds) (asked : Asked) (h : List Event) (e : Event)
+    (old : Judges C F) (new : Monitors) → AreJudged Counts header bounds asked h old → AreFed header bounds asked (h ++ e ∷ []) new
     → covers header bounds asked h e new ≡ true
     → Counts header.registers.number h old.counting × IsTrue (is_well_formed header.registers.number (h ++ e ∷ []))
 counted-before Counts header bounds asked h e old new was fed all =

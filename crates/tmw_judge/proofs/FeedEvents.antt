@@ -1,8 +1,9 @@
--- Reading on to the end: the judges have been fed the events of the lines read.
-use Rattle.tmw_judge.proofs.Shared.{AreFedAllRead, AreFedSoMany, AreGiven, AreJudged, AreReadAndFed, Asked, BadHeader, BadLine, Bounds, CountsFor, Cut, End, Err, Event, FeedsEvents, FromSource, GivesAll, HasRead, Header, IfOk, Io, Judges, Lines, List, Memory, Ok, OnOk, Reached, Result, Stop, TextFault, TooLong, Version, judges_taking, refl, sym, trace_grammar, ℕ, ◌++◌, ◌≡◌}
+-- Reading on to the end, or by `--first` to the event at which all verdicts are final: the judges have been fed the events of the lines read.
+use Rattle.tmw_judge.proofs.Shared.{AreFedAllRead, AreFedSoMany, AreJudged, AreOpen, Asked, Bool, Bounds, CountsFor, End, Err, Event, FeedsEvents, FromSource, GivesAll, Header, IsTrue, Judges, Lines, List, Ok, Reached, Result, Stop, Tells-none, TextFault, Version, [], append-nil, append_assoc, false, has_open, judges_taking, sym, trace_grammar, true, ◌++◌, ◌∷◌, ◌≡◌}
+use Rattle.tmw_judge.proofs.FirstOpen.{AreOpenBefore-push, open-fed}
 
 -- the judges have been fed as many events as lines were read behind the header's
-pub fed-so_many : {C : Type 0} (Counts : CountsFor C) (lines : Lines Version) (judges : Judges C) → AreFedAllRead Counts lines judges
+pub fed-so_many : {C F : Type 0} (Counts : CountsFor C) (lines : Lines Version) (judges : Judges C F) → AreFedAllRead Counts lines judges
     → AreFedSoMany Counts judges lines.count
 fed-so_many Counts lines judges fed = record {
   header = fed.header;
@@ -13,37 +14,73 @@ fed-so_many Counts lines judges fed = record {
   counted = sym fed.read.counted;
 }
 
-module _ {C : Type 0} (Counts : CountsFor C) (Ended : Type 0) (lines after : Lines Version) (judges fed : Judges C) where
-  fed-behind : (events : List Event) (bytes : List ℕ) (result : Result Reached TextFault)
-      → AreGiven trace_grammar Ended (judges_taking Counts) lines after judges fed events bytes result
-      → (header : Header) (bounds : Bounds) (asked : Asked) (given : List Event) (before : List ℕ)
-      → HasRead trace_grammar lines header given before → AreJudged Counts header bounds asked given judges
-      → AreReadAndFed Counts Ended after header bounds asked (given ++ events) (before ++ bytes) fed result
-  fed-behind events bytes (Ok End) g header bounds asked given before r f = (g.0 header given before r, g.1 header bounds asked given f)
-  fed-behind events bytes (Ok Stop) g header bounds asked given before r f = absurd g.taken.stops
-  fed-behind events bytes (Err BadHeader) g header bounds asked given before r f =
-      (g.0 header given before r, g.1 header bounds asked given f)
-  fed-behind events bytes (Err (BadLine number)) g header bounds asked given before r f =
-      (g.0 header given before r, g.1 header bounds asked given f)
-  fed-behind events bytes (Err (Cut number)) g header bounds asked given before r f =
-      (g.0 header given before r, g.1 header bounds asked given f)
-  fed-behind events bytes (Err Memory) g header bounds asked given before r f = g
-  fed-behind events bytes (Err Io) g header bounds asked given before r f = (g.0 header given before r, g.1 header bounds asked given f)
-  fed-behind events bytes (Err TooLong) g header bounds asked given before r f =
-      (g.0 header given before r, g.1 header bounds asked given f)
+-- by `--first` nothing is read where all verdicts are final
+pub feeds-none : {S C F : Type 0} (first : Bool) (From : FromSource S) (Counts : CountsFor C) (Ended : Type 0) (a : S) (lines : Lines Version)
+    (judges : Judges C F) → IsTrue first → has_open judges ≡ false
+    → FeedsEvents first From Counts Ended a a lines lines judges judges (Ok Stop)
+feeds-none first From Counts Ended a lines judges so is = record {
+  bytes = [];
+  events = [];
+  told = Tells-none From a;
+  fed = λ header bounds asked given earlier r was open_before. (
+    so,
+    record {
+      read = rw (append-nil given, append-nil earlier) r;
+      judged = rw (append-nil given) was;
+      final = is;
+      before = rw (append-nil given) (open_before so);
+    },
+  );
+}
 
-  module _ {S : Type 0} (From : FromSource S) (a b : S) where
-    -- what the judges took, they have been fed
-    pub feeds-given : (result : Result Reached TextFault)
-        → GivesAll trace_grammar From Ended (judges_taking Counts) a b lines after judges fed result
-        → FeedsEvents From Counts Ended a b lines after judges fed result
-    feeds-given result g =
-        record { bytes = g.bytes; events = g.items; told = g.told; fed = fed-behind g.items g.bytes result g.given }
+module _ {C F : Type 0} (first : Bool) (Counts : CountsFor C) (Ended : Type 0) (lines after : Lines Version) (judges fed : Judges C F)
+    (has : IsTrue first → has_open judges ≡ true) where
+  -- the history of the events that were taken is open
+  open_now : (now : Judges C F) (events : List Event) → (judges_taking first Counts).takes judges events now → IsTrue first
+      → (header : Header) (bounds : Bounds) (asked : Asked) (given : List Event) → AreJudged Counts header bounds asked given judges
+      → AreOpen header bounds asked (given ++ events)
+  open_now now events taken so header bounds asked given was =
+      open-fed header bounds (given ++ events) asked now.monitors (taken.0 header bounds asked given was).fed (taken.1 so (has so))
 
-    -- they stop at none
-    pub over-given : (Over : Type 0) (result : Result Reached TextFault)
-        → GivesAll trace_grammar From Ended (judges_taking Counts) a b lines after judges fed result
-        → IfOk result (λ reached. reached ≡ End → Over) → OnOk result Over
-    over-given Over (Ok End) g over = over refl
-    over-given Over (Ok Stop) g over = absurd g.given.taken.stops
-    over-given Over (Err fault) g over = tt
+  -- what the judges took, and the event at which they stopped, they have been fed
+  pub feeds-given : {S : Type 0} (From : FromSource S) (a b : S) (result : Result Reached TextFault)
+      → GivesAll trace_grammar From Ended (judges_taking first Counts) a b lines after judges fed result
+      → FeedsEvents first From Counts Ended a b lines after judges fed result
+  feeds-given From a b (Ok End) g = record {
+    bytes = g.bytes;
+    events = g.items;
+    told = g.told;
+    fed = λ header bounds asked given earlier r was open_before. (
+      g.given.0 header given earlier r,
+      g.given.1.0 header bounds asked given was,
+      λ so. g.given.1.1 so (has so),
+    );
+  }
+  feeds-given From a b (Ok Stop) g =
+      let last = g.given.last in
+      let taken = g.given.taken in record {
+        bytes = g.bytes;
+        events = g.items ++ last ∷ [];
+        told = g.told;
+        fed = λ header bounds asked given earlier r was open_before. (
+          taken.stops.0,
+          record {
+            read = rw (← append_assoc given g.items (last ∷ [])) (g.given.read header given earlier r);
+            judged = rw (← append_assoc given g.items (last ∷ []))
+                (taken.stops.1 header bounds asked (given ++ g.items) (taken.takes.0 header bounds asked given was));
+            final = taken.stops.2;
+            before = rw (← append_assoc given g.items (last ∷ [])) (AreOpenBefore-push header bounds asked (given ++ g.items) last
+                (open_now taken.between g.items taken.takes taken.stops.0 header bounds asked given was));
+          },
+        );
+      }
+  feeds-given From a b (Err fault) g = record {
+    bytes = g.bytes;
+    events = g.items;
+    told = g.told;
+    fed = λ header bounds asked given earlier r was open_before. (
+      g.given.0 header given earlier r,
+      g.given.1.0 header bounds asked given was,
+      λ so. open_now fed g.items g.given.1 so header bounds asked given was,
+    );
+  }

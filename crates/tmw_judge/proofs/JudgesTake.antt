@@ -33,14 +33,14 @@ feeds-both had event old new is feeds header bounds asked history fed = record {
   each = feeds (trace_rules header bounds by.Opacity) history (subst (FitMonitors header bounds history) is fed.each);
 }
 
-module _ {C : Type 0} (Counts : CountsFor C) where
-  pub have_room : (judges : Judges C) (count : ℕ) → count < 2 ^ 40 → AreFedSoMany Counts judges count → HaveRoom judges.monitors
+module _ {C F : Type 0} (Counts : CountsFor C) where
+  pub have_room : (judges : Judges C F) (count : ℕ) → count < 2 ^ 40 → AreFedSoMany Counts judges count → HaveRoom judges.monitors
   have_room judges count few so =
       let long = so.counted in
       fed_room so.header so.bounds so.history judges.monitors (omega (arith, few, long)) so.fed.fed.each
 
   -- one event more was taken
-  pub counted-taken : (before after : Judges C) (event : Event) → TakeEvents Counts before (event ∷ []) after
+  pub counted-taken : (before after : Judges C F) (event : Event) → TakeEvents Counts before (event ∷ []) after
       → (count : ℕ) → AreFedSoMany Counts before count → AreFedSoMany Counts after (count + 1)
   counted-taken before after event taken count so = record {
     header = so.header;

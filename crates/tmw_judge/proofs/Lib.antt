@@ -1,11 +1,8 @@
 mod AnswerParts
 mod CountedPart
 mod FeedEvents
-mod FeedFirst
-mod FeedFor
 mod FirstOpen
-mod JudgeAll
-mod JudgeFirst
+mod Judging
 mod JudgesTake
 mod Plain
 mod Shared

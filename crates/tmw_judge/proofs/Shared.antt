@@ -9,31 +9,30 @@ pub use Rattle.tmw_defs.proofs.WindowsProof.{length-push, take-push, take_all-pu
 pub use Rattle.tmw_defs.specs.declared.criterion.Asked.{Asked}
 pub use Rattle.tmw_defs.specs.declared.verdict.Verdict.{Verdict}
 pub use Rattle.tmw_events.specs.declared.event.Event.{Event}
-pub use Rattle.tmw_lines.specs.GiveItems.{AreGiven, GivesAll}
+pub use Rattle.tmw_lines.specs.GiveItems.{GivesAll}
 pub use Rattle.tmw_lines.specs.LineFeeds.{front_of}
 pub use Rattle.tmw_lines.specs.Lines.{HasRead, format_by, unread_bytes}
-pub use Rattle.tmw_lines.specs.ReadItems.{AreReadFor, FailsBehind}
+pub use Rattle.tmw_lines.specs.ReadItems.{FailsBehind}
 pub use Rattle.tmw_lines.specs.declared.items.Reached.{Reached}
 pub use Rattle.tmw_lines.specs.declared.items.Reached.TheVariants.{End, Stop}
 pub use Rattle.tmw_lines.specs.declared.lines.Lines.{Lines}
 pub use Rattle.tmw_lines.specs.declared.text_fault.TextFault.{TextFault}
-pub use Rattle.tmw_lines.specs.declared.text_fault.TextFault.TheVariants.{BadHeader, BadLine, Cut, Io, Memory, TooLong}
+pub use Rattle.tmw_lines.specs.declared.text_fault.TextFault.TheVariants.{Memory}
 pub use Rattle.tmw_monitor.specs.BothMonitor.{FeedsBoth, opacity_of, strict_of}
 pub use Rattle.tmw_monitor.specs.Monitor.{verdict_of}
 pub use Rattle.tmw_monitor.specs.declared.bounds.Bounds.{Bounds}
-pub use Rattle.tmw_report.proofs.Quotes.{quoted-first, quoted-read}
+pub use Rattle.tmw_report.proofs.Quotes.{quoted-behind, quoted-first}
 pub use Rattle.tmw_report.specs.Quote.{QuotesLine, number_of}
 pub use Rattle.tmw_report.specs.QuotesHeld.{QuotesHeld}
 pub use Rattle.tmw_report.specs.SendText.{IsPut, fault_of}
 pub use Rattle.tmw_streams.proofs.Transfers.{Tells-more, Tells-none}
 pub use Rattle.tmw_streams.specs.Streams.{FromSource, ToSink}
 pub use Rattle.tmw_streams.specs.Transfers.{Tells}
-pub use Rattle.tmw_trace.specs.Text.{trace_grammar}
+pub use Rattle.tmw_trace.specs.Text.{AreEvents, trace_grammar}
 pub use Rattle.tmw_trace.specs.declared.header.Header.{Header}
 pub use Rattle.tmw_trace.specs.declared.version.Version.{Version}
-pub use Rattle.tmw_judge.specs.Answer.{AnswersBy, AreOpen, AreOpenBefore, EndsSoonBehindOpen, HasFaultFor, HasFaultInTime, IsAnswer, IsReadFor, JudgesWith, judged_lines, judged_status, lacking_lines, plain, summary_lines, told_verdicts}
-pub use Rattle.tmw_judge.specs.FeedEvents.{AreFedAllRead, AreFedSoMany, AreReadAndFed, FeedsEach, FeedsEvents, IsBeginning, ReadsBeginning, TakeEvents, judges_taking}
-pub use Rattle.tmw_judge.specs.FeedFirst.{AnswersFed, AreJudgesOf, AreReadFirst, FeedsFirst, FeedsFor}
+pub use Rattle.tmw_judge.specs.Answer.{AnswersBy, AreOpen, AreOpenBefore, HasFaultFor, IsAnswer, IsFirstText, IsReadFor, IsWholeText, JudgesWith, judged_lines, judged_status, lacking_lines, plain, summary_lines, told_verdicts}
+pub use Rattle.tmw_judge.specs.FeedEvents.{AreFedAllRead, AreFedSoMany, FeedsEach, FeedsEvents, IsBeginning, ReadsBeginning, TakeEvents, has_open, judges_taking}
 pub use Rattle.tmw_judge.specs.Judge.{AnswersTrace, AreFed, AreReports, FitMonitors, HaveRoom, JudgesBytes, asked_by, report_lines, report_status, trace_rules}
 pub use Rattle.tmw_judge.specs.Tally.{AreJudged, CountsFor, HasSummary, all_open, any_open, counted_of, counted_part, verdicts_of}
 pub use Rattle.tmw_judge.specs.declared.by_criterion.ByCriterion.{ByCriterion}

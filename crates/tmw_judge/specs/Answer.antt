@@ -70,9 +70,9 @@ pub record EndsSoonBehindOpen (bounds : Bounds) (asked : Asked) (bytes : List �
 -- The text has the fault, and not behind the event at which the last verdict became final: its first line has it, or a line behind a
 -- history on which not all are final. For want of memory, at most 4,096 bytes were read behind a history that goes no further.
 abbrev pub HasFaultInTime : Bounds → Asked → Type 0 → List ℕ → TextFault → Type 0
-HasFaultInTime bounds asked Ended bytes Memory = EndsSoonBehindOpen bounds asked bytes
 HasFaultInTime bounds asked Ended bytes fault =
     HasFirstLineFault trace_grammar Ended bytes fault ⊎ FailsWhereOpen bounds asked Ended bytes fault
+    ⊎ ((fault ≡ Memory) × EndsSoonBehindOpen bounds asked bytes)
 
 -- The fault that is answered: the text's first; by `--first` one that comes no later than the event at which the last verdict became final.
 abbrev pub HasFaultFor : Bool → Bounds → Asked → Type 0 → List ℕ → TextFault → Type 0

@@ -1,9 +1,7 @@
 pub mod Answer
 pub mod ByCriterion
 pub mod FeedEvents
-pub mod FeedFirst
 pub mod Judge
 pub mod Lacks
 mod Shared
 pub mod Tally
-pub mod UntilFinal

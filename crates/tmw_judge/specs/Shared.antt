@@ -11,6 +11,8 @@ pub use Rattle.tmw_lines.specs.Lines.{HasFailed, HasRead, IsNew, IsOver, unread_
 pub use Rattle.tmw_lines.specs.ReadItems.{EndsBehind, FailsBehind, FailsHolding}
 pub use Rattle.tmw_lines.specs.Taker.{Taking}
 pub use Rattle.tmw_lines.specs.TextFault.{EndsSoon, HasFirstLineFault, HasTextFault, reading_failures}
+pub use Rattle.tmw_lines.specs.declared.items.Reached.{Reached}
+pub use Rattle.tmw_lines.specs.declared.items.Reached.TheVariants.{End, Stop}
 pub use Rattle.tmw_lines.specs.declared.lines.Lines.{Lines}
 pub use Rattle.tmw_lines.specs.declared.text_fault.TextFault.{TextFault}
 pub use Rattle.tmw_lines.specs.declared.text_fault.TextFault.TheVariants.{Memory}

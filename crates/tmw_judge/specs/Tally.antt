@@ -30,8 +30,8 @@ abbrev pub CountsFor : Type 0 → Type 1
 CountsFor C = ℕ → List Event → C → Type 0
 
 -- The monitors have been fed this history, and the prefix of it that is counted has been counted.
-pub record AreJudged {C : Type 0} (Counts : CountsFor C) (header : Header) (bounds : Bounds) (asked : Asked) (history : List Event)
-    (judges : Judges C) : Type 0 where
+pub record AreJudged {C F : Type 0} (Counts : CountsFor C) (header : Header) (bounds : Bounds) (asked : Asked) (history : List Event)
+    (judges : Judges C F) : Type 0 where
   pub fed : AreFed header bounds asked history judges.monitors
   pub counted : Counts header.registers.number (counted_part (verdicts_of judges.monitors) history) judges.counting
 

@@ -1,20 +1,19 @@
 ghost use Rattle.tmw_judge.specs.Shared.{IsNew, RemarksFault, Tells, failures_after_answer, reading_failures};
 ghost use Rattle.std.specs.Prelude.{◌≡◌, ℕ, List};
 ghost use Rattle.tmw_judge.specs.Answer.{Answers, AnswersBy};
-ghost use Rattle.tmw_judge.specs.FeedEvents.{AreFedAllRead, ReadsBeginning};
-ghost use Rattle.tmw_judge.specs.FeedFirst.{AnswersFed, FeedsFor};
+ghost use Rattle.tmw_judge.specs.FeedEvents.{ReadsBeginning};
 
+use crate::ending::{Ending, UntilEnd, UntilFinal};
 use crate::feed_events::feed_events;
-use crate::feed_first::feed_first;
 use crate::judge_result::JudgeResult;
 use crate::judges::Judges;
 use crate::monitors::{broken_of, monitors_for, reports_of};
 use crate::tally::{BothNoTally, NoTally, StrictNoTally, Tally};
-use crate::until_final::UntilFinal;
 use std::alloc::Global;
+use std::marker::PhantomData;
 use tmw_counts::Counter;
 use tmw_defs::Asked;
-use tmw_lines::{Reached, TextFault};
+use tmw_lines::TextFault;
 use tmw_monitor::Bounds;
 use tmw_options::JudgeOptions;
 use tmw_report::{Fault, quote_fault};
@@ -61,7 +60,41 @@ fn judge_by<S: Source, E: Sink, C: Tally>(
     ensures failures { S.from.failures source.new ≡ failures_after_answer result
         (S.from.failures source.old) }
 {
-    let judges = feed_judges::<S, E, C>(alloc, source, errors, options)?;
+    if options.first {
+        judge_to::<S, E, C, UntilFinal>(alloc, source, errors, options)
+    } else {
+        judge_to::<S, E, C, UntilEnd>(alloc, source, errors, options)
+    }
+}
+
+/// Judges a trace up to this ending.
+fn judge_to<S: Source, E: Sink, C: Tally, F: Ending>(
+    alloc: Global,
+    source: &mut S,
+    errors: &mut E,
+    options: JudgeOptions,
+) -> Result<JudgeResult, Fault>
+    ensures right { (bytes : List ℕ) × Tells S.from source.old bytes source.new
+        × AnswersBy F.first C.counted options.bounds options.asked (S.from.ended source.new)
+        bytes result
+        × RemarksFault E.to bytes result errors.old errors.new }
+    ensures failures { S.from.failures source.new ≡ failures_after_answer result
+        (S.from.failures source.old) }
+{
+    let mut lines = TraceLines::new();
+    let mut judges: Judges<C, F> = match begin(
+        alloc,
+        &mut lines,
+        source,
+        options.bounds,
+        options.asked,
+    ) {
+        Ok(judges) => judges,
+        Err(fault) => return Err(quote_fault(errors, &lines, fault)),
+    };
+    if let Err(fault) = feed_events(&mut lines, source, &mut judges) {
+        return Err(quote_fault(errors, &lines, fault));
+    }
     Ok(JudgeResult {
         reports: reports_of(&judges.monitors),
         summary: judges.counting.summary(),
@@ -69,61 +102,15 @@ fn judge_by<S: Source, E: Sink, C: Tally>(
     })
 }
 
-/// Reads a trace, and feeds its events to the judges that are made for it. The sink for errors is told which line has a
-/// fault.
-fn feed_judges<S: Source, E: Sink, C: Tally>(
-    alloc: Global,
-    source: &mut S,
-    errors: &mut E,
-    options: JudgeOptions,
-) -> Result<Judges<C>, Fault>
-    ensures right { (bytes : List ℕ) × Tells S.from source.old bytes source.new
-        × AnswersFed options.first C.counts options.bounds options.asked (S.from.ended source.new)
-        bytes result
-        × RemarksFault E.to bytes result errors.old errors.new }
-    ensures failures { S.from.failures source.new ≡ failures_after_answer result
-        (S.from.failures source.old) }
-{
-    let mut lines = TraceLines::new();
-    let mut first = match begin(alloc, &mut lines, source, options.bounds, options.asked) {
-        Ok(judges) => UntilFinal { judges },
-        Err(fault) => return Err(quote_fault(errors, &lines, fault)),
-    };
-    match feed_for(&mut lines, source, &mut first, options.first) {
-        Ok(_) => Ok(first.judges),
-        Err(fault) => Err(quote_fault(errors, &lines, fault)),
-    }
-}
-
-/// Reads on, by `first` up to the event at which all verdicts are final, and else to the end.
-fn feed_for<S: Source, C: Tally>(
-    lines: &mut TraceLines,
-    source: &mut S,
-    judges: &mut UntilFinal<C>,
-    first: bool,
-) -> Result<Reached, TextFault>
-    requires { AreFedAllRead C.counts lines.old judges.old.judges }
-    ensures feeds { FeedsFor first S.from C.counts (S.from.ended source.new) source.old source.new
-        lines.old lines.new judges.old.judges judges.new.judges result }
-    ensures failures { S.from.failures source.new ≡ reading_failures result
-        (S.from.failures source.old) }
-{
-    if first {
-        feed_first(lines, source, judges)
-    } else {
-        feed_events(lines, source, &mut judges.judges)
-    }
-}
-
 /// Reads a trace's first line, and makes the judges for its history. `Memory` follows a failed allocation for them:
 /// at most 4,096 bytes were read after that line.
-fn begin<S: Source, C: Tally>(
+fn begin<S: Source, C: Tally, F: Ending>(
     alloc: Global,
     lines: &mut TraceLines,
     source: &mut S,
     bounds: Bounds,
     asked: Asked,
-) -> Result<Judges<C>, TextFault>
+) -> Result<Judges<C, F>, TextFault>
     requires { IsNew lines.old }
     ensures begins { ReadsBeginning S.from C.counts (S.from.ended source.new) source.old source.new
         lines.new bounds asked result }
@@ -140,5 +127,6 @@ fn begin<S: Source, C: Tally>(
     Ok(Judges {
         monitors,
         counting: C::begin(header.registers),
+        ending: PhantomData,
     })
 }

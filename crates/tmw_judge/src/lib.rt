@@ -4,8 +4,8 @@
 
 mod answer_lines;
 mod by_criterion;
+mod ending;
 mod feed_events;
-mod feed_first;
 mod judge;
 mod judge_command;
 mod judge_result;
@@ -16,7 +16,6 @@ mod monitors;
 mod progress;
 mod report;
 mod tally;
-mod until_final;
 
 pub use by_criterion::ByCriterion;
 pub use judge_command::{run_judge, run_judge_with};

@@ -1,5 +1,5 @@
 -- Reading on to the end: a taker was given the items of the lines read so far.
-use Rattle.tmw_lines.proofs.Shared.{AreGiven, BadHeader, BadLine, Cut, Err, FailsAtLine, FromSource, GivesAll, GivesItems, Grammar, HasBegunToRead, HasRead, Io, IsReading, GivesUpTo, Lines, List, Memory, None, Ok, ReadsNext, ReadsToFault, Some, Taking, Tells, Tells-more, Tells-none, TextFault, TooLong, [], append-nil, append_assoc, arith, length-append, sym, ℕ, ◌++◌, ◌+◌, ◌∙◌, ◌∷◌, ◌≡◌}
+use Rattle.tmw_lines.proofs.Shared.{Err, FailsAtLine, FromSource, GivesAll, GivesItems, GivesUpTo, Grammar, HasBegunToRead, HasRead, IsReading, Lines, List, None, Ok, ReadsNext, ReadsToFault, Some, Taking, Tells, Tells-more, Tells-none, TextFault, [], append-nil, append_assoc, arith, length-append, sym, ℕ, ◌++◌, ◌+◌, ◌∙◌, ◌∷◌, ◌≡◌}
 use Rattle.tmw_lines.proofs.LinesRead.{fails-holding}
 use Rattle.tmw_lines.specs.declared.items.Reached.TheVariants.{End, Stop}
 
@@ -136,24 +136,12 @@ module _ {F H E S T : Type 0} {grammar : Grammar F H E} {From : FromSource S}
         rw (← append_assoc earlier h.bytes bytes) (fails-holding grammar Ended now next bytes fault fails header
         (given ++ h.items) (earlier ++ h.bytes) (h.read header given earlier r))
 
-    -- how a fault of the line behind the items taken answers
-    given-fault : (Ended : Type 0) (next : Lines F) (bytes : List ℕ)
-        (fault : TextFault) → HasBegunToRead grammar lines → FailsAtLine grammar Ended now next bytes fault
-        → AreGiven grammar Ended taking lines next before between h.items (h.bytes ++ bytes) (Err fault)
-    given-fault Ended next bytes BadHeader begun fails = (fault-behind Ended next bytes BadHeader fails, h.taken)
-    given-fault Ended next bytes (BadLine number) begun fails = (fault-behind Ended next bytes (BadLine number) fails, h.taken)
-    given-fault Ended next bytes (Cut number) begun fails = (fault-behind Ended next bytes (Cut number) fails, h.taken)
-    given-fault Ended next bytes Memory begun fails = absurd (fails (reads_on begun)).0
-    given-fault Ended next bytes Io begun fails = (fault-behind Ended next bytes Io fails, h.taken)
-    given-fault Ended next bytes TooLong begun fails = (fault-behind Ended next bytes TooLong fails, h.taken)
-
     -- a fault was read
-    pub gives-fault : {c : S} {next : Lines F} {fault : TextFault}
-        → HasBegunToRead grammar lines → ReadsNext grammar From b c now next (Err fault)
+    pub gives-fault : {c : S} {next : Lines F} {fault : TextFault} → ReadsNext grammar From b c now next (Err fault)
         → GivesAll grammar From (From.ended c) taking a c lines next before between (Err fault)
-    gives-fault {c = c} {next = next} {fault = fault} begun r = record {
+    gives-fault {c = c} {next = next} {fault = fault} r = record {
       bytes = h.bytes ++ r.bytes;
       items = h.items;
       told = Tells-more From a b c h.bytes r.bytes h.told r.told;
-      given = given-fault (From.ended c) next r.bytes fault begun r.is.0;
+      given = (fault-behind (From.ended c) next r.bytes fault r.is.0, h.taken);
     }

@@ -1,5 +1,5 @@
 -- Reading a whole text: its header, and then the items of all other lines.
-use Rattle.tmw_lines.proofs.Shared.{AreGiven, AreLines, AreReadFor, BadHeader, BadLine, Cut, EndsSoon, Err, FromSource, Grammar, HasFirstLineFault, HasRead, HasTextFault, Io, Lines, List, Memory, Ok, ReadsItems, Result, Taking, Tells, Tells-more, TextFault, TooLong, [], ap, arith, bytes_of, lines_text, subst, ℕ, ◌++◌, ◌∙◌, ◌∷◌, ◌≡◌}
+use Rattle.tmw_lines.proofs.Shared.{AreGiven, AreLines, AreReadFor, EndsSoon, Err, FromSource, Grammar, HasFirstLineFault, HasRead, HasTextFault, Lines, List, Memory, Ok, ReadsItems, Result, Taking, Tells, Tells-more, TextFault, [], ap, arith, bytes_of, inl, inr, lines_text, refl, subst, ℕ, ◌++◌, ◌∙◌, ◌∷◌, ◌≡◌}
 use Rattle.tmw_lines.proofs.LinesRead.{text_fault-behind}
 use Rattle.tmw_lines.specs.declared.items.Reached.{Reached}
 use Rattle.tmw_lines.specs.declared.items.Reached.TheVariants.{End, Stop}
@@ -27,13 +27,9 @@ soon-behind grammar lines header items bytes read = record {
 pub text_fault-read : (Done : Type 0) {F H E : Type 0} (grammar : Grammar F H E) (Ended : Type 0) (lines : Lines F) (header : H) (items : List E)
     (bytes : List ℕ) (fault : TextFault) → AreReadFor {Done = Done} grammar Ended lines header items bytes (Err fault)
     → HasTextFault grammar Ended bytes fault
-text_fault-read Done grammar Ended lines header items bytes BadHeader f = text_fault-behind grammar Ended header items bytes BadHeader f.fails
-text_fault-read Done grammar Ended lines header items bytes (BadLine number) f =
-    text_fault-behind grammar Ended header items bytes (BadLine number) f.fails
-text_fault-read Done grammar Ended lines header items bytes (Cut number) f = text_fault-behind grammar Ended header items bytes (Cut number) f.fails
-text_fault-read Done grammar Ended lines header items bytes Memory f = soon-behind grammar lines header (items ++ f.last ∷ []) bytes f.read
-text_fault-read Done grammar Ended lines header items bytes Io f = text_fault-behind grammar Ended header items bytes Io f.fails
-text_fault-read Done grammar Ended lines header items bytes TooLong f = text_fault-behind grammar Ended header items bytes TooLong f.fails
+text_fault-read Done grammar Ended lines header items bytes fault (inl f) = text_fault-behind grammar Ended header items bytes fault f.fails
+text_fault-read Done grammar Ended lines header items bytes fault (inr (is, f)) =
+    rw is (soon-behind grammar lines header (items ++ f.last ∷ []) bytes f.read)
 
 -- what is answered of items that are held, if the taker stops for want of memory
 abbrev pub held_by : Result Reached TextFault → Result (Unit {0}) TextFault
@@ -48,13 +44,8 @@ module _ {F H E T : Type 0} (grammar : Grammar F H E) (Ended : Type 0) (taking :
       → (header : H) (given : List E) (earlier : List ℕ) → HasRead grammar old header given earlier
       → AreReadFor grammar Ended new header (given ++ items) (earlier ++ bytes) (held_by result)
   given-read (Ok End) g header given earlier r = g.0 header given earlier r
-  given-read (Ok Stop) g header given earlier r = record { last = g.last; read = g.read header given earlier r }
-  given-read (Err BadHeader) g header given earlier r = g.0 header given earlier r
-  given-read (Err (BadLine number)) g header given earlier r = g.0 header given earlier r
-  given-read (Err (Cut number)) g header given earlier r = g.0 header given earlier r
-  given-read (Err Memory) g header given earlier r = absurd g
-  given-read (Err Io) g header given earlier r = g.0 header given earlier r
-  given-read (Err TooLong) g header given earlier r = g.0 header given earlier r
+  given-read (Ok Stop) g header given earlier r = inr (refl, record { last = g.last; read = g.read header given earlier r })
+  given-read (Err fault) g header given earlier r = inl (g.0 header given earlier r)
 
 -- a whole text: the header was read, and then the items of all other lines
 module _ {F H E S : Type 0} {grammar : Grammar F H E} {From : FromSource S}

@@ -1,5 +1,5 @@
 -- What was read where a taker, such as a list, holds the items that it takes behind those that it held.
-use Rattle.tmw_lines.proofs.Shared.{AreGiven, BadHeader, BadLine, Cut, Err, FromSource, GivesAll, Grammar, Io, Lines, List, Memory, Ok, ReadsItems, Result, Taking, TextFault, TooLong, ℕ, ◌++◌, ◌∙◌, ◌≡◌}
+use Rattle.tmw_lines.proofs.Shared.{AreGiven, Err, FromSource, GivesAll, Grammar, Lines, List, Ok, ReadsItems, Result, Taking, TextFault, ℕ, ◌++◌, ◌∙◌, ◌≡◌}
 use Rattle.tmw_lines.proofs.TextsRead.{given-read, held_by}
 use Rattle.tmw_lines.specs.declared.items.Reached.{Reached}
 use Rattle.tmw_lines.specs.declared.items.Reached.TheVariants.{End, Stop}
@@ -12,12 +12,7 @@ module _ {F H E T : Type 0} (grammar : Grammar F H E) (Ended : Type 0) (taking :
   held-given items bytes (Ok End) g = takes x items y g.1
   held-given items bytes (Ok Stop) g =
       stops g.taken.between g.last y g.taken.stops ∙ takes x items g.taken.between g.taken.takes
-  held-given items bytes (Err BadHeader) g = takes x items y g.1
-  held-given items bytes (Err (BadLine number)) g = takes x items y g.1
-  held-given items bytes (Err (Cut number)) g = takes x items y g.1
-  held-given items bytes (Err Memory) g = absurd g
-  held-given items bytes (Err Io) g = takes x items y g.1
-  held-given items bytes (Err TooLong) g = takes x items y g.1
+  held-given items bytes (Err fault) g = takes x items y g.1
 
   pub reads-given : {S : Type 0} (From : FromSource S) (a b : S) (result : Result Reached TextFault)
       → GivesAll grammar From Ended taking a b lines after x y result

@@ -8,7 +8,6 @@ use Rattle.tmw_lines.specs.declared.items.Reached.{Reached}
 use Rattle.tmw_lines.specs.declared.items.Reached.TheVariants.{End, Stop}
 use Rattle.tmw_lines.specs.declared.lines.Lines.{Lines}
 use Rattle.tmw_lines.specs.declared.text_fault.TextFault.{TextFault}
-use Rattle.tmw_lines.specs.declared.text_fault.TextFault.TheVariants.{Memory}
 use Rattle.tmw_streams.specs.Streams.{FromSource}
 use Rattle.tmw_streams.specs.Transfers.{Tells}
 
@@ -32,14 +31,13 @@ pub record ReadsUpTo {F H E T : Type 0} (grammar : Grammar F H E) (taking : Taki
   pub taken : TakesUpTo taking before items last after
 
 -- these items were taken, and behind them comes the end, the line that has the fault, or one line more, at whose item the taker
--- stopped; there is no want of memory
+-- stopped; no fault of a line is want of memory
 abbrev pub AreGiven : {F H E T : Type 0} → Grammar F H E → Type 0 → Taking T E → Lines F → Lines F → T → T
     → List E → List ℕ → Result Reached TextFault → Type 0
 AreGiven grammar Ended taking old new before after items bytes (Ok End) =
     ReadsToEnd grammar Ended old items bytes × taking.takes before items after
 AreGiven grammar Ended taking old new before after items bytes (Ok Stop) =
     ReadsUpTo grammar taking old new before after items bytes
-AreGiven grammar Ended taking old new before after items bytes (Err Memory) = ⊥
 AreGiven grammar Ended taking old new before after items bytes (Err fault) =
     ReadsToFault grammar Ended old new items bytes fault × taking.takes before items after
 

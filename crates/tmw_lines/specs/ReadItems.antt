@@ -1,5 +1,5 @@
 -- What is read where lines are read on to the text's end, and how much of it is held.
-use Rattle.std.specs.Prelude.{◌≡◌, ℕ, Result, Ok, Err, List, [], ◌∷◌, ◌++◌, length}
+use Rattle.std.specs.Prelude.{◌≡◌, ◌⊎◌, ℕ, Result, Ok, Err, List, [], ◌∷◌, ◌++◌, length}
 use Rattle.tmw_lines.specs.Grammar.{Grammar, lines_text, AreLines}
 use Rattle.tmw_lines.specs.NextLine.{HasLineFault}
 use Rattle.tmw_lines.specs.Lines.{HasRead, format_by, unread_bytes}
@@ -50,8 +50,8 @@ pub record StopsBehind {F H E : Type 0} (grammar : Grammar F H E) (lines : Lines
 -- fault, or for want of memory one line, whose item is not held, and what the reader holds
 abbrev pub AreReadFor : {F H E Done : Type 0} → Grammar F H E → Type 0 → Lines F → H → List E → List ℕ → Result Done TextFault → Type 0
 AreReadFor grammar Ended lines header items bytes (Ok done) = EndsBehind grammar Ended header items bytes
-AreReadFor grammar Ended lines header items bytes (Err Memory) = StopsBehind grammar lines header items bytes
-AreReadFor grammar Ended lines header items bytes (Err fault) = FailsHolding grammar Ended lines header items bytes fault
+AreReadFor grammar Ended lines header items bytes (Err fault) =
+    FailsHolding grammar Ended lines header items bytes fault ⊎ ((fault ≡ Memory) × StopsBehind grammar lines header items bytes)
 
 -- what the source told makes, behind whatever the reader had read before, lines whose items came behind the items held
 pub record ReadsItems {F H E S Done : Type 0} (grammar : Grammar F H E) (From : FromSource S) (Ended : Type 0) (old new : S) (lines lines_after : Lines F) (held held_after : List E)

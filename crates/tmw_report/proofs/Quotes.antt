@@ -1,7 +1,7 @@
 -- What is told of a line that has a fault, by what a reader of a trace holds of it, is what is told of the line with its number.
 use Rattle.tmw_report.proofs.Shared.{Err, IsSent, List, Ok, Puts, QuotesHeld, QuotesLine, Result, Some, ap, arith, fault_of, inl, inr, is_empty_header, length, length-take, nat_lt, number_of, quoted, refl, sym, take, take-take, trace_grammar, trace_text, version_digit, version_in, wrong_of, ℕ, ◌++◌, ◌+◌, ◌==◌, ◌∙◌, ◌≡◌}
 use Rattle.std.proofs.lemmas.Bool.Decides.{nat_tests}
-use Rattle.tmw_lines.specs.ReadItems.{AreReadFor, FailsHolding}
+use Rattle.tmw_lines.specs.ReadItems.{FailsHolding}
 use Rattle.tmw_lines.specs.Lines.{format_by, unread_bytes}
 use Rattle.tmw_lines.specs.LineFeeds.{HoldsFront, front_of, line_at}
 use Rattle.tmw_lines.specs.TextFault.{HasFirstLineFault}
@@ -78,7 +78,7 @@ module _ {E : Type 0} (Errors : ToSink E) (Ended : Type 0) (lines : Lines Versio
     version told f = ap version_digit f.format ∙ version-told header events f.fails.rest ∙ ap version_in (sym f.fails.text)
 
     -- of a fault behind the lines of a header and of events
-    quoted-behind : (told : TextFault) → FailsHolding trace_grammar Ended lines header events bytes told
+    pub quoted-behind : (told : TextFault) → FailsHolding trace_grammar Ended lines header events bytes told
         → QuotesHeld Errors (number_of (fault_of told)) (fault_of told) (format_by lines) (front_of (unread_bytes lines)) old new
         → QuotesLine Errors (number_of (fault_of told)) (fault_of told) bytes old new
     quoted-behind BadHeader f = absurd f.fails.line
@@ -91,13 +91,3 @@ module _ {E : Type 0} (Errors : ToSink E) (Ended : Type 0) (lines : Lines Versio
     quoted-behind Memory f = absurd f.fails.line
     quoted-behind Io f = λ told. told
     quoted-behind TooLong f = λ told. told
-
-    pub quoted-read : (Done : Type 0) (told : TextFault) → AreReadFor {Done = Done} trace_grammar Ended lines header events bytes (Err told)
-        → QuotesHeld Errors (number_of (fault_of told)) (fault_of told) (format_by lines) (front_of (unread_bytes lines)) old new
-        → QuotesLine Errors (number_of (fault_of told)) (fault_of told) bytes old new
-    quoted-read Done BadHeader f = quoted-behind BadHeader f
-    quoted-read Done (BadLine number) f = quoted-behind (BadLine number) f
-    quoted-read Done (Cut number) f = quoted-behind (Cut number) f
-    quoted-read Done Memory f = λ told. told
-    quoted-read Done Io f = quoted-behind Io f
-    quoted-read Done TooLong f = quoted-behind TooLong f

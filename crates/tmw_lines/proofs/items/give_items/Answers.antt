@@ -44,7 +44,7 @@ returns-in-Ok-None-clause-gives g c =
 pub returns-in-Err-clause-gives : goal.returns-in-Err-clause-gives
 returns-in-Err-clause-gives g c =
     let held = HasGiven-held c.lines.invariant.0 g.met.T.Taker.takes_more c.give_held.new.self c.give_held.new.taker c.in-Ok.ensures.gives in
-    gives-fault held c.requires.begun c.in-Err.ensures.reads
+    gives-fault held c.in-Err.ensures.reads
 
 pub returns-in-Err-clause-failures : goal.returns-in-Err-clause-failures
 returns-in-Err-clause-failures g c =

@@ -1,10 +1,10 @@
 -- What was told is the first line and what was read behind it.
-use Rattle.tmw_show.proofs.Shared.{Err, [], refl, rules_for, trace_grammar, ◌++◌, ◌∷◌}
+use Rattle.tmw_show.proofs.Shared.{[], refl, rules_for, trace_grammar, ◌++◌, ◌∷◌}
 use Rattle.tmw_lines.specs.declared.text_fault.TextFault.TheVariants.{Memory}
-use Rattle.tmw_lines.proofs.TextsRead.{given-read, soon-behind, text_fault-first, text_fault-read}
+use Rattle.tmw_lines.proofs.LinesRead.{text_fault-behind}
+use Rattle.tmw_lines.proofs.TextsRead.{soon-behind, text_fault-first}
 use Rattle.tmw_streams.proofs.Transfers.{Tells-more}
-use Rattle.tmw_window.specs.WindowTaker.{window_taking}
-use Rattle.tmw_report.proofs.Quotes.{quoted-first, quoted-read}
+use Rattle.tmw_report.proofs.Quotes.{quoted-behind, quoted-first}
 use Rattle.tmw_show.proofs.ShowAnswers.{explained-answers, explained-remarks}
 use Rattle.tmw_show.proofs.show_trace.show_trace.Goals as goal
 
@@ -62,17 +62,15 @@ returns-in-Err-give_items-clause-right g c =
     let all = c.in-Err-give_items.ensures.gives in
     let Ended = g.S.Source.from.ended c.give_items.new.source in
     let bytes = first.0 ++ all.bytes in
-    let read = given-read trace_grammar Ended window_taking c.header.new.self c.give_items.new.lines
-    c.in-Ok-new.window c.give_items.new.taker all.items all.bytes (Err c.in-Err-give_items.fault) all.given c.in-Ok.header [] first.0
-    first.2 in
+    let read = all.given.0 c.in-Ok.header [] first.0 first.2 in
     rw c.quote_fault-in-Err-give_items.ensures.fault (
       bytes,
       Tells-more g.S.Source.from c.args.source.now c.header.new.source c.give_items.new.source first.0 all.bytes first.1 all.told,
       (
         c.in-Err-give_items.fault,
         refl,
-        text_fault-read (Unit {0}) trace_grammar Ended c.give_items.new.lines c.in-Ok.header all.items bytes c.in-Err-give_items.fault read,
+        text_fault-behind trace_grammar Ended c.in-Ok.header all.items bytes c.in-Err-give_items.fault read.fails,
       ),
-      quoted-read g.E.Sink.to Ended c.give_items.new.lines bytes c.args.errors.now c.quote_fault-in-Err-give_items.new.errors c.in-Ok.header
-          all.items (Unit {0}) c.in-Err-give_items.fault read c.quote_fault-in-Err-give_items.ensures.told,
+      quoted-behind g.E.Sink.to Ended c.give_items.new.lines bytes c.args.errors.now c.quote_fault-in-Err-give_items.new.errors c.in-Ok.header
+          all.items c.in-Err-give_items.fault read c.quote_fault-in-Err-give_items.ensures.told,
     )
