@@ -1,5 +1,5 @@
 -- Reading on to the end, or by `--first` to the event at which all verdicts are final: the judges have been fed the events of the lines read.
-use Rattle.tmw_judge.proofs.Shared.{AreFedAllRead, AreFedSoMany, AreJudged, AreOpen, Asked, Bool, Bounds, CountsFor, End, Err, Event, FeedsEvents, FromSource, GivesAll, Header, IsTrue, Judges, Lines, List, Ok, Reached, Result, Stop, Tells-none, TextFault, Version, [], append-nil, append_assoc, false, has_open, judges_taking, sym, trace_grammar, true, ◌++◌, ◌∷◌, ◌≡◌}
+use Rattle.tmw_judge.proofs.Shared.{AreFedAllRead, AreFedSoMany, AreJudged, AreOpen, Asked, Bool, Bounds, CountsFor, End, Err, Event, FeedsEvents, FromSource, GivesAll, Header, IsTrue, Judges, Lines, List, Ok, Reached, Result, Stop, Tells-none, TextFault, Version, [], append-nil, append_assoc, arith, false, has_open, judges_taking, not, sym, trace_grammar, true, ◌&&◌, ◌++◌, ◌∷◌, ◌≡◌}
 use Rattle.tmw_judge.proofs.FirstOpen.{AreOpenBefore-push, open-fed}
 
 -- the judges have been fed as many events as lines were read behind the header's
@@ -13,6 +13,13 @@ fed-so_many Counts lines judges fed = record {
   fed = fed.fed;
   counted = sym fed.read.counted;
 }
+
+-- judges have come to their ending, or not
+pub at_final : (first open_one : Bool) → (first && not open_one) ≡ true → IsTrue first × (open_one ≡ false)
+at_final first open_one is = grind arith
+
+pub still_open : (first open_one : Bool) → (first && not open_one) ≡ false → IsTrue first → open_one ≡ true
+still_open first open_one past is = grind arith
 
 -- by `--first` nothing is read where all verdicts are final
 pub feeds-none : {S C F : Type 0} (first : Bool) (From : FromSource S) (Counts : CountsFor C) (Ended : Type 0) (a : S) (lines : Lines Version)

@@ -1,5 +1,5 @@
 -- What the proofs of this crate take from the libraries, from the crates below and from its specs.
-pub use Rattle.std.proofs.Common.{Bool, Err, IfOk, IsTrue, List, Ok, OnOk, Option, Result, [], ap, append-nil, append_assoc, arith, false, inl, inr, length, length-append, refl, rules, subst, sym, true, ℕ, ◌++◌, ◌+◌, ◌-◌, ◌<◌, ◌==◌, ◌^◌, ◌||◌, ◌∙◌, ◌∷◌, ◌≡◌, ◌≤◌}
+pub use Rattle.std.proofs.Common.{Bool, Err, IfOk, IsTrue, List, Ok, OnOk, Option, Result, [], ap, append-nil, append_assoc, arith, false, inl, inr, length, length-append, not, refl, rules, subst, sym, true, ℕ, ◌++◌, ◌&&◌, ◌+◌, ◌-◌, ◌<◌, ◌==◌, ◌^◌, ◌||◌, ◌∙◌, ◌∷◌, ◌≡◌, ◌≤◌}
 pub use Rattle.std.proofs.lemmas.Bool.{both_ways, cases_Bool, eq-eqb, eqb-true, or_cases}
 pub use Rattle.std.specs.Prelude.{take}
 pub use Rattle.tmw_counts.proofs.CountedPart.{as_formed, as_formed-le, fine_of, step, take_whole}

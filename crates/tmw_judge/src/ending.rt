@@ -1,13 +1,18 @@
+ghost use Rattle.std.specs.Prelude.{◌≡◌, ◌&&◌, not};
+ghost use Rattle.tmw_judge.specs.Tally.{any_open, verdicts_of};
+
+use crate::monitors::{Monitors, any_open};
+
 /// Up to where the events of a trace are fed to its judges.
 pub trait Ending: Drop {
-    ghost use Rattle.std.specs.Prelude.{◌≡◌, Bool};
+    ghost use Rattle.std.specs.Prelude.{Bool};
 
     /// Whether only up to the event at which all verdicts are final.
     ghost first: { Bool };
 
-    /// Tells whether it is so.
-    fn is_first() -> bool
-        ensures { result ≡ first };
+    /// Tells whether monitors have come there.
+    fn is_at(monitors: &Monitors) -> bool
+        ensures { result ≡ (first && not (any_open (verdicts_of monitors.now))) };
 }
 
 /// Up to the end.
@@ -20,7 +25,7 @@ impl Ending for UntilEnd {
     ghost first = { false };
 
     #[inline(always)]
-    fn is_first() -> bool {
+    fn is_at(_monitors: &Monitors) -> bool {
         false
     }
 }
@@ -35,7 +40,7 @@ impl Ending for UntilFinal {
     ghost first = { true };
 
     #[inline(always)]
-    fn is_first() -> bool {
-        true
+    fn is_at(monitors: &Monitors) -> bool {
+        !any_open(monitors)
     }
 }

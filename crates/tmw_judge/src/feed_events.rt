@@ -4,7 +4,6 @@ ghost use Rattle.tmw_judge.specs.FeedEvents.{AreFedAllRead, FeedsEvents, judges_
 
 use crate::ending::Ending;
 use crate::judges::Judges;
-use crate::monitors::any_open;
 use crate::tally::Tally;
 use tmw_events::Event;
 use tmw_lines::{Reached, Stop, Taker, TextFault, give_items};
@@ -18,7 +17,7 @@ impl<C: Tally, F: Ending> Taker<Event> for Judges<C, F> {
     #[inline(always)]
     fn take(&mut self, event: Event) -> Result<(), Stop> {
         self.feed(event);
-        if F::is_first() && !any_open(&self.monitors) {
+        if F::is_at(&self.monitors) {
             return Err(Stop);
         }
         Ok(())
@@ -52,7 +51,7 @@ pub fn feed_events<S: Source, C: Tally, F: Ending>(
     ensures over { IfOk result (λ reached. reached ≡ End → IsOver lines.new) }
     ensures stays { IfErr result (HasFailed lines.new) }
 {
-    if F::is_first() && !any_open(&judges.monitors) {
+    if F::is_at(&judges.monitors) {
         return Ok(Reached::Stop);
     }
     give_items(lines, source, judges)
