@@ -227,7 +227,9 @@ if has python3 'stores in Python'; then
     runs 'SQLite, by Python'\''s defaults' 1 --schedule steps "${sqlite[@]}"
     prints 'SQLite, by Python'\''s defaults' '"certain":true'
     cat >failing.py <<'END'
-from tmwatch_store import Refused, Store, serve
+import sys
+
+from tmwatch_store import Refused, Store, serve, serve_all
 
 class Failing(Store):
     calls = 0
@@ -252,12 +254,102 @@ class Failing(Store):
     def abort(self):
         pass
 
-serve(Failing())
+serve(Failing()) if len(sys.argv) == 1 else serve_all([Failing() for _ in range(8)])
 END
-    runs 'a store in Python that fails' 4 --schedule steps -- python3 failing.py
-    says 'a store in Python that fails' 'OSError: the store fails'
-    ends 'a store in Python that fails: which call' 0 grep -q '^thread [0-3], call "R .": the program has ended with status 1$' said
-    says 'a store in Python that prints' 'the store prints'
+    for all in '' --one; do
+        runs "a store in Python that fails $all" 4 $all --schedule steps -- python3 failing.py $all
+        says "a store in Python that fails $all" 'OSError: the store fails'
+        ends "a store in Python that fails $all: which call" 0 grep -q '^thread [0-3], call "R .": the program has ended with status 1$' said
+        says "a store in Python that prints $all" 'the store prints'
+    done
+    ends 'a memory in Python ends by itself' 0 timeout 60 python3 "${memory[@]:3}" </dev/null
+    # What the stores ask of a database, by a driver that tells it (driver.py): all that a conversation comes to.
+    mkdir drivers
+    for name in sqlite3 psycopg2 pymysql; do cp "$top/tests/lines/driver.py" "drivers/$name.py"; done
+    printf '0 %s\n' X 'R 1' 'W 2 3' T X 'W 2 13' 'W 4 5' X >talk
+    # The row's name, the exit status, the code of the refusal, if there is one, and the store's words.
+    asks() {
+        ends "$1" "$2" env ${3:+"ERROR=$3"} PYTHONPATH="drivers:$PYTHONPATH" python3 "$top/examples/python/$4" "${@:5}" <talk
+        cp output asked
+    }
+    has_asked() {
+        ends "$1: what it asks" 0 diff asked -
+    }
+    sqlite_calls='execute PRAGMA busy_timeout = 0
+rollback
+0 A
+execute BEGIN IMMEDIATE
+execute SELECT v FROM registers WHERE k = ? ['\''1'\'']
+0 V 7
+execute UPDATE registers SET v = ?2 WHERE k = ?1 ['\''2'\'', '\''3'\'']
+0 K
+commit
+0 C
+rollback
+0 A
+execute BEGIN IMMEDIATE
+execute UPDATE registers SET v = ?2 WHERE k = ?1 ['\''2'\'', '\''13'\'']
+rollback
+0 A
+execute BEGIN IMMEDIATE
+execute UPDATE registers SET v = ?2 WHERE k = ?1 ['\''4'\'', '\''5'\'']
+0 K
+rollback
+0 A'
+    asks 'SQLite, BEGIN' 0 1 sqlite.py file 'BEGIN IMMEDIATE'
+    has_asked 'SQLite, BEGIN' <<<$'connect file {}\nexecute PRAGMA synchronous = OFF\n'"$sqlite_calls"
+    SYNCHRONOUS=FULL asks 'SQLite, no BEGIN' 0 1 sqlite.py file
+    has_asked 'SQLite, no BEGIN' <<<$'connect file {}\nexecute PRAGMA synchronous = FULL\n'"${sqlite_calls//$'execute BEGIN IMMEDIATE\n'/}"
+    asks 'SQLite, setup' 0 1 sqlite.py setup file TRUNCATE
+    has_asked 'SQLite, setup' <<'END'
+connect file {}
+executescript PRAGMA journal_mode = TRUNCATE; DROP TABLE IF EXISTS registers; CREATE TABLE registers (k INTEGER PRIMARY KEY, v INTEGER)
+executemany INSERT INTO registers VALUES (?, 0) [(0,), (1,), (2,), (3,), (4,), (5,), (6,), (7,)]
+commit
+END
+    calls='0 A
+execute BEGIN ()
+execute SELECT v FROM registers WHERE k = %s (1,)
+0 V 7
+execute UPDATE registers SET v = %s WHERE k = %s (3, 2)
+0 K
+execute COMMIT ()
+0 C
+0 A
+execute BEGIN ()
+execute UPDATE registers SET v = %s WHERE k = %s (13, 2)
+execute ROLLBACK ()
+0 A
+execute BEGIN ()
+execute UPDATE registers SET v = %s WHERE k = %s (5, 4)
+0 K
+execute ROLLBACK ()
+0 A'
+    asks 'PostgreSQL' 0 40001 dbapi.py postgres dbname=test SERIALIZABLE
+    has_asked 'PostgreSQL' <<END
+connect dbname=test {'options': '-c lock_timeout=1ms'}
+autocommit = True
+cursor
+execute SET SESSION CHARACTERISTICS AS TRANSACTION ISOLATION LEVEL SERIALIZABLE ()
+$calls
+END
+    asks 'MariaDB' 0 1213 dbapi.py mariadb socket:user:base 'READ COMMITTED'
+    has_asked 'MariaDB' <<END
+connect {'unix_socket': 'socket', 'user': 'user', 'database': 'base', 'autocommit': True}
+cursor
+execute SET SESSION innodb_lock_wait_timeout = 0 ()
+execute SET SESSION TRANSACTION ISOLATION LEVEL READ COMMITTED ()
+$calls
+END
+    LOCKS=7s asks 'PostgreSQL, its locks' 0 40P01 dbapi.py postgres dbname=test SERIALIZABLE
+    ends 'PostgreSQL, its locks: how long' 0 grep -q lock_timeout=7s asked
+    LOCKS=7 asks 'MariaDB, its locks' 0 1205 dbapi.py mariadb socket:user:base SERIALIZABLE
+    ends 'MariaDB, its locks: how long' 0 grep -q 'lock_wait_timeout = 7 ' asked
+    asks 'PostgreSQL, a lock that is held' 0 55P03 dbapi.py postgres dbname=test SERIALIZABLE
+    asks 'MariaDB, a row that has changed' 0 1020 dbapi.py mariadb socket:user:base SERIALIZABLE
+    for code in '' 04000 55000; do asks "PostgreSQL, the error '$code'" 1 "$code" dbapi.py postgres dbname=test SERIALIZABLE; done
+    asks 'MariaDB, another error' 1 1062 dbapi.py mariadb socket:user:base SERIALIZABLE
+    ends 'MariaDB, another error: it is said' 0 grep -x 'pymysql.Error: 1062' asked
 fi
 
 # Jobs: a store each, whose setup, programs and teardown know its number; and a smaller run that shows a violation, in a store that is set up anew.
