@@ -269,7 +269,7 @@ END
     printf '0 %s\n' X 'R 1' 'W 2 3' T X 'W 2 13' 'W 4 5' X >talk
     # The row's name, the exit status, the code of the refusal, if there is one, and the store's words.
     asks() {
-        ends "$1" "$2" env ${3:+"ERROR=$3"} PYTHONPATH="drivers:$PYTHONPATH" python3 "$top/examples/python/$4" "${@:5}" <talk
+        ends "$1" "$2" env -u PYTHONUNBUFFERED ${3:+"ERROR=$3"} PYTHONPATH="drivers:$PYTHONPATH" python3 "$top/examples/python/$4" "${@:5}" <talk
         cp output asked
     }
     has_asked() {
