@@ -262,6 +262,36 @@ END
         ends "a store in Python that fails $all: which call" 0 grep -q '^thread [0-3], call "R .": the program has ended with status 1$' said
         says "a store in Python that prints $all" 'the store prints'
     done
+    # (of two calls that wait for a third thread's, another thread reads for one)
+    cat >locked.py <<'END'
+import threading
+
+from tmwatch_store import Store, serve_all
+
+lock, values = threading.Lock(), [0] * 8
+
+class Locked(Store):
+    def begin(self):
+        lock.acquire()
+        self.kept = values[:]
+
+    def read(self, register):
+        return self.kept[register]
+
+    def write(self, register, value):
+        self.kept[register] = value
+
+    def commit(self):
+        values[:] = self.kept
+        lock.release()
+
+    def abort(self):
+        lock.release()
+
+serve_all([Locked() for _ in range(8)])
+END
+    runs 'a store in Python that locks' 0 --one --schedule steps --rounds 50 -- python3 locked.py
+    prints 'a store in Python that locks' '"rescues":0,.*"waits":[1-9]'
     ends 'a memory in Python ends by itself' 0 timeout 60 python3 "${memory[@]:3}" </dev/null
     # What the stores ask of a database, by a driver that tells it (driver.py): all that a conversation comes to.
     mkdir drivers
@@ -389,7 +419,14 @@ done
 
 # Words.
 ends 'help' 0 ./tmwatch-bench --help
-has_told 'help: options of its own' '^  --setup  *COMMAND '
+mv output told
+ends 'help: what it says of all' 0 diff <(grep -v '^  --' told) - <<'END'
+usage: tmwatch-bench [OPTION].. -- PROGRAM [WORD]..
+Starts the program, has it make random transactions by lines, and judges whether they are opaque.
+Status: 0 opaque so far, 1 violated, 2 undecided, 3 malformed, 4 a fault
+END
+ends 'help: each option, as the man page has it' 0 diff <(sed -n 's/^  --/--/p' told | tr -s ' ') \
+    <(entries "$top/packaging/tmwatch-bench.1" '.SH OPTIONS' | sed 's/ ,/,/')
 ends 'help: options of the bench' 0 grep -q '^  --schedule  *WORD ' told
 ends 'help: none of memories in C' 1 grep -qE '^  --(event|orders|plain|races) |by --seconds alone' told
 runs 'no program' 4 --one
