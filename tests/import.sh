@@ -227,6 +227,10 @@ judged 'intervals, an unknown one that begins after its reader' "$(violated 4 8)
 {"begin": 5, "result": "info", "calls": [["w", "x", 1]]}
 {"begin": 2, "end": 3, "result": "ok", "calls": [["r", "x", 1]]}
 END_OF_HISTORY
+judged 'intervals, an unknown one ends behind its reader, which finds what nobody writes' "$(violated 9 10)" intervals.py <<'END_OF_HISTORY'
+{"begin": 1, "result": "info", "calls": [["w", "x", 1]]}
+{"begin": 2, "end": 3, "result": "ok", "calls": [["r", "x", 1], ["r", "y", 5]]}
+END_OF_HISTORY
 # (it ends with its first reader: open until the last one, it would leave the run undecided)
 read_ten_times() {
     echo '{"begin": 1, "result": "info", "calls": [["w", "x", 1]]}'
