@@ -151,6 +151,18 @@ END
 runs 'setup and teardown' 0 --setup 'rm registers; echo up $TMWATCH_REGISTERS >order' --teardown 'echo down >>order' --one --rounds 1 -- ./environment all
 ends 'setup and teardown: their order' 0 diff order <(printf '%s\n' 'up 8' down)
 ends 'one program: its environment' 0 grep -qx 'TMWATCH_REGISTERS=8 TMWATCH_THREADS=8' all
+# (the last of two words counts; by all, threads are drawn)
+for number in 1 8; do
+    rm -f registers each
+    runs "$number threads and registers" 0 --schedule rounds --threads 5 --threads $number --registers 5 --registers $number --rounds 1 --one -- \
+        ./environment each
+    ends "$number threads and registers: their environment" 0 grep -qx "TMWATCH_REGISTERS=$number TMWATCH_THREADS=$number" each
+done
+for schedule in steps permits; do
+    rm -f registers each
+    runs "threads, $schedule" 0 --schedule all --schedule $schedule --rounds 1 --one -- ./environment each
+    ends "threads, $schedule: their environment" 0 grep -qx 'TMWATCH_REGISTERS=8 TMWATCH_THREADS=4' each
+done
 runs 'a setup that fails' 4 --setup 'exit 3' --teardown 'echo down >failed' "${one[@]}" right
 says 'a setup that fails' 'the setup has ended with status 3: exit 3'
 prints 'a setup that fails' '{"fault":"program"}'
@@ -453,6 +465,12 @@ runs 'a fault' 4 --schedule steps --threads 2 --patience 1 "${stays[@]:0:5}" -- 
 left_by 'a fault'
 runs 'a violation' 1 --schedule steps --threads 2 "${stays[@]:0:5}" -- sh -c './little one first; sleep 1000'
 left_by 'a violation'
+# The teardown finds no program of the bench any more, of any thread and job.
+runs 'two jobs, and an end' 0 --jobs 2 --schedule steps --threads 3 --rounds 10 --setup 'rm -f registers$TMWATCH_JOB; echo up >up' \
+    --teardown 'for it in pid$TMWATCH_JOB?; do echo $it; ! kill -0 $(cat $it) || echo is left; done >>down' -- \
+    sh -c 'echo $$ >pid$TMWATCH_JOB$TMWATCH_THREAD; exec ./little lock registers$TMWATCH_JOB stays'
+ends 'two jobs, and an end: no program is left' 0 diff <(sort down) <(printf '%s\n' pid0{0..2} pid1{0..2})
+left_by 'two jobs, and an end'
 # A process of the bench that this one has started, if there is any. (`pgrep` isn't on each machine.)
 started_by() {
     local child
