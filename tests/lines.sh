@@ -121,6 +121,10 @@ runs 'a store that locks, by time' 0 --schedule steps --rounds 50 --wait 5 "${fi
 prints 'a store that locks, by time' '"rescues":0,.*"waits":[1-9]'
 runs 'a store that is slow once' 0 --schedule steps --rounds 20 "${one[@]}" slow
 prints 'a store that is slow once' '"rescues":0,'
+for what in computes thread child; do
+    runs "a long call: $what" 0 --schedule steps --rounds 20 "${one[@]}" $what
+    ends "a long call: $what: it does not wait" 1 grep '"waits"' printed
+done
 WHEN=100 runs 'a store that locks, and ends' 4 --schedule steps --setup 'rm -f registers' -- ./little lock registers ends
 prints 'a store that locks, and ends' '"certain":false'
 

@@ -4,11 +4,13 @@ A little store by lines, with one client a process or all in one, and with somet
     little one WRONG          all threads in this process: registers that are read and validated by value
     little lock FILE WRONG    one thread; registers in a file, locked from a transaction's first call to its end
 
-WRONG: right; reads or commit, which don't validate; adds, which are refused; slow, an answer that takes long; first, registers that begin
-with 7; or what goes wrong at call WHEN (environment; 26), by the words below.
+WRONG: right; reads or commit, which don't validate; adds, which are refused; slow, an answer that takes long; computes, one that is computed
+for long, and child or thread, if another one computes it; first, registers that begin with 7; or what goes wrong at call WHEN (environment;
+26), by the words below.
 */
 #define _GNU_SOURCE
 #include <fcntl.h>
+#include <pthread.h>
 #include <signal.h>
 #include <stdbool.h>
 #include <stdint.h>
@@ -17,6 +19,8 @@ with 7; or what goes wrong at call WHEN (environment; 26), by the words below.
 #include <string.h>
 #include <sys/file.h>
 #include <sys/mman.h>
+#include <sys/wait.h>
+#include <time.h>
 #include <unistd.h>
 
 enum { THREADS = 8, REGISTERS = 8, LONG = 120000 /* microseconds */ };
@@ -125,6 +129,30 @@ static const char *text_of_wrong(const char *call, const char *answer)
     return text[0] ? text : NULL;
 }
 
+/* Computes for three times as long. */
+static void *compute(void *unused)
+{
+    struct timespec began, time;
+    clock_gettime(CLOCK_MONOTONIC, &began);
+    do
+        clock_gettime(CLOCK_MONOTONIC, &time);
+    while ((time.tv_sec - began.tv_sec) * 1000000 + (time.tv_nsec - began.tv_nsec) / 1000 < 3 * LONG);
+    return unused;
+}
+
+/* Has another one compute, and sleeps until it has. */
+static void let_compute(void)
+{
+    pthread_t thread;
+    if (is_wrong("thread") && pthread_create(&thread, NULL, compute, NULL) == 0)
+        pthread_join(thread, NULL);
+    if (is_wrong("child") && fork() == 0) {
+        compute(NULL);
+        _exit(0);
+    }
+    wait(NULL);
+}
+
 /* Ends, or writes something else than the answer, or something more. */
 static void go_wrong(const char *call, const char *answer)
 {
@@ -138,6 +166,9 @@ static void go_wrong(const char *call, const char *answer)
         close(1), pause();
     if (is_wrong("slow"))
         usleep(LONG);
+    if (is_wrong("computes"))
+        compute(NULL);
+    let_compute();
     const char *text = text_of_wrong(call, answer);
     say(text ? text : answer);
     if (is_wrong("more"))
