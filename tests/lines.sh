@@ -113,6 +113,9 @@ if has python3 'a whole run, by the plain definitions'; then
 fi
 runs 'a whole run that cannot be written' 4 --whole none/whole "${one[@]}" right
 says 'a whole run that cannot be written' "thread 0, between calls: none/whole can't be written: No such file or directory"
+long=none/$(printf '%0600d' 1)
+runs 'a file of a long name' 4 --whole "$long" "${one[@]}" right
+says 'a file of a long name' "thread 0, between calls: ${long:0:486}"
 
 # Locks of the store: a call that waits lets others go on.
 runs 'a store that locks' 0 --schedule steps --rounds 200 "${file[@]}" right
