@@ -146,11 +146,13 @@ static void let_compute(void)
     pthread_t thread;
     if (is_wrong("thread") && pthread_create(&thread, NULL, compute, NULL) == 0)
         pthread_join(thread, NULL);
-    if (is_wrong("child") && fork() == 0) {
+    pid_t child = is_wrong("child") ? fork() : -1;
+    if (child == 0) {
         compute(NULL);
         _exit(0);
     }
-    wait(NULL);
+    if (child > 0)
+        waitpid(child, NULL, 0);
 }
 
 /* Ends, or writes something else than the answer, or something more. */
