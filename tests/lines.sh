@@ -111,6 +111,11 @@ if has python3 'a whole run, by the plain definitions'; then
     for criterion in opacity strict; do python3 "$top/tests/long/whole.py" $criterion <whole; done >lengths
     ends 'a whole run, by the plain definitions' 0 grep -Pzqx '[0-9]+\nnone\n' lengths
 fi
+runs 'a whole run with adds' 0 --one --schedule steps --threads 2 --registers 3 --rounds 20 --add --whole adds -- ./little one right
+for of in '1 8 whole' '2 3 0 0 0 adds'; do
+    ends "a whole run, ${of##* }: its header" 0 test "$(head -n 1 "${of##* }")" = "opacity-trace ${of% *}"
+    ends "a whole run, ${of##* }: its first call" 0 grep -qxa '[0-3] [RWN] .*' <(sed -n 2p "${of##* }")
+done
 runs 'a whole run that cannot be written' 4 --whole none/whole "${one[@]}" right
 says 'a whole run that cannot be written' "thread 0, between calls: none/whole can't be written: No such file or directory"
 long=none/$(printf '%0600d' 1)
