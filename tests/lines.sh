@@ -204,6 +204,8 @@ fails negative 'thread 3, call "R 2": "3 V -1" is no answer to it: "3 V NUMBER" 
 fails control 'thread 3, call "R 2": "3 \x01" is no answer to it: "3 V NUMBER" is, or "3 A"' '{"fault":"program"}' "${one[@]}"
 fails long "thread 3, call \"R 2\": \"3 V 000000000000000000000000000000000000000000000000000000000000..\" is no answer; $ours" '{"fault":"program"}' \
     "${one[@]}"
+fails unended "thread 3, call \"R 2\": \"3 V 000000000000000000000000000000000000000000000000000000000000..\" is no answer; $ours" \
+    '{"fault":"program"}' "${one[@]}"
 fails empty 'thread 3, call "R 2": "3 V " is no answer to it: "3 V NUMBER" is, or "3 A"; no --setup has put 0 there' '{"fault":"program"}' \
     "${one[@]}"
 runs 'empty, after a setup' 4 --schedule steps --setup true "${one[@]}" empty
@@ -224,6 +226,7 @@ ends 'half_end: what is said' 0 grep -q '^thread [0-3], call "[RWT].*": the prog
 ends 'other: what is said' 0 grep -q \
     '^thread \([0-3]\), call "[RWT].*": ".*" is an answer of thread [1-4], whose calls another process gets$' other
 unset WHEN
+runs 'answers in pieces' 0 --schedule rounds --threads 8 --rounds 50 "${one[@]}" pieces
 runs 'lines that end as those of Windows' 0 --schedule steps --rounds 20 "${one[@]}" return
 runs 'registers that hold no 0' 1 --schedule steps "${one[@]}" first
 says 'registers that hold no 0' 'thread 0, call "R 0": "0 V 7" before anything was written: the setup has to leave 0'

@@ -5,11 +5,12 @@ A little store by lines, with one client a process or all in one, and with somet
     little lock FILE WRONG    one thread; registers in a file, locked from a transaction's first call to its end
 
 WRONG: right; reads or commit, which don't validate; adds, which are refused; slow, an answer that takes long; computes, one that is computed
-for long, and child or thread, if another one computes it; first, registers that begin with 7; or what goes wrong at call WHEN (environment;
-26), by the words below.
+for long, and child or thread, if another one computes it; pieces, of which one has the end of a line and the begin of the next; first,
+registers that begin with 7; or what goes wrong at call WHEN (environment; 26), by the words below.
 */
 #define _GNU_SOURCE
 #include <fcntl.h>
+#include <poll.h>
 #include <pthread.h>
 #include <signal.h>
 #include <stdbool.h>
@@ -116,7 +117,7 @@ static const char *text_of_wrong(const char *call, const char *answer)
                              {"kind", "%c K\n"},         {"huge", "%c V 18446744073709551616\n"},
                              {"negative", "%c V -1\n"},  {"long", "%c V 0000000000000000000000000000000000000000000000000000000000000000001\n"},
                              {"control", "%c \001\n"},   {"silent", ""},
-                             {"empty", "%c V \n"}};
+                             {"empty", "%c V \n"},       {"unended", "%c V 0000000000000000000000000000000000000000000000000000000000000000001"}};
     for (size_t i = 0; i < sizeof line / sizeof line[0]; i++)
         if (is_wrong(line[i][0])) {
             snprintf(text, sizeof text, line[i][1], call[0]);
@@ -188,6 +189,26 @@ static void stay(void)
     }
 }
 
+/* Keeps the end of each answer until the next one, or until no call has come for two milliseconds. */
+static void serve_in_pieces(void)
+{
+    char call[100], text[200] = "";
+    struct pollfd in = {0, POLLIN, 0};
+    setvbuf(stdin, NULL, _IONBF, 0);
+    for (size_t end = 0;; memmove(text, text + end, strlen(text + end) + 1)) {
+        if (text[0] && poll(&in, 1, 2) == 0) {
+            say(text);
+            text[0] = '\0';
+        }
+        if (!fgets(call, sizeof call, stdin))
+            return;
+        make_call(call, text + strlen(text));
+        end = strlen(text) - 3;
+        if (write(1, text, end) < 0)
+            _exit(5);
+    }
+}
+
 static void serve(int when)
 {
     char call[100], answer[100];
@@ -222,6 +243,9 @@ int main(int count, char **given)
         say("a store, version 1\n");
     if (is_wrong("unready"))
         pause();
-    serve(when ? atoi(when) : 26);
+    if (is_wrong("pieces"))
+        serve_in_pieces();
+    else
+        serve(when ? atoi(when) : 26);
     return 0;
 }
