@@ -429,6 +429,9 @@ runs 'a wrong store by two jobs' 1 --jobs 2 --seconds 60 "${one[@]}" commit
 prints 'a wrong store by two jobs' '"certain":true'
 ends 'a program that fails in each job' 4 bench --jobs 2 --rounds 1000 -- false
 ends 'a program that fails in each job: one fault' 0 test "$(<printed)" = '{"fault":"program"}'
+rm -f each
+runs 'as many jobs as can be' 4 --jobs 64 --rounds 1000 --setup 'echo $TMWATCH_JOB >>each' -- false
+ends 'as many jobs as can be: the setup of each' 0 diff <(sort -n each) <(seq 0 63)
 for store in reads commit; do
     of=(--setup 'echo up >>each' --teardown 'echo down >>each' --trace small --one -- ./little one $store)
     rm -f each
