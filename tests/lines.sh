@@ -179,6 +179,8 @@ runs 'a setup that fails' 4 --setup 'exit 3' --teardown 'echo down >failed' "${o
 says 'a setup that fails' 'the setup has ended with status 3: exit 3'
 prints 'a setup that fails' '{"fault":"program"}'
 ends 'a setup that fails: the teardown' 0 grep -qx down failed
+runs 'a setup that is killed' 4 --setup 'kill -9 $$' "${one[@]}" right
+says 'a setup that is killed' 'the setup was ended by signal 9 (Killed): kill -9 $$'
 runs 'a teardown that fails' 0 --teardown 'exit 3' --rounds 1 "${one[@]}" right
 says 'a teardown that fails' 'the teardown has ended with status 3: exit 3'
 
