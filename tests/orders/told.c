@@ -79,6 +79,7 @@ static void meets_all(void)
     event = FIRST;
     loads(4, READS_LATER, X, true);
     loads(4, MISSES, Y, false);
+    loads(4, READS_LATEST, Y, false);
     loads(1, READS_LATER, Y, true);
     loads(1, READS_LATEST, Z, true);
     loads(1, READS_LATER, Z, true);
@@ -193,6 +194,7 @@ int main(void)
     meets_all();
     CHECK(is_text(told(FIRST, LAST), "the orders of C++20 allow this, in this round before what went wrong:\n"
                                      "  stale load: thread 4 at %5 does not see the store of thread 0 at %1\n"
+                                     "  stale load: thread 4 at %4 does not see the store of thread 0 at %1\n"
                                      "  stale load: thread 1 at %5 does not see the store of thread 0 at %0 (and 1 like this)\n"
                                      "    though it has read, at %4, what that thread stored later, at %2\n"
                                      "  late store: thread 3 at %6 comes before the store of thread 0 at %1\n"
