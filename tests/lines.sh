@@ -448,6 +448,14 @@ for store in reads commit; do
     ends "a smaller run, $store: what was found first" 0 grep -q '^found first: --seed 1 --round [0-9]* --small$' small.said
     ends "a smaller run, $store: nothing is left" 0 is_clean
 done
+# The program of a try has ended before the store is set up for the next one, whatever it stays for.
+rm -f stayed pid
+runs 'a smaller run of a store that stays' 1 --smaller --setup '[ ! -e pid ] || for try in $(seq 50); do
+        [ -n "$(tr -d "\0" <"/proc/$(cat pid)/cmdline")" ] || break
+        [ $try -lt 50 ] || echo "$try looks" >stayed
+        sleep 0.1
+    done; rm -f pid' --one -- sh -c 'echo $$ >pid; trap "" TERM; ./little one commit; sleep 1000'
+ends 'a smaller run of a store that stays: none is left' 1 test -e stayed
 
 # Words.
 ends 'help' 0 ./tmwatch-bench --help
