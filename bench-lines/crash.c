@@ -24,9 +24,9 @@ static void draw_crash(void)
     calls_left = LEAST_CALLS + (int64_t)((word ^ word >> 31) % MORE_CALLS);
 }
 
-void begin_crashes(void)
+void begin_crashes(uint64_t seed)
 {
-    draws = options.seed;
+    draws = seed;
     draw_crash();
 }
 

@@ -24,12 +24,11 @@ struct options {
     bool by_all;                     /* the schedule */
     const char *setup, *teardown;    /* commands, or null */
     const char *crash;               /* the same: kills the store and starts it again */
-    uint64_t seed;
-    const char *whole;           /* the file of the whole run, or null */
-    uint64_t jobs;               /* how many runs there are at once */
-    uint64_t start, wait;        /* seconds until a program is ready; milliseconds until a call waits, or 0 if that is found out */
-    unsigned threads, registers; /* how many at most */
-    char **program;              /* its words, up to a null */
+    const char *whole;               /* the file of the whole run, or null */
+    uint64_t jobs;                   /* how many runs there are at once */
+    uint64_t start, wait;            /* seconds until a program is ready; milliseconds until a call waits, or 0 if that is found out */
+    unsigned threads, registers;     /* how many at most */
+    char **program;                  /* its words, up to a null */
 };
 extern struct options options;
 
@@ -80,7 +79,7 @@ void end_conversation(void);
 
 /* crash.c: whether the store crashes at this call, and what comes of it. */
 extern atomic_bool has_crashed;
-void begin_crashes(void);
+void begin_crashes(uint64_t seed);
 bool crashes_now(void);
 void crash(unsigned thread);
 

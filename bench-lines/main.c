@@ -13,7 +13,7 @@ The bench is that of tmwatch_bench.h, and so are all options but those listed he
 #include <string.h>
 #include <time.h>
 
-struct options options = {.by_all = true, .seed = 1, .start = 60, .threads = MOST_THREADS, .registers = MOST_REGISTERS, .jobs = 1};
+struct options options = {.by_all = true, .start = 60, .threads = MOST_THREADS, .registers = MOST_REGISTERS, .jobs = 1};
 
 /* The words of the bench: its name, what was given, and a null. */
 static char **bench_words;
@@ -117,8 +117,6 @@ static void look_at(char **words)
         options.threads = (unsigned)number;
         is_given = true;
     }
-    if (strcmp(words[0], "--seed") == 0 && words[1])
-        options.seed = strtoull(words[1], NULL, 10);
     if (strcmp(words[0], "--registers") == 0 && number >= 1 && number <= MOST_REGISTERS)
         options.registers = (unsigned)number;
     if (strcmp(words[0], "--schedule") == 0 && words[1])
@@ -160,12 +158,11 @@ static char *name_of_run(void)
 bool tmwatch_bench_job(unsigned job, const tmwatch_plan *plan)
 {
     struct sigaction interrupt, end, usual = {.sa_handler = SIG_DFL};
-    options.seed = plan->seed;
     sigaction(SIGINT, &usual, &interrupt);
     sigaction(SIGTERM, &usual, &end);
     bool is_begun = begin_job(job);
     if (is_begun) {
-        begin_crashes();
+        begin_crashes(plan->seed);
         open_record();
         start_programs();
     }

@@ -109,6 +109,12 @@ build_libitm() {
     done
 }
 
+# Of a man page's section: each entry with its text.
+entries() {
+    awk -v section="$2" '/^\.S[SH] / { on = $0 == section } on && /^\.TP/ { getline; name = $0; getline; print name " " $0 }' "$1" |
+        sed 's/^\.[A-Z]* //; s/\\-/-/g; s/"//g; s/  */ /g'
+}
+
 # The processors that this script may use, as taskset lists them.
 processors() {
     taskset -cp $$ | sed 's/.*: //'

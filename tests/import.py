@@ -15,6 +15,7 @@ import json
 import os
 import random
 import runpy
+import signal
 import subprocess
 import sys
 from itertools import permutations, product
@@ -32,6 +33,7 @@ loader = importlib.util.spec_from_file_location("definitions", os.path.join(TEST
 loader.loader.exec_module(definitions := importlib.util.module_from_spec(loader))
 
 MOST, FOREVER = 5, 10**9
+LIMIT = 100  # the seconds after which a command is ended
 # Words of a line that say something else; and what may stand in place of a part of a line, and why the history is refused then.
 OTHERS = [":old-value []", ":old-type :fail", ":old-process 99"]
 SPOILT = {
@@ -152,6 +154,7 @@ def run_command(folder):
         with open(f"{folder}/status", "w", encoding="utf-8") as it:
             print(os.waitstatus_to_exitcode(os.waitpid(process, 0)[1]), file=it)
         return
+    signal.alarm(LIMIT)
     os.dup2(os.open(f"{folder}/input", os.O_RDONLY), 0)
     for number, file in (1, "output"), (2, "errors"):
         os.dup2(os.open(f"{folder}/{file}", os.O_CREAT | os.O_WRONLY), number)

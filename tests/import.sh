@@ -189,6 +189,9 @@ refused 'Jepsen, a tag without a form' 'line 1: } closes nothing: #t of line 1 i
 refused 'Jepsen, a key without a value' 'line 2: the map of line 1 has a key without a value' jepsen.py <<<$'{:type :ok, :process\n}'
 refused 'Jepsen, a key twice' 'line 2: the map of line 1 has a key twice' jepsen.py <<<$'{:type :ok, :type\n:fail}'
 refused 'Jepsen, a string without an end' 'line 2: a string has no end' jepsen.py <<<$'{:type :info, :process "b;"}\n{:a "b}\n{:c d}'
+refused 'Jepsen, a string without an end, a line of its own' 'line 2: a string has no end' jepsen.py <<<$'{:type :info, :process :b}\n"b'
+refused 'Jepsen, a string without an end, after one of two lines' 'line 3: a string has no end' jepsen.py <<<$'#_ "b\nc"\n"d'
+refused 'Jepsen, cut in a character' 'line 2: a string has no end' jepsen.py < <(printf '\n\\')
 refused 'Jepsen, an escape' 'line 1: a string has the escape \x' jepsen.py <<<'{:a "\x41"}'
 for token in 01 1.5.5 1x '##Nan'; do
     refused "Jepsen, the number $token" "line 1: $token is no number" jepsen.py <<<"{:a $token}"
@@ -223,6 +226,10 @@ END_OF_HISTORY
 judged 'intervals, an unknown one that begins after its reader' "$(violated 4 8)" intervals.py <<'END_OF_HISTORY'
 {"begin": 5, "result": "info", "calls": [["w", "x", 1]]}
 {"begin": 2, "end": 3, "result": "ok", "calls": [["r", "x", 1]]}
+END_OF_HISTORY
+judged 'intervals, an unknown one ends behind its reader, which finds what nobody writes' "$(violated 9 10)" intervals.py <<'END_OF_HISTORY'
+{"begin": 1, "result": "info", "calls": [["w", "x", 1]]}
+{"begin": 2, "end": 3, "result": "ok", "calls": [["r", "x", 1], ["r", "y", 5]]}
 END_OF_HISTORY
 # (it ends with its first reader: open until the last one, it would leave the run undecided)
 read_ten_times() {

@@ -111,8 +111,16 @@ if has python3 'a whole run, by the plain definitions'; then
     for criterion in opacity strict; do python3 "$top/tests/long/whole.py" $criterion <whole; done >lengths
     ends 'a whole run, by the plain definitions' 0 grep -Pzqx '[0-9]+\nnone\n' lengths
 fi
+runs 'a whole run with adds' 0 --one --schedule steps --threads 2 --registers 3 --rounds 20 --add --whole adds -- ./little one right
+for of in '1 8 whole' '2 3 0 0 0 adds'; do
+    ends "a whole run, ${of##* }: its header" 0 test "$(head -n 1 "${of##* }")" = "opacity-trace ${of% *}"
+    ends "a whole run, ${of##* }: its first call" 0 grep -qxa '[0-3] [RWN] .*' <(sed -n 2p "${of##* }")
+done
 runs 'a whole run that cannot be written' 4 --whole none/whole "${one[@]}" right
 says 'a whole run that cannot be written' "thread 0, between calls: none/whole can't be written: No such file or directory"
+long=none/$(printf '%0600d' 1)
+runs 'a file of a long name' 4 --whole "$long" "${one[@]}" right
+says 'a file of a long name' "thread 0, between calls: ${long:0:486}"
 
 # Locks of the store: a call that waits lets others go on.
 runs 'a store that locks' 0 --schedule steps --rounds 200 "${file[@]}" right
@@ -121,6 +129,10 @@ runs 'a store that locks, by time' 0 --schedule steps --rounds 50 --wait 5 "${fi
 prints 'a store that locks, by time' '"rescues":0,.*"waits":[1-9]'
 runs 'a store that is slow once' 0 --schedule steps --rounds 20 "${one[@]}" slow
 prints 'a store that is slow once' '"rescues":0,'
+for what in computes thread child; do
+    runs "a long call: $what" 0 --schedule steps --rounds 20 "${one[@]}" $what
+    ends "a long call: $what: it does not wait" 1 grep '"waits"' printed
+done
 WHEN=100 runs 'a store that locks, and ends' 4 --schedule steps --setup 'rm -f registers' -- ./little lock registers ends
 prints 'a store that locks, and ends' '"certain":false'
 
@@ -151,10 +163,24 @@ END
 runs 'setup and teardown' 0 --setup 'rm registers; echo up $TMWATCH_REGISTERS >order' --teardown 'echo down >>order' --one --rounds 1 -- ./environment all
 ends 'setup and teardown: their order' 0 diff order <(printf '%s\n' 'up 8' down)
 ends 'one program: its environment' 0 grep -qx 'TMWATCH_REGISTERS=8 TMWATCH_THREADS=8' all
+# (the last of two words counts; by all, threads are drawn)
+for number in 1 8; do
+    rm -f registers each
+    runs "$number threads and registers" 0 --schedule rounds --threads 5 --threads $number --registers 5 --registers $number --rounds 1 --one -- \
+        ./environment each
+    ends "$number threads and registers: their environment" 0 grep -qx "TMWATCH_REGISTERS=$number TMWATCH_THREADS=$number" each
+done
+for schedule in steps permits; do
+    rm -f registers each
+    runs "threads, $schedule" 0 --schedule all --schedule $schedule --rounds 1 --one -- ./environment each
+    ends "threads, $schedule: their environment" 0 grep -qx 'TMWATCH_REGISTERS=8 TMWATCH_THREADS=4' each
+done
 runs 'a setup that fails' 4 --setup 'exit 3' --teardown 'echo down >failed' "${one[@]}" right
 says 'a setup that fails' 'the setup has ended with status 3: exit 3'
 prints 'a setup that fails' '{"fault":"program"}'
 ends 'a setup that fails: the teardown' 0 grep -qx down failed
+runs 'a setup that is killed' 4 --setup 'kill -9 $$' "${one[@]}" right
+says 'a setup that is killed' 'the setup was ended by signal 9 (Killed): kill -9 $$'
 runs 'a teardown that fails' 0 --teardown 'exit 3' --rounds 1 "${one[@]}" right
 says 'a teardown that fails' 'the teardown has ended with status 3: exit 3'
 
@@ -180,6 +206,8 @@ fails negative 'thread 3, call "R 2": "3 V -1" is no answer to it: "3 V NUMBER" 
 fails control 'thread 3, call "R 2": "3 \x01" is no answer to it: "3 V NUMBER" is, or "3 A"' '{"fault":"program"}' "${one[@]}"
 fails long "thread 3, call \"R 2\": \"3 V 000000000000000000000000000000000000000000000000000000000000..\" is no answer; $ours" '{"fault":"program"}' \
     "${one[@]}"
+fails unended "thread 3, call \"R 2\": \"3 V 000000000000000000000000000000000000000000000000000000000000..\" is no answer; $ours" \
+    '{"fault":"program"}' "${one[@]}"
 fails empty 'thread 3, call "R 2": "3 V " is no answer to it: "3 V NUMBER" is, or "3 A"; no --setup has put 0 there' '{"fault":"program"}' \
     "${one[@]}"
 runs 'empty, after a setup' 4 --schedule steps --setup true "${one[@]}" empty
@@ -200,6 +228,7 @@ ends 'half_end: what is said' 0 grep -q '^thread [0-3], call "[RWT].*": the prog
 ends 'other: what is said' 0 grep -q \
     '^thread \([0-3]\), call "[RWT].*": ".*" is an answer of thread [1-4], whose calls another process gets$' other
 unset WHEN
+runs 'answers in pieces' 0 --schedule rounds --threads 8 --rounds 50 "${one[@]}" pieces
 runs 'lines that end as those of Windows' 0 --schedule steps --rounds 20 "${one[@]}" return
 runs 'registers that hold no 0' 1 --schedule steps "${one[@]}" first
 says 'registers that hold no 0' 'thread 0, call "R 0": "0 V 7" before anything was written: the setup has to leave 0'
@@ -227,7 +256,9 @@ if has python3 'stores in Python'; then
     runs 'SQLite, by Python'\''s defaults' 1 --schedule steps "${sqlite[@]}"
     prints 'SQLite, by Python'\''s defaults' '"certain":true'
     cat >failing.py <<'END'
-from tmwatch_store import Refused, Store, serve
+import sys
+
+from tmwatch_store import Refused, Store, serve, serve_all
 
 class Failing(Store):
     calls = 0
@@ -252,12 +283,132 @@ class Failing(Store):
     def abort(self):
         pass
 
-serve(Failing())
+serve(Failing()) if len(sys.argv) == 1 else serve_all([Failing() for _ in range(8)])
 END
-    runs 'a store in Python that fails' 4 --schedule steps -- python3 failing.py
-    says 'a store in Python that fails' 'OSError: the store fails'
-    ends 'a store in Python that fails: which call' 0 grep -q '^thread [0-3], call "R .": the program has ended with status 1$' said
-    says 'a store in Python that prints' 'the store prints'
+    for all in '' --one; do
+        runs "a store in Python that fails $all" 4 $all --schedule steps -- python3 failing.py $all
+        says "a store in Python that fails $all" 'OSError: the store fails'
+        ends "a store in Python that fails $all: which call" 0 grep -q '^thread [0-3], call "R .": the program has ended with status 1$' said
+        says "a store in Python that prints $all" 'the store prints'
+    done
+    # (of two calls that wait for a third thread's, another thread reads for one)
+    cat >locked.py <<'END'
+import threading
+
+from tmwatch_store import Store, serve_all
+
+lock, values = threading.Lock(), [0] * 8
+
+class Locked(Store):
+    def begin(self):
+        lock.acquire()
+        self.kept = values[:]
+
+    def read(self, register):
+        return self.kept[register]
+
+    def write(self, register, value):
+        self.kept[register] = value
+
+    def commit(self):
+        values[:] = self.kept
+        lock.release()
+
+    def abort(self):
+        lock.release()
+
+serve_all([Locked() for _ in range(8)])
+END
+    runs 'a store in Python that locks' 0 --one --schedule steps --rounds 50 -- python3 locked.py
+    prints 'a store in Python that locks' '"rescues":0,.*"waits":[1-9]'
+    ends 'a memory in Python ends by itself' 0 timeout 60 python3 "${memory[@]:3}" </dev/null
+    # What the stores ask of a database, by a driver that tells it (driver.py): all that a conversation comes to.
+    mkdir drivers
+    for name in sqlite3 psycopg2 pymysql; do cp "$top/tests/lines/driver.py" "drivers/$name.py"; done
+    printf '0 %s\n' X 'R 1' 'W 2 3' T X 'W 2 13' 'W 4 5' X >talk
+    # The row's name, the exit status, the code of the refusal, if there is one, and the store's words.
+    asks() {
+        ends "$1" "$2" env -u PYTHONUNBUFFERED ${3:+"ERROR=$3"} PYTHONPATH="drivers:$PYTHONPATH" python3 "$top/examples/python/$4" "${@:5}" <talk
+        cp output asked
+    }
+    has_asked() {
+        ends "$1: what it asks" 0 diff asked -
+    }
+    sqlite_calls='execute PRAGMA busy_timeout = 0
+rollback
+0 A
+execute BEGIN IMMEDIATE
+execute SELECT v FROM registers WHERE k = ? ['\''1'\'']
+0 V 7
+execute UPDATE registers SET v = ?2 WHERE k = ?1 ['\''2'\'', '\''3'\'']
+0 K
+commit
+0 C
+rollback
+0 A
+execute BEGIN IMMEDIATE
+execute UPDATE registers SET v = ?2 WHERE k = ?1 ['\''2'\'', '\''13'\'']
+rollback
+0 A
+execute BEGIN IMMEDIATE
+execute UPDATE registers SET v = ?2 WHERE k = ?1 ['\''4'\'', '\''5'\'']
+0 K
+rollback
+0 A'
+    asks 'SQLite, BEGIN' 0 1 sqlite.py file 'BEGIN IMMEDIATE'
+    has_asked 'SQLite, BEGIN' <<<$'connect file {}\nexecute PRAGMA synchronous = OFF\n'"$sqlite_calls"
+    SYNCHRONOUS=FULL asks 'SQLite, no BEGIN' 0 1 sqlite.py file
+    has_asked 'SQLite, no BEGIN' <<<$'connect file {}\nexecute PRAGMA synchronous = FULL\n'"${sqlite_calls//$'execute BEGIN IMMEDIATE\n'/}"
+    asks 'SQLite, setup' 0 1 sqlite.py setup file TRUNCATE
+    has_asked 'SQLite, setup' <<'END'
+connect file {}
+executescript PRAGMA journal_mode = TRUNCATE; DROP TABLE IF EXISTS registers; CREATE TABLE registers (k INTEGER PRIMARY KEY, v INTEGER)
+executemany INSERT INTO registers VALUES (?, 0) [(0,), (1,), (2,), (3,), (4,), (5,), (6,), (7,)]
+commit
+END
+    calls='0 A
+execute BEGIN ()
+execute SELECT v FROM registers WHERE k = %s (1,)
+0 V 7
+execute UPDATE registers SET v = %s WHERE k = %s (3, 2)
+0 K
+execute COMMIT ()
+0 C
+0 A
+execute BEGIN ()
+execute UPDATE registers SET v = %s WHERE k = %s (13, 2)
+execute ROLLBACK ()
+0 A
+execute BEGIN ()
+execute UPDATE registers SET v = %s WHERE k = %s (5, 4)
+0 K
+execute ROLLBACK ()
+0 A'
+    asks 'PostgreSQL' 0 40001 dbapi.py postgres dbname=test SERIALIZABLE
+    has_asked 'PostgreSQL' <<END
+connect dbname=test {'options': '-c lock_timeout=1ms'}
+autocommit = True
+cursor
+execute SET SESSION CHARACTERISTICS AS TRANSACTION ISOLATION LEVEL SERIALIZABLE ()
+$calls
+END
+    asks 'MariaDB' 0 1213 dbapi.py mariadb socket:user:base 'READ COMMITTED'
+    has_asked 'MariaDB' <<END
+connect {'unix_socket': 'socket', 'user': 'user', 'database': 'base', 'autocommit': True}
+cursor
+execute SET SESSION innodb_lock_wait_timeout = 0 ()
+execute SET SESSION TRANSACTION ISOLATION LEVEL READ COMMITTED ()
+$calls
+END
+    LOCKS=7s asks 'PostgreSQL, its locks' 0 40P01 dbapi.py postgres dbname=test SERIALIZABLE
+    ends 'PostgreSQL, its locks: how long' 0 grep -q lock_timeout=7s asked
+    LOCKS=7 asks 'MariaDB, its locks' 0 1205 dbapi.py mariadb socket:user:base SERIALIZABLE
+    ends 'MariaDB, its locks: how long' 0 grep -q 'lock_wait_timeout = 7 ' asked
+    asks 'PostgreSQL, a lock that is held' 0 55P03 dbapi.py postgres dbname=test SERIALIZABLE
+    asks 'MariaDB, a row that has changed' 0 1020 dbapi.py mariadb socket:user:base SERIALIZABLE
+    for code in '' 04000 55000; do asks "PostgreSQL, the error '$code'" 1 "$code" dbapi.py postgres dbname=test SERIALIZABLE; done
+    asks 'MariaDB, another error' 1 1062 dbapi.py mariadb socket:user:base SERIALIZABLE
+    ends 'MariaDB, another error: it is said' 0 grep -x 'pymysql.Error: 1062' asked
 fi
 
 # Jobs: a store each, whose setup, programs and teardown know its number; and a smaller run that shows a violation, in a store that is set up anew.
@@ -280,6 +431,9 @@ runs 'a wrong store by two jobs' 1 --jobs 2 --seconds 60 "${one[@]}" commit
 prints 'a wrong store by two jobs' '"certain":true'
 ends 'a program that fails in each job' 4 bench --jobs 2 --rounds 1000 -- false
 ends 'a program that fails in each job: one fault' 0 test "$(<printed)" = '{"fault":"program"}'
+rm -f each
+runs 'as many jobs as can be' 4 --jobs 64 --rounds 1000 --setup 'echo $TMWATCH_JOB >>each' -- false
+ends 'as many jobs as can be: the setup of each' 0 diff <(sort -n each) <(seq 0 63)
 for store in reads commit; do
     of=(--setup 'echo up >>each' --teardown 'echo down >>each' --trace small --one -- ./little one $store)
     rm -f each
@@ -294,10 +448,25 @@ for store in reads commit; do
     ends "a smaller run, $store: what was found first" 0 grep -q '^found first: --seed 1 --round [0-9]* --small$' small.said
     ends "a smaller run, $store: nothing is left" 0 is_clean
 done
+# The program of a try has ended before the store is set up for the next one, whatever it stays for.
+rm -f stayed pid
+runs 'a smaller run of a store that stays' 1 --smaller --setup '[ ! -e pid ] || for try in $(seq 50); do
+        [ -n "$(tr -d "\0" <"/proc/$(cat pid)/cmdline")" ] || break
+        [ $try -lt 50 ] || echo "$try looks" >stayed
+        sleep 0.1
+    done; rm -f pid' --one -- sh -c 'echo $$ >pid; trap "" TERM; ./little one commit; sleep 1000'
+ends 'a smaller run of a store that stays: none is left' 1 test -e stayed
 
 # Words.
 ends 'help' 0 ./tmwatch-bench --help
-has_told 'help: options of its own' '^  --setup  *COMMAND '
+mv output told
+ends 'help: what it says of all' 0 diff <(grep -v '^  --' told) - <<'END'
+usage: tmwatch-bench [OPTION].. -- PROGRAM [WORD]..
+Starts the program, has it make random transactions by lines, and judges whether they are opaque.
+Status: 0 opaque so far, 1 violated, 2 undecided, 3 malformed, 4 a fault
+END
+ends 'help: each option, as the man page has it' 0 diff <(sed -n 's/^  --/--/p' told | tr -s ' ') \
+    <(entries "$top/packaging/tmwatch-bench.1" '.SH OPTIONS' | sed 's/ ,/,/')
 ends 'help: options of the bench' 0 grep -q '^  --schedule  *WORD ' told
 ends 'help: none of memories in C' 1 grep -qE '^  --(event|orders|plain|races) |by --seconds alone' told
 runs 'no program' 4 --one
@@ -324,6 +493,12 @@ runs 'a fault' 4 --schedule steps --threads 2 --patience 1 "${stays[@]:0:5}" -- 
 left_by 'a fault'
 runs 'a violation' 1 --schedule steps --threads 2 "${stays[@]:0:5}" -- sh -c './little one first; sleep 1000'
 left_by 'a violation'
+# The teardown finds no program of the bench any more, of any thread and job.
+runs 'two jobs, and an end' 0 --jobs 2 --schedule steps --threads 3 --rounds 10 --setup 'rm -f registers$TMWATCH_JOB; echo up >up' \
+    --teardown 'for it in pid$TMWATCH_JOB?; do echo $it; ! kill -0 $(cat $it) || echo is left; done >>down' -- \
+    sh -c 'echo $$ >pid$TMWATCH_JOB$TMWATCH_THREAD; exec ./little lock registers$TMWATCH_JOB stays'
+ends 'two jobs, and an end: no program is left' 0 diff <(sort down) <(printf '%s\n' pid0{0..2} pid1{0..2})
+left_by 'two jobs, and an end'
 # A process of the bench that this one has started, if there is any. (`pgrep` isn't on each machine.)
 started_by() {
     local child

@@ -245,11 +245,6 @@ helped() {
     "$installed" ${1:+"$1"} --help | sed -n "/^$2:/,/^\$/s/^  *//p" | tr -d '<>' | tr -s ' '
 }
 
-# Of a man page's section: each entry with its text.
-entries() {
-    awk -v section="$2" '/^\.S[SH] / { on = $0 == section } on && /^\.TP/ { getline; name = $0; getline; print name " " $0 }' "$1" |
-        sed 's/^\.[A-Z]* //; s/\\-/-/g; s/"//g; s/  */ /g'
-}
 page=$folder/tmwatch.1
 awk '/^\.SS / { name = $2; getline; print name " " $0 }' "$page" >"$folder/commands"
 helped '' Commands >"$folder/wanted"

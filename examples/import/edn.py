@@ -53,7 +53,7 @@ def text_of(token):
         if not number:
             raise ValueError(f"{token[:80]} is no number")
         return number[1].lstrip("+").replace("-0", "0") if number[1] else token
-    if token in (":", "\\") or token[0] in "#@^`~'":
+    if token == ":" or token[0] in "#@^`~'":
         raise ValueError(f"{token[:80]} is no EDN")
     return token
 
@@ -96,7 +96,7 @@ def tokens_of(text):
         line = text[at:end]
         if SPECIAL.search(line):
             end = LINE.match(text, at).end()
-            if end < len(text) and text[end - 1] != "\n":
+            if end == at or end < len(text) and text[end - 1] != "\n":
                 raise Refused(f"line {number + text.count(chr(10), at, end)}: a string has no end")
             yield number, TOKEN.findall(text, at, end)
         else:

@@ -4,11 +4,14 @@ A little store by lines, with one client a process or all in one, and with somet
     little one WRONG          all threads in this process: registers that are read and validated by value
     little lock FILE WRONG    one thread; registers in a file, locked from a transaction's first call to its end
 
-WRONG: right; reads or commit, which don't validate; adds, which are refused; slow, an answer that takes long; first, registers that begin
-with 7; or what goes wrong at call WHEN (environment; 26), by the words below.
+WRONG: right; reads or commit, which don't validate; adds, which are refused; slow, an answer that takes long; computes, one that is computed
+for long, and child or thread, if another one computes it; pieces, of which one has the end of a line and the begin of the next; first,
+registers that begin with 7; or what goes wrong at call WHEN (environment; 26), by the words below.
 */
 #define _GNU_SOURCE
 #include <fcntl.h>
+#include <poll.h>
+#include <pthread.h>
 #include <signal.h>
 #include <stdbool.h>
 #include <stdint.h>
@@ -17,6 +20,8 @@ with 7; or what goes wrong at call WHEN (environment; 26), by the words below.
 #include <string.h>
 #include <sys/file.h>
 #include <sys/mman.h>
+#include <sys/wait.h>
+#include <time.h>
 #include <unistd.h>
 
 enum { THREADS = 8, REGISTERS = 8, LONG = 120000 /* microseconds */ };
@@ -112,7 +117,7 @@ static const char *text_of_wrong(const char *call, const char *answer)
                              {"kind", "%c K\n"},         {"huge", "%c V 18446744073709551616\n"},
                              {"negative", "%c V -1\n"},  {"long", "%c V 0000000000000000000000000000000000000000000000000000000000000000001\n"},
                              {"control", "%c \001\n"},   {"silent", ""},
-                             {"empty", "%c V \n"}};
+                             {"empty", "%c V \n"},       {"unended", "%c V 0000000000000000000000000000000000000000000000000000000000000000001"}};
     for (size_t i = 0; i < sizeof line / sizeof line[0]; i++)
         if (is_wrong(line[i][0])) {
             snprintf(text, sizeof text, line[i][1], call[0]);
@@ -123,6 +128,32 @@ static const char *text_of_wrong(const char *call, const char *answer)
     if (is_wrong("twice"))
         snprintf(text, sizeof text, "%s%s", answer, answer);
     return text[0] ? text : NULL;
+}
+
+/* Computes for three times as long. */
+static void *compute(void *unused)
+{
+    struct timespec began, time;
+    clock_gettime(CLOCK_MONOTONIC, &began);
+    do
+        clock_gettime(CLOCK_MONOTONIC, &time);
+    while ((time.tv_sec - began.tv_sec) * 1000000 + (time.tv_nsec - began.tv_nsec) / 1000 < 3 * LONG);
+    return unused;
+}
+
+/* Has another one compute, and sleeps until it has. */
+static void let_compute(void)
+{
+    pthread_t thread;
+    if (is_wrong("thread") && pthread_create(&thread, NULL, compute, NULL) == 0)
+        pthread_join(thread, NULL);
+    pid_t child = is_wrong("child") ? fork() : -1;
+    if (child == 0) {
+        compute(NULL);
+        _exit(0);
+    }
+    if (child > 0)
+        waitpid(child, NULL, 0);
 }
 
 /* Ends, or writes something else than the answer, or something more. */
@@ -138,6 +169,9 @@ static void go_wrong(const char *call, const char *answer)
         close(1), pause();
     if (is_wrong("slow"))
         usleep(LONG);
+    if (is_wrong("computes"))
+        compute(NULL);
+    let_compute();
     const char *text = text_of_wrong(call, answer);
     say(text ? text : answer);
     if (is_wrong("more"))
@@ -152,6 +186,26 @@ static void stay(void)
         setsid();
         for (;;)
             pause();
+    }
+}
+
+/* Keeps the end of each answer until the next one, or until no call has come for two milliseconds. */
+static void serve_in_pieces(void)
+{
+    char call[100], text[200] = "";
+    struct pollfd in = {0, POLLIN, 0};
+    setvbuf(stdin, NULL, _IONBF, 0);
+    for (size_t end = 0;; memmove(text, text + end, strlen(text + end) + 1)) {
+        if (text[0] && poll(&in, 1, 2) == 0) {
+            say(text);
+            text[0] = '\0';
+        }
+        if (!fgets(call, sizeof call, stdin))
+            return;
+        make_call(call, text + strlen(text));
+        end = strlen(text) - 3;
+        if (write(1, text, end) < 0)
+            _exit(5);
     }
 }
 
@@ -189,6 +243,9 @@ int main(int count, char **given)
         say("a store, version 1\n");
     if (is_wrong("unready"))
         pause();
-    serve(when ? atoi(when) : 26);
+    if (is_wrong("pieces"))
+        serve_in_pieces();
+    else
+        serve(when ? atoi(when) : 26);
     return 0;
 }

@@ -4,8 +4,9 @@
 #
 #   tests/long/planted.sh [GROUP]..
 #
-# The GROUPs are bench, jobs, steps, model, rust, ci, import and recorder, or all. A row fails if more than one mistake in ten survives in a file; survivors
-# and tables stand before it. The last line is 'N passed, M failed', and the exit status is 1 if a row failed.
+# The GROUPs are bench, jobs, steps, model, rust, ci, import, recorder, recorders, lines and stores, or all. A row fails if more than one
+# mistake in ten survives in a file; survivors and tables stand before it. The last line is 'N passed, M failed', and the exit status is 1
+# if a row failed.
 # Environment: BUILT (tests/common.sh), NUMBER (20, mistakes of each file), SEED (1), JOBS (2), THEN (a command for mistakes in the bench in
 # C that are not noticed else, as tests/c_steps.sh).
 set -eu
@@ -70,7 +71,7 @@ plant_model() {
         done'
 }
 plant_rust() {
-    local files=(sync/atomic sync/mutex bench retrying told watch) build='cd bindings/rust && cargo test --offline --locked'
+    local files=(sync/atomic sync/mutex bench ffi retrying told watch) build='cd bindings/rust && cargo test --offline --locked'
     files=("${files[@]/#/bindings/rust/src/}")
     planted rust --build "$build --no-run && cargo test --offline --locked --release --features steps --no-run" "${files[@]/%/.rs}" -- \
         sh -c "$build --release --features steps && cargo test --offline --locked"
@@ -91,7 +92,24 @@ plant_recorder() {
         "$OBJECT" | diff tests/c/recorded.lines - && ! "$OBJECT" more 2>said && grep -qx "recorder: no room for the event" said'
 }
 
-[ $# -gt 0 ] || set -- bench jobs steps model rust ci import recorder
+plant_recorders() {
+    # shellcheck disable=SC2016
+    planted recorders --build "${compile/c11/gnu11}"' -pthread -o "$OBJECT" examples/recorders/little.c &&
+        rustc --edition 2021 -O -o "$OBJECT.rs" examples/recorders/little.rs && cat "$OBJECT.rs" >>"$OBJECT"' \
+        examples/recorders/{little.c,little.rs,recorder.rs} -- env PROGRAM="$program" RUNS=1 ROUNDS=500 tests/long/recorders.sh
+}
+plant_lines() {
+    local files=(conversation crash failures main memory programs record supervisor waits)
+    files=("${files[@]/#/bench-lines/}")
+    # shellcheck disable=SC2016
+    planted lines --build "${compile/c11/gnu11}"' -pthread -o "$OBJECT" bench-lines/*.c "$BUILT/lib/libtmwatch_bench.a" "$BUILT/lib/libtmwatch.a"' \
+        "${files[@]/%/.c}" -- env KILLS=3 tests/lines.sh
+}
+plant_stores() {
+    planted stores examples/python/{dbapi,memory,sqlite,tmwatch_store}.py -- env KILLS=1 tests/lines.sh
+}
+
+[ $# -gt 0 ] || set -- bench jobs steps model rust ci import recorder recorders lines stores
 for group; do
     "plant_$group"
 done

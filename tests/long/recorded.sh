@@ -2,7 +2,7 @@
 # What tests/long/recorders.sh and tests/long/libitm.sh have in common: rows of recorded runs that are judged. They read it, and set top, the
 # repository's folder, and runs and rounds, how many runs a row has and how many rounds a run.
 
-"$top/build"
+[ -x "$program" ] || "$top/build"
 judge=$program
 
 write_head() {

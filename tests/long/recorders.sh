@@ -30,6 +30,19 @@ by_thread() {
     tail -n +2 "$folder/whole" | sort -s -n -k 1,1
 }
 
+# What a run by these words is of: its head, and the threads, letters and registers of its events, which all have the words of a trace.
+parts_of() {
+    "$@" "$rounds" 1 >"$folder/trace"
+    head -n 1 "$folder/trace"
+    for words in '{ print $1 }' '{ print $2 }' '$2 ~ /[RW]/ { print $3 }'; do sed 1d "$folder/trace" | awk "$words" | sort -u | xargs; done
+    ! sed 1d "$folder/trace" | grep -vxE '[0-9] (R [0-9]|V [0-9]+|W [0-9] [0-9]+|[KTCXA])'
+}
+for words in 'little none right' 'little_rs none'; do
+    ends "$words: what its run is of" 0 diff <(parts_of "$folder"/$words) <(printf '%s\n' 'opacity-trace 1 3' '0 1 2 3' 'A C K R T V W X' '0 1 2')
+done
+for words in '2 little' '2 little none right 5' '2 little none left 5 1' '2 little no right 5 1' '101 little_rs none 5' '101 little_rs no 5 1'; do
+    ends "$words" "${words%% *}" "$folder"/${words#* }
+done
 write_head
 record 'C, correct' opaque opaque "$folder/little" none right
 record 'C, no validation of reads' violated opaque "$folder/little" reads right

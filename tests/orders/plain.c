@@ -196,6 +196,17 @@ static void check_atomic(void)
     hand_over(RELEASE, ACQUIRE);
     stores(1, (const void *)(uintptr_t)&words[Y], 8);
     CHECK(!orders->has_race);
+    for (unsigned other = 0; other < THREADS; other++) {
+        unsigned thread = (other + 1) % THREADS;
+        begin();
+        makes(other, WRITE, Y, 1, RELAXED);
+        loads(thread, (const void *)(uintptr_t)&words[Y], 8);
+        CHECK(is_race(thread, PLAIN_LOAD, other, ATOMIC_STORE));
+        begin();
+        stores(other, bytes, 8);
+        loads(thread, bytes, 8);
+        CHECK(is_race(thread, PLAIN_LOAD, other, PLAIN_STORE));
+    }
 }
 
 /* What is stored by code that isn't marked is what all load; so is what is stored plainly. */

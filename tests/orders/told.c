@@ -79,6 +79,7 @@ static void meets_all(void)
     event = FIRST;
     loads(4, READS_LATER, X, true);
     loads(4, MISSES, Y, false);
+    loads(4, READS_LATEST, Y, false);
     loads(1, READS_LATER, Y, true);
     loads(1, READS_LATEST, Z, true);
     loads(1, READS_LATER, Z, true);
@@ -132,12 +133,12 @@ static char *told(uint64_t from, uint64_t to)
     return text;
 }
 
-static char *told_place(enum mark mark)
+static char *told_place(const void *place)
 {
     char *text = NULL;
     size_t size;
     FILE *file = open_memstream(&text, &size);
-    print_place(file, places[mark]);
+    print_place(file, place);
     fclose(file);
     return text;
 }
@@ -193,6 +194,7 @@ int main(void)
     meets_all();
     CHECK(is_text(told(FIRST, LAST), "the orders of C++20 allow this, in this round before what went wrong:\n"
                                      "  stale load: thread 4 at %5 does not see the store of thread 0 at %1\n"
+                                     "  stale load: thread 4 at %4 does not see the store of thread 0 at %1\n"
                                      "  stale load: thread 1 at %5 does not see the store of thread 0 at %0 (and 1 like this)\n"
                                      "    though it has read, at %4, what that thread stored later, at %2\n"
                                      "  late store: thread 3 at %6 comes before the store of thread 0 at %1\n"
@@ -209,8 +211,9 @@ int main(void)
                   "code that the compiler has not marked, or a thread of the memory's own, stores to what is loaded at %7: what that orders is "
                   "not seen, so a violation may be false\n"
                   "a lock or a wait of code that the compiler has not marked, in %7: what that orders is not seen, so a violation may be false\n"));
-    CHECK(is_text(told_place(PASSED_IN_CXX), "%8") && is_text(told_place(PASSED_IN_RUST), "%9"));
-    CHECK(is_text(told_place(PASSED_ALONE), "atomic_base.h:2 (keep_passed)"));
+    CHECK(is_text(told_place(places[PASSED_IN_CXX]), "%8") && is_text(told_place(places[PASSED_IN_RUST]), "%9"));
+    CHECK(is_text(told_place(places[PASSED_ALONE]), "atomic_base.h:2 (keep_passed)"));
+    CHECK(is_text(told_place(NULL), "a place that is not known") && is_text(told_place(&(char){0}), "a place that is not known"));
     /* (each process that was asked for lines has been waited for) */
     CHECK(waitpid(-1, NULL, WNOHANG) < 0);
     free(orders);

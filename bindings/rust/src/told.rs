@@ -174,4 +174,31 @@ mod tests {
         assert_eq!(told(2, 3), Verdict::Undecided { at: 7, why: Why::Unseen });
         assert_eq!(told(3, 0), Verdict::Malformed { at: 7 });
     }
+
+    #[test]
+    fn each_status_says_what_it_is() {
+        let texts = [
+            "the watch has been closed",
+            "a handle is not empty",
+            "not 1 to 8 registers",
+            "a register that the memory doesn't have begins at another value than 0",
+            "a bound is out of its range",
+            "not 1 to 8 recorders, or not from as many cells to 4,096",
+            "the limit is below the number of recorders, or above 2^40",
+            "out of memory",
+            "the ring has no room",
+            "the watch's limit is reached",
+            "no such kind of event",
+            "no such register",
+            "a recorder of the watch is still alive",
+            "the watch was being closed",
+            "a memory's `run` has made an attempt's calls twice",
+            "what is to be a transaction's next call is none",
+            "a memory's `run` has returned true, but its attempt's `calls` has not",
+            "a transaction that ran alone was rolled back again and again",
+        ];
+        let numbers = (1..=17).chain([33]);
+        assert_eq!(numbers.map(|number| Status::check(number).unwrap_err().to_string()).collect::<Vec<_>>(), texts);
+        assert_eq!(Status::check(0), Ok(()));
+    }
 }
