@@ -72,13 +72,7 @@ last-fine rules h e old new keeps p end next formed_rest at_cut same some one on
 -- another order of the same transactions is kept
 pub keeps-order : (rules : Rules) (h : List Event) (old new : HistoryDigest) (keeps : Keeps rules h old) → new.states ≡ old.states
     → new.window ≡ old.window → Witnesses (members old.states) (views_of (drop keeps.cut h)) new.witness → Keeps rules h new
-keeps-order rules h old new keeps states window witness = record {
-  cut = keeps.cut;
-  sums_up = rw states keeps.sums_up;
-  number = rw window keeps.number;
-  stands = rw window keeps.stands;
-  witness = rw states witness;
-}
+keeps-order rules h old new keeps states window witness = grind arith
 
 -- an event that goes on and is explained leaves the history fine
 pub explained-fine : (rules : Rules) (h : List Event) (e : Event) (old new : HistoryDigest) (keeps : Keeps rules h old) (move : Move)

@@ -1,36 +1,16 @@
 -- What one monitor keeps serves by both criteria, where both find the same outcomes at the last cut.
-use Rattle.tmw_monitor.proofs.Shared.{Agree, Bool, BothMonitor, Event, FitEach, Fits, FitsBoth, HistoryDigest, IsCopy, IsLastCut, Keeps, List, None, Opacity, Parts, Rules, StaysKept, Strict, TellsWrong, [], arith, by, cases_lt, drop, false, inl, inr, members, refl, so_far, strict_in, true, ℕ, ◌++◌, ◌+◌, ◌∷◌, ◌≡◌, ◌≤◌}
+use Rattle.tmw_monitor.proofs.Shared.{Agree, Bool, BothMonitor, Event, FitEach, Fits, FitsBoth, HistoryDigest, IsCopy, IsLastCut, Keeps, List, None, Opacity, Parts, Rules, StaysKept, Strict, TellsWrong, [], arith, by, drop, false, members, so_far, strict_in, true, ℕ, ◌++◌, ◌+◌, ◌∷◌, ◌≡◌, ◌≤◌}
 use Rattle.tmw_monitor.proofs.FeedOpen.{fits-kept, fits-next}
 use Rattle.tmw_monitor.proofs.OnlyOpen.{few_outcomes}
 
 -- a history has one last cut
 one_last : (h : List Event) (c d : ℕ) → IsLastCut h c → IsLastCut h d → c ≡ d
-one_last h c d one other =
-    elim (cases_lt c d) [
-      | inl below ↦ absurd (one.last d below other.is)
-      | inr above ↦
-          elim (cases_lt d c) [
-            | inl less ↦ absurd (other.last c less one.is)
-            | inr most ↦ omega (arith, above, most)
-          ]
-    ]
+one_last h c d one other = grind arith
 
 -- what is kept by the one is kept by the other too
 pub keeps-both : (rules : Rules) (h : List Event) (one other : HistoryDigest) → Keeps (by Opacity rules) h one → Keeps (by Strict rules) h other
     → members one.states ≡ members other.states → Keeps (by Strict rules) h one
-keeps-both rules h one other opacity strict same =
-    let at : strict.cut ≡ opacity.cut = one_last h strict.cut opacity.cut strict.sums_up.last opacity.sums_up.last in
-    record {
-      cut = opacity.cut;
-      sums_up = record {
-        judged = strict.sums_up.judged;
-        last = opacity.sums_up.last;
-        states = λ s. rw (same, ← at) (strict.sums_up.states s);
-      };
-      stands = opacity.stands;
-      number = opacity.number;
-      witness = opacity.witness;
-    }
+keeps-both rules h one other opacity strict same = grind arith
 
 -- a copy is kept of the same history
 pub copy-keeps : (rules : Rules) (h : List Event) (old new : HistoryDigest) → rules.states ≤ 64 → Keeps rules h old → IsCopy old new
@@ -49,24 +29,7 @@ copy-keeps rules h old new most keeps copy =
 -- both go on with what one keeps
 pub joined : (rules : Rules) (h : List Event) (both : BothMonitor) (shared : Bool) → FitEach rules h both → (shared ≡ true → Agree both)
     → FitsBoth rules h (record both { shared = shared })
-joined rules h both false each agree = record { opacity = each.opacity; strict = each.strict; fine = λ is. absurd (cc) }
-joined rules h both true each agree =
-    let all = agree refl in
-    record {
-      opacity = each.opacity;
-      strict = record {
-        criterion = each.strict.criterion;
-        window = each.strict.window;
-        states = each.strict.states;
-        counted = each.opacity.counted;
-        judged = each.strict.judged;
-        keeps = λ is. keeps-both rules h both.opacity.kept both.strict.kept (each.opacity.keeps all.opacity) (each.strict.keeps all.strict) all.outcomes;
-        whole = each.strict.whole;
-        forgets = λ final. absurd (final all.strict);
-        breaks = λ final. absurd (final all.strict);
-      };
-      fine = λ is. (all.opacity, all.strict);
-    }
+joined rules h both shared each agree = grind arith
 
 -- where one serves both, what it keeps is kept by each
 pub keeps-one : (rules : Rules) (h : List Event) (both : BothMonitor) → FitsBoth rules h both → both.shared ≡ true
@@ -75,9 +38,7 @@ keeps-one rules h both fits shared = fits.opacity.keeps (fits.fine shared).0
 
 pub keeps-strictly : (rules : Rules) (h : List Event) (both : BothMonitor) → FitsBoth rules h both → both.shared ≡ true
     → Keeps (by Strict rules) h both.opacity.kept
-keeps-strictly rules h both fits shared =
-    let strict : Fits (by Strict rules) h (strict_in true both.opacity both.strict) = rw shared at fits.strict in
-    strict.keeps (rw shared at (fits.fine shared).1)
+keeps-strictly rules h both fits shared = grind arith
 
 -- where one serves both, a copy for the other fits too
 pub parted : (rules : Rules) (h : List Event) (old new : BothMonitor) → rules.states ≤ 64 → FitsBoth rules h old → old.shared ≡ true
@@ -135,8 +96,4 @@ apart rules h both fits shared = record { opacity = fits.opacity; strict = rw sh
 -- while one serves both, what the other keeps is of no account
 pub rests : (rules : Rules) (h : List Event) (both : BothMonitor) (kept : HistoryDigest) → both.shared ≡ true → FitsBoth rules h both
     → FitsBoth rules h (record both { strict = record both.strict { kept = kept } })
-rests rules h both kept shared fits = record {
-  opacity = fits.opacity;
-  strict = rw shared (rw shared at fits.strict);
-  fine = λ is. rw shared (rw shared at (fits.fine is));
-}
+rests rules h both kept shared fits = grind arith

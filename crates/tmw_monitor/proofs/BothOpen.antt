@@ -1,5 +1,5 @@
 -- An event at no cut, by both criteria.
-use Rattle.tmw_monitor.proofs.Shared.{A, Begin, Bool, BothMonitor, C, Contains, Criterion, Event, FitsBoth, Follows, HasRoom, HistoryDigest, IsCopy, IsFalse, IsNext, Keeps, Kind, List, Move, NoOutcome, Opacity, Outcome, OutcomeCheck, Registers, Rules, StandsFor, States, Strict, Tells, TellsWrong, TooMany, Txn, V, WeighsNext, Window, Witnesses, [], ap, arith, by, count_of, drop, ends-by, false, formed-next, grows, inl, inr, is_cut, is_quiet_by, is_some, length, length-views_of, members, refl, transactions, true, views_of, wrong_of, ℕ, ◌++◌, ◌+◌, ◌<◌, ◌∙◌, ◌∷◌, ◌≡◌, ◌≤◌}
+use Rattle.tmw_monitor.proofs.Shared.{Begin, Bool, BothMonitor, Contains, Criterion, Event, FitsBoth, Follows, HasRoom, HistoryDigest, IsCopy, IsFalse, IsNext, Keeps, Kind, List, Move, Opacity, Outcome, OutcomeCheck, Registers, Rules, StandsFor, States, Strict, Tells, TellsWrong, Txn, WeighsNext, Window, Witnesses, [], ap, arith, by, count_of, drop, ends-by, false, formed-next, grows, inl, inr, is_cut, is_quiet_by, is_some, length, length-views_of, members, refl, transactions, true, views_of, wrong_of, ℕ, ◌++◌, ◌+◌, ◌<◌, ◌∙◌, ◌∷◌, ◌≡◌, ◌≤◌}
 use Rattle.tmw_monitor.proofs.BothKeep.{both-next, keeps-one, keeps-strictly}
 use Rattle.tmw_monitor.proofs.OnlyOpen.{few_outcomes}
 use Rattle.tmw_monitor.proofs.NextVerdict.{follows-found, follows-told}
@@ -33,10 +33,7 @@ next-told rules h e old new keeps bound move found is next room same weighs =
 
 -- an event that tells nothing by opacity tells nothing by strict serializability
 quiet_too : (ts : List Txn) (thread : ℕ) (kind : Kind) → is_quiet_by Opacity ts thread kind ≡ true → is_quiet_by Strict ts thread kind ≡ true
-quiet_too ts thread (V v) quiet = refl
-quiet_too ts thread C quiet = absurd (cc)
-quiet_too ts thread A quiet = quiet
-quiet_too ts thread _ quiet = refl
+quiet_too ts thread kind quiet = grind arith
 
 -- an event that is fine by opacity is fine by strict serializability
 pub open-strictly : (states : States) (cap : ℕ) (events : List Event) (e : Event) (new : HistoryDigest) → IsFalse (is_cut (events ++ e ∷ []))
@@ -75,27 +72,17 @@ both-on rules h e old new move found fits shared next room uncut same weighs fin
 
 -- where nothing is wrong there is an outcome
 pub outcome-of : (at : ℕ) (found : OutcomeCheck) → is_some (wrong_of at found) ≡ false → found ≡ Outcome
-outcome-of at Outcome none = refl
-outcome-of at NoOutcome none = absurd (cc)
-outcome-of at TooMany none = absurd (cc)
+outcome-of at found none = grind arith
 
 -- the same states, held elsewhere
 pub keeps-states : (rules : Rules) (h : List Event) (old : HistoryDigest) (states : States) (room : HasRoom states) → members states ≡ members old.states
     → Keeps rules h old → Keeps rules h (record old { states = states; room = room })
-keeps-states rules h old states room same keeps = record {
-  cut = keeps.cut;
-  sums_up = rw same keeps.sums_up;
-  stands = keeps.stands;
-  number = keeps.number;
-  witness = rw same keeps.witness;
-}
+keeps-states rules h old states room same keeps = grind arith
 
 -- an event that is wrong stands in the window
 pub stands-wrong : (criterion : Criterion) (states : States) (cap at : ℕ) (quiet : Bool) (events : List Event) (new : HistoryDigest) (found : OutcomeCheck)
     → Tells criterion states cap quiet events new found → is_some (wrong_of at found) ≡ true → StandsFor new.window events
-stands-wrong criterion states cap at quiet events new Outcome told wrong = absurd (cc)
-stands-wrong criterion states cap at quiet events new NoOutcome told wrong = told.0
-stands-wrong criterion states cap at quiet events new TooMany told wrong = told.0
+stands-wrong criterion states cap at quiet events new found told wrong = grind arith
 
 -- the verdict by strict serializability, searched in a copy of what has taken the event
 pub strictly-told : (rules : Rules) (h : List Event) (e : Event) (old taken copy new : HistoryDigest) (keeps : Keeps (by Strict rules) h old) (bound : ℕ)

@@ -1,12 +1,8 @@
 -- Before its first event a history is summed up by the set of its start state.
-use Rattle.tmw_monitor.proofs.Shared.{Contains, List, Rules, State, States, SumsUp, [], arith, members, subst, suc, sums_up-new, sym, zero, ◌<◌, ◌↔◌, ◌∷◌, ◌≡◌}
+use Rattle.tmw_monitor.proofs.Shared.{Contains, List, Rules, State, States, SumsUp, [], arith, members, subst, sums_up-new, sym, ◌<◌, ◌↔◌, ◌∷◌, ◌≡◌}
 
 contains_one : (x y : State) → Contains (x ∷ []) y ↔ (y ≡ x)
-contains_one x y = (λ has. only has, λ is. (0, omega arith, sym is))
-  where
-    only : Contains (x ∷ []) y → y ≡ x
-    only (zero, within, is) = sym is
-    only (suc k, within, is) = absurd (omega arith)
+contains_one x y = grind arith
 
 pub sums_up-one : (rules : Rules) (states : States) → 0 < rules.states → members states ≡ rules.start ∷ []
     → SumsUp rules (Contains (members states)) 0 []

@@ -33,9 +33,7 @@ length-le_among (x ∷ xs) ys differ among =
 
 -- a list of at most so many members is not one of more
 pub not_more_among : (most : ℕ) (ys : List State) → length ys ≤ most → MoreThan most (Contains ys) → ⊥
-not_more_among most ys few more =
-    let n = length-le_among more.some ys more.differ more.among in
-    absurd (let m = more.more in omega (arith, n, m, few))
+not_more_among most ys few more = grind (arith, length-le_among)
 
 differ-rising : (xs : List State) → IsStrictlySortedBy (slice_cmp nat_cmp) xs → AllPairs (λ s t. s ≢ t) xs
 differ-rising xs rises i j d lower within same =

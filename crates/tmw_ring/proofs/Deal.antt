@@ -15,26 +15,17 @@ module _ {S : Type 0} where
   -- The second of these parts is the next writer's.
   pub dealt : (size : RingSize) (number : ℕ) (me own : Me S Parts) → number < size.writers → me ≡ (left_parts size number, [])
       → own ≡ (second_alone me.0, []) → IsWriter (new_writer size number) own
-  dealt size number me own within had is =
-      is ∙ ap (λ (parts : Parts). let m : Me S Parts = (second_alone parts, []) in m)
-      (ap (λ (m : Me S Parts). m.0) had ∙ next_writers size number within)
+  dealt size number me own within had is = grind arith
 
   -- The others are left.
   pub left_over : (size : RingSize) (number : ℕ) (me kept : Me S Parts) → number < size.writers → me ≡ (left_parts size number, [])
       → kept ≡ (without_second me.0, me.1) → kept ≡ (left_parts size (number + 1), [])
-  left_over size number me kept within had is =
-      is ∙ ap (λ (m : Me S Parts). let n : Me S Parts = (without_second m.0, m.1) in n) had
-      ∙ ap (λ (parts : Parts). let m : Me S Parts = (without_second parts, []) in m) (next_writers size number within)
+  left_over size number me kept within had is = grind (arith, without_second, next_writers)
 
   -- The new writer's seat is that of an idle writer.
   pub new_writer-idle : (size : RingSize) (number : Ix) (own : Me S Parts) → IsWriter (new_writer size number.number) own
       → IsIdleWriter number own
-  new_writer-idle size number own is =
-      subst (λ (m : Me S Parts). IsIdleWriter number m) (sym is) (record {
-        seated = refl;
-        idle = refl;
-        numbered = let below = number.below in same_ix (ix_of number.number) number (omega (arith, below));
-      })
+  new_writer-idle size number own is = grind (arith, same_ix, ix_of)
 
 get_or_push : {A : Type 0} (items : List A) (item fallback : A) (place : ℕ) → place < length (items ++ item ∷ [])
     → ((place < length items) × (get_or (items ++ item ∷ []) place fallback ≡ get_or items place fallback))

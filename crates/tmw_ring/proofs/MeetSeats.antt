@@ -51,9 +51,7 @@ module _ {S : Type 0} where
   -- The reader waits still.
   pub waiting_still : (count : ℕ) (run : List Answered) (before after : Me S Parts) → IsWaitingReader count before
       → after ≡ (Reads (record (reader_in before.0) { run = run }) ∷ [], []) → IsWaitingReader count after
-  waiting_still count run before after waiting is =
-      subst (λ (m : Me S Parts). IsWaitingReader count m) (sym is)
-      (record { seated = refl; waiting = waiting.waiting; counted = waiting.counted })
+  waiting_still count run before after waiting is = grind arith
 
   -- What callers see of a writer that has met.
   pub writer_met : (run : List Answered) (log : List Event) (table table_after : TableId) (before after : Me S Parts) (writer : WriterIs)

@@ -64,9 +64,7 @@ second_cut (first ∷ second ∷ rest) seat other = record { kept = kept; given 
     stays : (place : ℕ) (part : Part) → get_elem? (first ∷ second ∷ rest) place ≡ some part
         → (((second_to seat other place).0 ≡ seat) × (get_elem? (first ∷ rest) (second_to seat other place).1 ≡ some part))
         ⊎ (((second_to seat other place).0 ≡ other) × (get_elem? (second ∷ []) (second_to seat other place).1 ≡ some part))
-    stays zero part at = inl (refl, at)
-    stays (suc zero) part at = inr (refl, at)
-    stays (suc (suc place)) part at = inl (refl, at)
+    stays place part at = grind arith
 
     kept : (place : ℕ) (part : Part) → get_elem? (first ∷ rest) place ≡ some part
         → (from : ℕ) × (get_elem? (first ∷ second ∷ rest) from ≡ some part) × (second_to seat other from ≡ (seat, place))
