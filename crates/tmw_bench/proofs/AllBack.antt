@@ -50,8 +50,8 @@ module _ (ring : RingIs) (writers : List WriterIs) (workers : List Worker) (line
       let one = opened.each place (some_item writers place below) (some_item workers place (omega (arith, below, n2))) fallback below in
       (one.none_heard, one.none_led)
 
-module _ (gave : Call → Answer → Type 0) (ring : RingIs) (scripts : List (List (List Kind))) (rules : Rules) (bounds : List ℕ) (front : Front)
-    (writers : List WriterIs) (workers : List Worker) (lines lines_after : List Line) (backs : List Back)
+module _ {gave : Call → Answer → Type 0} {ring : RingIs} (scripts : List (List (List Kind))) {rules : Rules} {bounds : List ℕ} {front : Front}
+    {writers : List WriterIs} {workers : List Worker} {lines lines_after : List Line} (backs : List Back)
     (opened : AreOpened writers workers lines) (led : HasLedTo rules (length bounds + 1) bounds front lines lines_after)
     (writer_count : length writers ≡ length scripts) (back_count : length backs ≡ length writers)
     (on : (place : ℕ) (d : Back) → place < length writers

@@ -1,5 +1,5 @@
 -- A worker, from one round to the next, and to its end.
-use Rattle.tmw_bench.proofs.Shared.{Answer, Call, Consumer, HasMet, HasPlayedLast, HasPlayedOn, HasSeen, HasWorked, IsBetween, Kind, List, None, Option, Producer, Refused, RingIs, RoundEnd, SameConsumer, SameProducer, Worker, WriterIs, WriterOf, [], ap, arith, length, length_push, received, sent, subst, sym, ℕ, ◌++◌, ◌+◌, ◌∙◌, ◌∷◌, ◌≡◌, ◌≤◌}
+use Rattle.tmw_bench.proofs.Shared.{Answer, Call, Consumer, HasMet, HasPlayedLast, HasPlayedOn, HasSeen, HasWorked, IsBetween, IsSameWorker, Kind, List, None, Option, Producer, Refused, RingIs, RoundEnd, SameConsumer, SameProducer, Worker, WriterIs, WriterOf, [], ap, arith, length, length_push, received, sent, subst, sym, ℕ, ◌++◌, ◌+◌, ◌∙◌, ◌∷◌, ◌≡◌, ◌≤◌}
 use Rattle.tmw_bench.proofs.RoundPlaces.{ready-met, played_last-worked}
 use Rattle.tmw_ring.specs.Meet.{FindsTail}
 
@@ -15,6 +15,13 @@ module _ {T A P : Type 0} where
     (two.0.0 ∙ one.0.0, two.0.1 ∙ one.0.1, two.0.2 ∙ one.0.2, two.0.3 ∙ one.0.3),
     two.1 ∙ one.1,
   )
+
+same-then : (first old new : Worker) → IsSameWorker first old → IsSameWorker old new → IsSameWorker first new
+same-then first old new one two = record {
+  number = two.number ∙ one.number;
+  up = up-then first.up old.up new.up one.up two.up;
+  down = down-then first.down old.down new.down one.down two.down;
+}
 
 -- a writer that has found a tail has met there
 met-found : (tail : ℕ) (old new : WriterIs) → FindsTail tail old new → HasMet tail old new
@@ -64,11 +71,7 @@ module _ (gives : Call → Answer → Type 0) (ring : RingIs) (script : List (Li
       (played_last-worked gives script was.bounds old.writer None worked was.ready works_whole) met in
       record {
         of_ring = (met.table ∙ of_ring.0, met.sized ∙ of_ring.1);
-        same = record {
-          number = met.number ∙ number ∙ was.same.number;
-          up = up-then first.up old.up new.up was.same.up up;
-          down = down-then first.down old.down new.down was.same.down down;
-        };
+        same = same-then first old new was.same (record { number = met.number ∙ number; up = up; down = down });
         bounds = was.bounds;
         told = none_more ∙ was.told;
         earlier = sent old.up;
@@ -89,11 +92,7 @@ module _ (gives : Call → Answer → Type 0) (ring : RingIs) (script : List (Li
       let met = met-told tail bound worked found new.writer finds behind seen in
       record {
         of_ring = (met.table ∙ of_ring.0, met.sized ∙ of_ring.1);
-        same = record {
-          number = met.number ∙ number ∙ was.same.number;
-          up = up-then first.up old.up new.up was.same.up up;
-          down = down-then first.down old.down new.down was.same.down down;
-        };
+        same = same-then first old new was.same (record { number = met.number ∙ number; up = up; down = down });
         bounds = bound ∷ was.bounds;
         told = next ∙ ap (λ (l : List ℕ). l ++ bound ∷ []) was.told;
         counted = let all : length (sent new.up) ≡ length (sent old.up) + 1 = ap (λ (l : List RoundEnd). length l) told ∙ length_push (sent old.up) ended in

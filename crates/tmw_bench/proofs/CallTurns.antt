@@ -52,11 +52,6 @@ turn-taken asked call answer first second old mid new before after next called a
       goes_on-from (ends answer) before after next transaction same_call goes,
     )
 
--- The record of the call was refused.
-pub stops_in_turn-call : (asked : Asking) (left : Leaving) (NoneOpen : Type 0) (call : Kind) (refused : Refused) (before after : WriterIs) (tx : Tx)
-    → HasTried call before (Err refused) after → Leaves left NoneOpen tx → StopsInTurn asked left NoneOpen before.made after.made tx
-stops_in_turn-call asked left NoneOpen call refused before after tx tried leaves = inl (made-refused call before refused after tried, leaves)
-
 -- The call was recorded and made, and the record of its answer was refused.
 pub stops_in_turn-answer : (asked : Asking) (left : Leaving) (NoneOpen : Type 0) (call answer : Kind) (place : ℕ) (refused : Refused)
     (before middle after : WriterIs) (tx next : Tx) → HasTried call before (Ok place) middle → asked middle.made tx call answer next

@@ -7,8 +7,8 @@ use Rattle.tmw_bench.proofs.Starts.{Back, Handle}
 use Rattle.std.specs.declared.thread.Promise as Promise
 
 -- A worker for each writer was given to a thread, and the threads were joined.
-module _ {J : Type 0} (gave : Call → Answer → Type 0) (ring : RingIs) (scripts : List (List (List Kind))) (writers : List WriterIs)
-    (workers : List Worker) (lines : List Line) (handles : Vec (Handle J)) (backs : Vec Back) (ghosts : Promise.Ghosts (Playing J) Back)
+module _ {J : Type 0} (gave : Call → Answer → Type 0) {ring : RingIs} {scripts : List (List (List Kind))} {writers : List WriterIs}
+    {workers : List Worker} {lines : List Line} (handles : Vec (Handle J)) (backs : Vec Back) {ghosts : Promise.Ghosts (Playing J) Back}
     (opened : AreOpened writers workers lines) (started : length handles.items ≡ length workers)
     (promised : (place : ℕ) (fallback : Handle J) → place < length handles.items
     → IsPromised ring scripts workers place (get_or handles.items place fallback).promise.ring.now
@@ -37,7 +37,7 @@ module _ {J : Type 0} (gave : Call → Answer → Type 0) (ring : RingIs) (scrip
       one.handle.promise.before.value (get_or backs.items place d) d promise (kept one.handle (get_or backs.items place d) one.kept)
 
 -- The leader was lent the lines, and has led by them.
-module _ (rules : Rules) (rounds : ℕ) (front : Front) (lines : Vec Line) (lent after : List Line) (is : lent ≡ lines.items)
+module _ {rules : Rules} {rounds : ℕ} {front : Front} (lines : Vec Line) {lent after : List Line} (is : lent ≡ lines.items)
     (led : HasLed rules rounds front lent after) where
   pub led_to : HasLedTo rules (length led.bounds + 1) led.bounds front lines.items after
   led_to =

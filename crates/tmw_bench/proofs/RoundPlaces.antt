@@ -1,10 +1,6 @@
 -- What a writer has claimed in whole rounds, one round after another, and where writers meet in between.
 use Rattle.tmw_bench.proofs.Shared.{All, All-append, All-nil, Answer, Call, HasMet, HasPlayed, HasPlayedLast, HasWorked, IsReady, Kind, List, Made, None, Option, Refused, WriterIs, [], arith, last_bound, subst, sym, ℕ, ◌<◌, ◌∷◌, ◌≡◌}
 
--- a new writer is ready for the first round
-pub ready-new : (gives : Call → Answer → Type 0) (script : List (List Kind)) (writer : WriterIs) → writer.made ≡ [] → IsReady gives script [] writer
-ready-new gives script writer none_made = record { played = none_made; seen = omega arith }
-
 -- a ready writer's thread has carried its script out, to its end or up to where it was stopped
 pub played_last-worked : (gives : Call → Answer → Type 0) (script : List (List Kind)) (bounds : List ℕ) (old : WriterIs) (stop : Option Refused)
     (new : WriterIs) → IsReady gives script bounds old → HasWorked gives script old stop new

@@ -55,7 +55,7 @@ pub use Rattle.tmw_bench.specs.RoundMeeting.{HasMet, HasOnlySeen}
 pub use Rattle.tmw_bench.specs.Rounds.{AllOpaque, AreEndings, HasPlayed, HasPlayedLast, HaveAllPlayedLast, IsLogOfAll, IsReady, ending_of, last_bound}
 pub use Rattle.tmw_bench.specs.RoundsBegun.{HaveBegun, IsAfter, IsOver}
 pub use Rattle.tmw_bench.specs.Work.{EndsWork, FindsFrom, HasWorked, tail_of}
-pub use Rattle.tmw_bench.specs.Worker.{HasPlayedOn, HasSeen, IsBetween, in_order}
+pub use Rattle.tmw_bench.specs.Worker.{HasPlayedOn, HasSeen, IsBetween, IsSameWorker, in_order}
 pub use Rattle.tmw_bench.specs.WorkerConditions.{AreTransactions, GivesWithin, SomeStop}
 pub use Rattle.tmw_bench.specs.declared.line.Line.{Line}
 pub use Rattle.tmw_bench.specs.declared.round_end.RoundEnd.{RoundEnd}

@@ -7,7 +7,7 @@ ghost use Rattle.tmw_bench.specs.BenchKeep.{HasGoneOn};
 use crate::bench_keep::BenchKeep;
 use crate::orders::Orders;
 use crate::round_end::RoundEnd;
-use crate::waits::{tell_bound, wait};
+use crate::waits::{tell, wait};
 use rtrb::{Consumer, Producer};
 use std::alloc::AllocError;
 use std::sync::Wait;
@@ -99,6 +99,6 @@ pub fn tell_all<R: Wait>(rt: &R, lines: &mut [Line], bound: u64)
     ensures { HaveToldUpTo bound (length lines.old) lines.old lines.new }
 {
     for line in lines.iter_mut() {
-        tell_bound(rt, &mut line.down, bound);
+        tell(rt, &mut line.down, bound);
     }
 }

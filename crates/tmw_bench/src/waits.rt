@@ -5,7 +5,6 @@ ghost use Rattle.tmw_bench.specs.Worker.{HasSeen};
 
 use crate::orders::Orders;
 use crate::rising_count::Count;
-use crate::round_end::RoundEnd;
 use rtrb::{Consumer, Producer, PushError};
 use std::sync::Wait;
 use std::time::Duration;
@@ -101,33 +100,17 @@ pub fn see<R: Wait>(rt: &R, ring: &Ring, writer: &mut Writer, bound: u64)
     unreachable!()
 }
 
-/// Tells the leader that the round has ended.
-pub fn tell<R: Wait>(rt: &R, up: &mut Producer<RoundEnd>, ended: RoundEnd)
-    ensures ring { SameProducer up.old up.new }
-    ensures sent { sent up.new ≡ sent up.old ++ ended ∷ [] }
+/// Sends what it is told, once there is room for it.
+pub fn tell<R: Wait, T: Drop>(rt: &R, to: &mut Producer<T>, told: T)
+    ensures ring { SameProducer to.old to.new }
+    ensures sent { sent to.new ≡ sent to.old ++ told ∷ [] }
 {
-    let mut ended = ended;
+    let mut told = told;
     let mut look = 0u64;
     for _ in rt.forever() {
-        match up.push(ended) {
+        match to.push(told) {
             Ok(()) => return,
-            Err(PushError::Full(back)) => ended = back,
-        }
-        look = look.saturating_add(1);
-        pause(look);
-    }
-    unreachable!()
-}
-
-/// Tells a worker where the round has ended.
-pub fn tell_bound<R: Wait>(rt: &R, down: &mut Producer<u64>, bound: u64)
-    ensures ring { SameProducer down.old down.new }
-    ensures sent { sent down.new ≡ sent down.old ++ bound ∷ [] }
-{
-    let mut look = 0u64;
-    for _ in rt.forever() {
-        if let Ok(()) = down.push(bound) {
-            return;
+            Err(PushError::Full(back)) => told = back,
         }
         look = look.saturating_add(1);
         pause(look);

@@ -91,14 +91,18 @@ pub record WasReported (held : HeldWatch) (told : CVerdict) : Type 0 where
   pub headline : GivesHeadline (watch_front watch) (reader_of (watch_pump watch)).taken (judged_of (watch_front watch)) verdict
 
 -- what is told is of the watch that a handle holds
-pub record WasReportedHeld (old : Option HeldWatch) (told : CVerdict) : Type 0 where
+pub record WasShownHeld {T : Type 0} (WasShown : HeldWatch → T → Type 0) (old : Option HeldWatch) (told : T) : Type 0 where
   pub watch : HeldWatch
   pub held : old ≡ Some watch
-  pub reported : WasReported watch told
+  pub shown : WasShown watch told
 
--- Each status of a call to report. It changes nothing that the handle holds.
+-- Each status of a call that tells what is so of an open watch. It changes nothing that the handle holds.
+abbrev pub IsShowing : {T : Type 0} → (HeldWatch → T → Type 0) → (old new : Option HeldWatch) → (old_told new_told : T) → CallStatus → Type 0
+IsShowing WasShown old new old_told new_told Done = WasShownHeld WasShown old new_told × (new ≡ old)
+IsShowing WasShown old new old_told new_told NoHandle = (old ≡ None) × (new ≡ None) × (new_told ≡ old_told)
+IsShowing WasShown old new old_told new_told Closing = HoldsNotOpen old × (new ≡ old) × (new_told ≡ old_told)
+IsShowing WasShown old new old_told new_told _ = ⊥
+
+-- each status of a call to report
 abbrev pub IsReporting : (old new : Option HeldWatch) → (old_told new_told : CVerdict) → CallStatus → Type 0
-IsReporting old new old_told new_told Done = WasReportedHeld old new_told × (new ≡ old)
-IsReporting old new old_told new_told NoHandle = (old ≡ None) × (new ≡ None) × (new_told ≡ old_told)
-IsReporting old new old_told new_told Closing = HoldsNotOpen old × (new ≡ old) × (new_told ≡ old_told)
-IsReporting old new old_told new_told _ = ⊥
+IsReporting old new old_told new_told status = IsShowing WasReported old new old_told new_told status

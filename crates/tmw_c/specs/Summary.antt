@@ -1,10 +1,9 @@
 -- How a call to tell what was shown is answered.
 use Rattle.tmw_c.specs.Shared.{HeldWatch, Open, Watch, front_part, watch_front}
-use Rattle.std.specs.Prelude.{◌≡◌, ℕ, Bool, true, false, Option, Some, None}
-use Rattle.tmw_c.specs.Judge.{HoldsNotOpen}
+use Rattle.std.specs.Prelude.{◌≡◌, ℕ, Bool, true, false, Option}
+use Rattle.tmw_c.specs.Judge.{IsShowing}
 use Rattle.tmw_c.specs.declared.c_counts.CCounts.{CCounts}
 use Rattle.tmw_c.specs.declared.call_status.CallStatus.{CallStatus}
-use Rattle.tmw_c.specs.declared.call_status.CallStatus.TheVariants.{Done, NoHandle, Closing}
 use Rattle.tmw_counts.specs.Summary.{IsSummary}
 use Rattle.tmw_counts.specs.declared.summary.Summary.{Summary}
 
@@ -33,15 +32,6 @@ pub record WasSummed (held : HeldWatch) (told : CCounts) : Type 0 where
   pub is_told : IsCounted summary told
   pub shown : IsSummary (front_part (watch_front watch)) summary
 
--- what is told is of the watch that a handle holds
-pub record WasSummedHeld (old : Option HeldWatch) (told : CCounts) : Type 0 where
-  pub watch : HeldWatch
-  pub held : old ≡ Some watch
-  pub summed : WasSummed watch told
-
--- Each status of a call to tell what was shown, as of a call to report. It changes nothing that the handle holds.
+-- each status of a call to tell what was shown
 abbrev pub IsSumming : (old new : Option HeldWatch) → (old_told new_told : CCounts) → CallStatus → Type 0
-IsSumming old new old_told new_told Done = WasSummedHeld old new_told × (new ≡ old)
-IsSumming old new old_told new_told NoHandle = (old ≡ None) × (new ≡ None) × (new_told ≡ old_told)
-IsSumming old new old_told new_told Closing = HoldsNotOpen old × (new ≡ old) × (new_told ≡ old_told)
-IsSumming old new old_told new_told _ = ⊥
+IsSumming old new old_told new_told status = IsShowing WasSummed old new old_told new_told status

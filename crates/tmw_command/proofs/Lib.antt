@@ -1,6 +1,5 @@
 mod BenchAnswers
 mod DriveAnswers
 mod EndsLines
-mod Remarks
 mod Shared
 mod Zeros

@@ -6,7 +6,8 @@ use Rattle.tmw_wellformed.specs.declared.note.Note.{Note}
 use Rattle.tmw_wellformed.specs.declared.tracker.Tracker.{Tracker}
 use Rattle.tmw_wellformed.specs.Tracker.{Tracks}
 use Rattle.tmw_wellformed.proofs.TrackerSteps.{is_well_formed-push}
-use Rattle.tmw_counts.proofs.Outcomes.{aborted-add, committed-add, unasked-add}
+use Rattle.tmw_counts.proofs.Outcomes.{aborted-after, committed-after, ended-add, not_aborted, not_committed, unasked-add}
+use Rattle.tmw_counts.specs.Counter.{held}
 use Rattle.tmw_counts.proofs.Overlaps.{apart-begins, apart-ends, apart-grows, apart-none, begins-add, grows-add, is_apart, old-all, overlapping-begins, overlapping-grows}
 use Rattle.tmw_counts.proofs.Sums.{count-cons, count-length, one_if-le}
 use Rattle.tmw_counts.proofs.Windows.{cuts-push, last-cut, last-uncut, widest-open, widest-push}
@@ -172,6 +173,16 @@ meets-push registers h e note others asked apart live taken was =
           (meets-begins registers h e note others asked apart live taken was none)
     ]
 
+-- a count of transactions by how they end, after an event that may end one
+ended-more : (p : Txn → Bool) (goes : Option End → Bool) (h : List Event) (e : Event) (note : Note) {new old : ℕ}
+    → new ≡ held (old + one_if (goes note.ends)) → old ≡ count_by p (transactions h) → note.ends ≡ end_of e.kind → length h < 2 ^ 64 - 1
+    → count_by p (add_event (length h) e (transactions h)) ≡ count_by p (transactions h) + one_if (goes (end_of e.kind))
+    → new ≡ count_by p (transactions (h ++ e ∷ []))
+ended-more p goes h e note step was ended low more =
+    let now = ap (count_by p) (transactions-push h e) ∙ more in
+    let same = ap (λ (o : Option End). one_if (goes o)) ended in
+    omega (arith, step, was, now, same, count-length p (transactions h), transactions-few h, low, one_if-le (goes note.ends))
+
 -- the counts of the history with the event
 counted-push : (registers : ℕ) (h : List Event) (e : Event) (note : Note) (others asked : Bool) (live : ℕ) (old : Counter) (counts : Counts)
     → length h < 2 ^ 64 - 1 → CountsSo registers h old → Taken registers h e note others asked live
@@ -181,7 +192,6 @@ counted-push registers h e note others asked live old counts low so taken step =
     let was = so.counts in
     let same = transactions-push h e in
     let few = transactions-few h in
-    let ended = taken.notes.ends in
     let grown = ap length same in
     let counted = length-add (length h) e ts in
     let begins = ap one_if (begins_is h e note taken.notes) in
@@ -190,50 +200,18 @@ counted-push registers h e note others asked live old counts low so taken step =
     omega (arith, step.all, was.all, grown, counted, begins, flip, few, low) in
     record {
       all = all;
-      committed =
-          let more = ap (count_by (λ (t : Txn). is_committed (status_of t.text))) same ∙ committed-add (length h) e ts in
-          omega (
-            arith,
-            step.committed,
-            was.committed,
-            more,
-            ap (λ (o : Option End). one_if (commits o)) ended,
-            count-length (λ (t : Txn). is_committed (status_of t.text)) ts,
-            few,
-            low,
-            one_if-le (commits note.ends),
-          );
-      aborted =
-          let more = ap (count_by (λ (t : Txn). is_aborted (status_of t.text))) same ∙ aborted-add (length h) e ts in
-          omega (
-            arith,
-            step.aborted,
-            was.aborted,
-            more,
-            ap (λ (o : Option End). one_if (aborts o)) ended,
-            count-length (λ (t : Txn). is_aborted (status_of t.text)) ts,
-            few,
-            low,
-            one_if-le (aborts note.ends),
-          );
+      committed = ended-more (λ (t : Txn). is_committed (status_of t.text)) commits h e note step.committed was.committed taken.notes.ends low
+          (ended-add is_committed commits not_committed committed-after refl (length h) e ts);
+      aborted = ended-more (λ (t : Txn). is_aborted (status_of t.text)) aborts h e note step.aborted was.aborted taken.notes.ends low
+          (ended-add is_aborted aborts not_aborted aborted-after refl (length h) e ts);
       live = step.live_now ∙ taken.count;
       unasked =
           let text = pending-text e.thread.number h in
           let on = goes registers h e taken.before taken.formed in
-          let more = ap (count_by (λ (t : Txn). is_unasked t.text)) same ∙ unasked-add (length h) e ts asked
+          ended-more (λ (t : Txn). is_unasked t.text) (λ (o : Option End). aborts o && not asked) h e note step.unasked was.unasked taken.notes.ends low
+          (unasked-add (length h) e ts asked
           (λ aborted. subst (λ (p : Option Kind). is_some p ≡ true) text (answers_call registers (pending_call e.thread.number h) e.kind on aborted))
-          (λ holds. sym text ∙ taken.asks.0 holds, λ is. taken.asks.1 (text ∙ is)) in
-          omega (
-            arith,
-            step.unasked,
-            was.unasked,
-            more,
-            ap (λ (o : Option End). one_if (aborts o && not asked)) ended,
-            count-length (λ (t : Txn). is_unasked t.text) ts,
-            few,
-            low,
-            one_if-le (aborts note.ends && not asked),
-          );
+          (λ holds. sym text ∙ taken.asks.0 holds, λ is. taken.asks.1 (text ∙ is)));
       overlapping =
           let more = (meets-push registers h e note others asked old.apart live taken so.apart).overlapping in
           let most = count-length (overlaps_any (transactions (h ++ e ∷ []))) (transactions (h ++ e ∷ [])) in
@@ -258,7 +236,7 @@ counted-push registers h e note others asked live old counts low so taken step =
     }
 
 -- the counter has taken the event
-pub counts-push : (registers : ℕ) (h : List Event) (e : Event) (note : Note) (others asked : Bool) (live : ℕ) (old new : Counter) (tracker : Tracker)
+counts-push : (registers : ℕ) (h : List Event) (e : Event) (note : Note) (others asked : Bool) (live : ℕ) (old new : Counter) (tracker : Tracker)
     (threads : Threads) → length h < 2 ^ 64 - 1 → CountsSo registers h old → Tracks registers (h ++ e ∷ []) tracker → HasThreads (h ++ e ∷ []) threads
     → Taken registers h e note others asked live → IsStep note others asked live (record old { tracker = tracker; threads = threads }) new
     → CountsSo registers (h ++ e ∷ []) new
@@ -306,7 +284,7 @@ counts-push registers h e note others asked live old new tracker threads low so 
     }
 
 -- so much is known of one, by how many transactions were live before it
-pub taken-of : (registers : ℕ) (h : List Event) (e : Event) (note : Note) (asked : Bool) (before live : ℕ) (old new : Tracker)
+taken-of : (registers : ℕ) (h : List Event) (e : Event) (note : Note) (asked : Bool) (before live : ℕ) (old new : Tracker)
     → Tracks registers h old → Tracks registers (h ++ e ∷ []) new → Notes h e note → before ≡ live_count h
     → (IsTrue asked ↔ (pending_call e.thread.number h ≡ Some X)) → live ≡ live_count (h ++ e ∷ [])
     → ((live ≡ 0) ↔ IsTrue (is_cut (h ++ e ∷ []))) → Taken registers h e note (nat_lt 0 before) asked live
@@ -414,3 +392,22 @@ module _ {registers : ℕ} {h : List Event} {e : Event} {note : Note} {others as
   step-ends old new end is ended step =
       subst (λ (b : Bool). IsStep (record { begins = b; ends = note.ends }) others asked live old new) (sym is)
       (subst (λ (o : Option End). IsStep (record { begins = false; ends = o }) others asked live old new) (sym ended) step)
+
+-- the counter has taken an event that the tracker has
+pub takes-event : (registers : ℕ) (h : List Event) (e : Event) (note : Note) (asked : Bool) (before live : ℕ) (old new : Counter) (tracker : Tracker)
+    (threads : Threads) → length h < 2 ^ 64 - 1 → CountsSo registers h old
+    → ((registers : ℕ) (h : List Event) → Tracks registers h old.tracker → Tracks registers (h ++ e ∷ []) tracker)
+    → ((registers : ℕ) (h : List Event) → Tracks registers h old.tracker → Notes h e note)
+    → ((registers : ℕ) (h : List Event) → Tracks registers h old.tracker → before ≡ live_count h)
+    → ((registers : ℕ) (h : List Event) → Tracks registers h old.tracker → IsTrue asked ↔ (pending_call e.thread.number h ≡ Some X))
+    → ((registers : ℕ) (h : List Event) → Tracks registers h tracker → live ≡ live_count h)
+    → ((registers : ℕ) (h : List Event) → Tracks registers h tracker → (live ≡ 0) ↔ IsTrue (is_cut h))
+    → (Taken registers h e note (nat_lt 0 before) asked live → HasThreads (h ++ e ∷ []) threads)
+    → (Taken registers h e note (nat_lt 0 before) asked live
+    → IsStep note (nat_lt 0 before) asked live (record old { tracker = tracker; threads = threads }) new) → CountsSo registers (h ++ e ∷ []) new
+takes-event registers h e note asked before live old new tracker threads low so takes notes others asks count none of_threads step =
+    let was = so.tracks in
+    let now = takes registers h was in
+    let taken = taken-of registers h e note asked before live old.tracker tracker was now (notes registers h was) (others registers h was)
+    (asks registers h was) (count registers (h ++ e ∷ []) now) (none registers (h ++ e ∷ []) now) in
+    counts-push registers h e note _ asked live old new tracker threads low so now (of_threads taken) taken (step taken)

@@ -2,10 +2,11 @@
 use Rattle.tmw_counts.proofs.Shared.{Bool, Event, IsTrue, Kind, List, None, Option, Some, Txn, X, [], aborts, add_event, add_event_here, add_event_past, ap, arith, call_of, cases_Bool, commits, count_by, end_of, false, inl, inr, is_aborted, is_committed, is_ended, is_over, is_request, is_some, is_unasked, joins, length, length-append, live_of, longer, not, one_if, refl, slice_get, status_after, status_of, suc, sym, text_of, true, zero, ℕ, ◌&&◌, ◌++◌, ◌+◌, ◌-◌, ◌↔◌, ◌∙◌, ◌∷◌, ◌≡◌, ◌≤◌}
 use Rattle.tmw_defs.proofs.QuietTexts.{status_of-push}
 use Rattle.tmw_defs.specs.declared.status.Status.{Status}
+use Rattle.tmw_wellformed.specs.declared.note.End.{End}
 use Rattle.tmw_counts.proofs.Sums.{count-cons}
 
 -- the text with the event counts in place of the live one's
-pub count_text-add : (p : List Kind → Bool) → p [] ≡ false → (place : ℕ) (e : Event) (ts : List Txn)
+count_text-add : (p : List Kind → Bool) → p [] ≡ false → (place : ℕ) (e : Event) (ts : List Txn)
     → count_by (λ t. p t.text) (add_event place e ts) + one_if (p (text_of (live_of e.thread.number ts)))
     ≡ count_by (λ t. p t.text) ts + one_if (p (text_of (live_of e.thread.number ts) ++ e.kind ∷ []))
 count_text-add p empty place e [] = grind arith
@@ -32,34 +33,27 @@ committed-after k = grind arith
 pub aborted-after : (k : Kind) → is_aborted (status_after (Some k)) ≡ aborts (end_of k)
 aborted-after k = grind arith
 
-not_committed : (s : Status) → is_over s ≡ false → is_committed s ≡ false
+pub not_committed : (s : Status) → is_over s ≡ false → is_committed s ≡ false
 not_committed s lasts = grind arith
 
-not_aborted : (s : Status) → is_over s ≡ false → is_aborted s ≡ false
+pub not_aborted : (s : Status) → is_over s ≡ false → is_aborted s ≡ false
 not_aborted s lasts = grind arith
 
 -- a thread's live transaction has not ended
-pub text_of_live : (thread : ℕ) (ts : List Txn) → is_ended (text_of (live_of thread ts)) ≡ false
+text_of_live : (thread : ℕ) (ts : List Txn) → is_ended (text_of (live_of thread ts)) ≡ false
 text_of_live thread [] = refl
 text_of_live thread (t ∷ ts) = grind (arith, (text_of_live thread ts))
 
-pub committed-add : (place : ℕ) (e : Event) (ts : List Txn)
-    → count_by (λ t. is_committed (status_of t.text)) (add_event place e ts)
-    ≡ count_by (λ t. is_committed (status_of t.text)) ts + one_if (commits (end_of e.kind))
-committed-add place e ts =
+-- how many have ended in one way
+pub ended-add : (is : Status → Bool) (goes : Option End → Bool) → ((s : Status) → is_over s ≡ false → is s ≡ false)
+    → ((k : Kind) → is (status_after (Some k)) ≡ goes (end_of k)) → is (status_of []) ≡ false → (place : ℕ) (e : Event) (ts : List Txn)
+    → count_by (λ t. is (status_of t.text)) (add_event place e ts)
+    ≡ count_by (λ t. is (status_of t.text)) ts + one_if (goes (end_of e.kind))
+ended-add is goes not_yet after empty place e ts =
     let text = text_of (live_of e.thread.number ts) in
-    let old = ap one_if (not_committed (status_of text) (text_of_live e.thread.number ts)) in
-    let new = ap one_if (ap is_committed (status_of-push text e.kind) ∙ committed-after e.kind) in
-    let all = count_text-add (λ ks. is_committed (status_of ks)) refl place e ts in grind arith
-
-pub aborted-add : (place : ℕ) (e : Event) (ts : List Txn)
-    → count_by (λ t. is_aborted (status_of t.text)) (add_event place e ts)
-    ≡ count_by (λ t. is_aborted (status_of t.text)) ts + one_if (aborts (end_of e.kind))
-aborted-add place e ts =
-    let text = text_of (live_of e.thread.number ts) in
-    let old = ap one_if (not_aborted (status_of text) (text_of_live e.thread.number ts)) in
-    let new = ap one_if (ap is_aborted (status_of-push text e.kind) ∙ aborted-after e.kind) in
-    let all = count_text-add (λ ks. is_aborted (status_of ks)) refl place e ts in grind arith
+    let old = ap one_if (not_yet (status_of text) (text_of_live e.thread.number ts)) in
+    let new = ap one_if (ap is (status_of-push text e.kind) ∙ after e.kind) in
+    let all = count_text-add (λ ks. is (status_of ks)) empty place e ts in grind arith
 
 -- the pending call is the text's last event
 last_call : (text : List Kind) (c : Kind) → call_of text ≡ Some c → slice_get text (length text - 1) ≡ Some c

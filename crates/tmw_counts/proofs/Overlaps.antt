@@ -189,9 +189,6 @@ pub begins-add : (place : ℕ) (e : Event) (ts : List Txn) → AllByRecursion (I
 begins-add place e [] all = refl
 begins-add place e (t ∷ ts) all = add_event_past place e t ts all.0.past ∙ ap (λ (us : List Txn). t ∷ us) (begins-add place e ts all.1)
 
-not_and_true : (b : Bool) → (not (b && true) && true) ≡ not b
-not_and_true b = grind arith
-
 not_and_true2 : (b : Bool) → not (b && true) ≡ not b
 not_and_true2 b = grind arith
 

@@ -25,12 +25,6 @@ pub numbered-read : (gives : Call → Answer → Type 0) (scripts : List (List (
     → player.thread.number ≡ place
 numbered-read gives scripts players log place player all low is = grind arith
 
-pub plays-read : (gives : Call → Answer → Type 0) (scripts : List (List (List Kind))) (players : List Player) (log : List Event)
-    (place : ℕ) (player : Player) → AllPlay gives scripts players log → place < length players → player ≡ get_or players place player
-    → Plays gives (script_at scripts place) player (kinds_of player.thread.number log)
-plays-read gives scripts players log place player all low is =
-    grind (arith, script_at, kinds_of, numbered-read)
-
 -- the player of one thread has done an entry
 pub all_play-entry : (gives : Call → Answer → Type 0) (scripts : List (List (List Kind))) (players : List Player) (before after : List Event)
     (place : ℕ) (old new : Player) → AllPlay gives scripts players before → place < length players

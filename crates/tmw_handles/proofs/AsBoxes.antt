@@ -10,7 +10,6 @@ use Rattle.std_alloc.proofs.ResultValues.{and_tt}
 use Rattle.std.specs.Prelude.{Option, None, Some, IsSome}
 use denote.Param.Laws.{Laws}
 use denote.RattleType.{RattleType}
-use denote.Signature.{Slot, plain}
 use Rattle.std_alloc.proofs.BoxSteps.Form.{Bx, box_ty}
 use Rattle.std_heap.specs.contracts.Global as Heap
 use Rattle.std_heap.specs.contracts.GlobalAllocator.TheImpl.{ghosts, dict}
@@ -19,9 +18,6 @@ use Rattle.tmw_handles.specs.contracts.held_recorder.HeldRecorder as HeldRecorde
 use Rattle.tmw_handles.proofs.held_recorder.HeldRecorder.TheLaws as held_recorder
 use Rattle.tmw_handles.specs.contracts.held_watch.HeldWatch as HeldWatch
 use Rattle.tmw_handles.proofs.held_watch.HeldWatch.TheLaws as held_watch
-use Rattle.tmw_handles.specs.contracts.box_parts.Parts as Parts
-use Rattle.tmw_handles.specs.contracts.recorder_slot.RecorderSlot as RecorderSlot
-use Rattle.tmw_handles.specs.contracts.watch_slot.WatchSlot as WatchSlot
 
 -- a box of the heap, of this type
 abbrev pub heap_box : (row : RattleType) → Laws row → Bx
@@ -32,18 +28,6 @@ recorder_box = heap_box HeldRecorder.the_row held_recorder.the_row_laws
 
 abbrev pub watch_box : Bx
 watch_box = heap_box HeldWatch.the_row held_watch.the_row_laws
-
-abbrev pub recorder_parts : Slot 0
-recorder_parts = plain (λ _. Parts.the_row HeldRecorder.the_row Heap.the_row ghosts)
-
-abbrev pub watch_parts : Slot 0
-watch_parts = plain (λ _. Parts.the_row HeldWatch.the_row Heap.the_row ghosts)
-
-abbrev pub recorder_slot : Slot 0
-recorder_slot = plain (λ _. RecorderSlot.the_row)
-
-abbrev pub watch_slot : Slot 0
-watch_slot = plain (λ _. WatchSlot.the_row)
 
 pub none_is_some : {A : Type 0} (held : Option A) → held ≡ None → IsSome held → ⊥
 none_is_some None is some = absurd (cc)

@@ -1,2 +1,3 @@
 mod AsBoxes
+mod SlotWalks
 mod Steps

@@ -5,7 +5,7 @@ pub use Rattle.std.specs.Prelude.{IsSome, None, Option, Some}
 pub use Rattle.std_alloc.proofs.BoxSteps.Form.{B, Bx, D, P, R, args, box_ty, box_typed, handle, word, τ}
 pub use Rattle.std_alloc.proofs.BoxSteps.Steps.{box_in, box_out}
 pub use Rattle.std_alloc.specs.Box.Ownership.{box_owns}
-pub use Rattle.tmw_handles.specs.Slots.{recorder_owned, watch_owned}
+pub use Rattle.tmw_handles.specs.Slots.{recorder_owned}
 pub use base.Fml.{Fml, GName, Lft, Share, flft, fsep, ftrue}
 pub use base.Logic.{SProp, emp, ent, fst∗, id⊢, never, sep}
 pub use contract.BorrowLft.{◌⊑◌}

@@ -1,5 +1,6 @@
 -- Reading on through a line that is longer than can be held.
-use Rattle.tmw_lines.proofs.Shared.{BeginsWithBad, Feed, FromSource, HasFeed, IsFree, List, Skips, Tells, Tells-more, ap, append_assoc, arith, drop, length, length-append, position_or_len, sym, take, take-append-drop, take_all, ℕ, ◌++◌, ◌+◌, ◌<◌, ◌==◌, ◌∙◌, ◌∷◌, ◌≡◌, ◌≤◌}
+use Rattle.tmw_lines.proofs.Shared.{BeginsWithBad, Feed, FromSource, HasFeed, IsFree, List, Reads, Skips, Tells, Tells-more, [], ap, append_assoc, arith, drop, length, length-append, position_or_len, sym, take, take-append-drop, take_all, ℕ, ◌++◌, ◌+◌, ◌<◌, ◌==◌, ◌∙◌, ◌∷◌, ◌≡◌, ◌≤◌}
+use Rattle.tmw_lines.specs.declared.long_line.LineEnd.{LineEnd}
 use Rattle.tmw_lines.proofs.Splits.{free-append, free-before, drop-before}
 
 -- where a line feed is among the bytes, the first is found
@@ -53,3 +54,15 @@ long-bad IsBad held bytes bad long free s = record {
   unbroken = free-append 10 held s.front free s.free;
   bad = bad (held ++ s.front) (simp length-append (omega (arith, long)));
 }
+
+-- what was held, and what was skipped behind it
+pub Reads-skips : {S : Type 0} (From : FromSource S) (Ended : Type 0) (a b c : S) (before held : List ℕ) {end : LineEnd}
+    → Reads From a b before held → (s : Skips From Ended b c end) → Reads From a c before (held ++ s.bytes)
+Reads-skips From Ended a b c before held r s = record {
+  bytes = r.bytes ++ s.bytes;
+  told = Tells-more From a b c r.bytes s.bytes r.told s.told;
+  is = ap (λ xs. xs ++ s.bytes) r.is ∙ append_assoc before r.bytes s.bytes;
+}
+
+pub long-some : (held bytes : List ℕ) → length held ≡ 4096 → held ++ bytes ≡ [] → ⊥
+long-some held bytes long empty = absurd (omega (arith, long, ap length empty, length-append held bytes))

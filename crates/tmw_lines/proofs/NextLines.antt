@@ -1,8 +1,11 @@
 -- One line of an item: held whole, or longer than can be held.
-use Rattle.tmw_lines.proofs.Shared.{BadLine, Cut, End, Err, Failed, Feed, FromSource, Grammar, Io, IsBadLine, IsFree, IsItemLine, IsNoItem, List, None, Ok, Reads, ReadsLine, Skips, Some, Tells, Tells-more, Tells-none, TooLong, [], ap, append-nil, arith, drop, length, length-append, nil_from_length, refl, sym, take, ℕ, ◌++◌, ◌+◌, ◌<◌, ◌^◌, ◌∙◌, ◌∷◌, ◌≡◌, ◌≤◌}
+use Rattle.tmw_lines.proofs.Shared.{BadLine, Cut, End, Err, Failed, Feed, FromSource, Grammar, Io, IsFree, IsItemLine, IsNoItem, List, None, Ok, Reads, ReadsLine, Result, Skips, Tells, Tells-none, TooLong, [], ap, append-nil, arith, drop, length, length-append, nil_from_length, refl, subst, sym, take, ℕ, ◌++◌, ◌+◌, ◌<◌, ◌^◌, ◌∙◌, ◌∷◌, ◌≡◌, ◌≤◌}
+use Rattle.std.specs.Prelude.{Option}
+use Rattle.tmw_lines.specs.NextLine.{IsLineRead}
+use Rattle.tmw_lines.specs.declared.text_fault.TextFault.{TextFault}
 use Rattle.tmw_lines.proofs.Fronts.{holds-long, holds-same}
-use Rattle.tmw_lines.proofs.BufferLines.{line-split, bytes-joined}
-use Rattle.tmw_lines.proofs.LongLines.{long-bad}
+use Rattle.tmw_lines.proofs.BufferLines.{line-split}
+use Rattle.tmw_lines.proofs.LongLines.{Reads-skips, long-bad, long-some}
 use Rattle.tmw_lines.proofs.Splits.{free-append}
 
 pub take_item-some : {F H E : Type 0} (grammar : Grammar F H E) (format : F) (bytes left : List ℕ) (count : ℕ)
@@ -10,49 +13,21 @@ pub take_item-some : {F H E : Type 0} (grammar : Grammar F H E) (format : F) (by
     → take count bytes ≡ grammar.item_text item → grammar.FitsItem format item → IsItemLine grammar format item bytes left
 take_item-some grammar format bytes left count item feed is text fits = grind (arith, line-split)
 
-pub take_item-none : {F H E : Type 0} (grammar : Grammar F H E) (format : F) (bytes : List ℕ) (count : ℕ)
-    → IsFree 10 (take count bytes) → drop count bytes ≡ 10 ∷ drop (count + 1) bytes
-    → IsNoItem grammar format (take count bytes) → IsBadLine grammar format bytes
-take_item-none grammar format bytes count free feed bad = record {
-  text = take count bytes;
-  rest = drop (count + 1) bytes;
-  split = line-split bytes (take count bytes) count feed refl;
-  unbroken = free;
-  bad = bad;
+-- what was read so far makes an item's line, the end or a fault
+pub next-read : {F H E S : Type 0} (grammar : Grammar F H E) (From : FromSource S) (Ended : Type 0) (a b : S) (format : F) (count : ℕ)
+    (before all left : List ℕ) (result : Result (Option E) TextFault) → Reads From a b before all
+    → IsLineRead grammar Ended format count all left result → ReadsLine grammar From Ended a b format count before left result
+next-read grammar From Ended a b format count before all left result r is = record {
+  bytes = r.bytes;
+  told = r.told;
+  is = subst (λ xs. IsLineRead grammar Ended format count xs left result) r.is is;
 }
 
--- a line that is held whole, or that ends before its line feed
-module _ {F H E S : Type 0} (grammar : Grammar F H E) (From : FromSource S)
-    (Ended : Type 0) (a b : S) (format : F) (count : ℕ) (before held left : List ℕ) (few : count < 2 ^ 40)
-    (r : Reads From a b before held) where
-  pub next-item : (item : E) → IsItemLine grammar format item held left
-      → ReadsLine grammar From Ended a b format count before left (Ok (Some item))
-  next-item item given = record { bytes = r.bytes; told = r.told; is = (few, rw r.is at given) }
-
-  pub next-bad : IsBadLine grammar format held → left ≡ held
-      → ReadsLine grammar From Ended a b format count before left (Err (BadLine (count + 2)))
-  next-bad bad kept = record { bytes = r.bytes; told = r.told; is = ((few, refl, rw r.is at bad), holds-same left _ (kept ∙ r.is)) }
-
-  pub next-end : Ended → length held ≡ 0 → ReadsLine grammar From Ended a b format count before left (Ok None)
-  next-end ended none = record { bytes = r.bytes; told = r.told; is = (ended, sym r.is ∙ nil_from_length held none) }
-
-  pub next-cut : Ended → 0 < length held → IsFree 10 held
-      → ReadsLine grammar From Ended a b format count before held (Err (Cut (count + 2)))
-  next-cut ended some free = record {
-    bytes = r.bytes;
-    told = r.told;
-    is = (
-      (few, refl, ended, rw r.is at free, λ empty. absurd (omega (arith, some, ap length (r.is ∙ empty)))),
-      holds-same held _ r.is,
-    );
-  }
-
-  pub next-failed : (Ended → ⊥) → IsFree 10 held → ReadsLine grammar From Ended a b format count before held (Err Io)
-  next-failed no_end free = record {
-    bytes = r.bytes;
-    told = r.told;
-    is = ((no_end, rw r.is at free, λ last. absurd (omega (arith, few, last))), holds-same held _ r.is);
-  }
+pub next-end : {F H E S : Type 0} (grammar : Grammar F H E) (From : FromSource S) (Ended : Type 0) (a b : S) (format : F) (count : ℕ)
+    (before held left : List ℕ) → Reads From a b before held → Ended → length held ≡ 0
+    → ReadsLine grammar From Ended a b format count before left (Ok None)
+next-end grammar From Ended a b format count before held left r ended none =
+    next-read grammar From Ended a b format count before held left (Ok None) r (ended, nil_from_length held none)
 
 -- a line longer than can be held
 module _ {F H E S : Type 0} (grammar : Grammar F H E) (From : FromSource S)
@@ -60,40 +35,21 @@ module _ {F H E S : Type 0} (grammar : Grammar F H E) (From : FromSource S)
     (r : Reads From a b before held) (long : length held ≡ 4096) (free : IsFree 10 held) where
   pub long-feed : ((text : List ℕ) → 4096 ≤ length text → IsNoItem grammar format text) → Skips From Ended b c Feed
       → ReadsLine grammar From Ended a c format count before held (Err (BadLine (count + 2)))
-  long-feed long_item s = record {
-    bytes = r.bytes ++ s.bytes;
-    told = Tells-more From a b c r.bytes s.bytes r.told s.told;
-    is = rw (bytes-joined From a b before held r s.bytes) (
-      (few, refl, long-bad (IsNoItem grammar format) held s.bytes long_item long free s.is),
-      holds-long held s.bytes long free,
-    );
-  }
+  long-feed long_item s =
+      next-read grammar From Ended a c format count before (held ++ s.bytes) held (Err (BadLine (count + 2)))
+      (Reads-skips From Ended a b c before held r s)
+      ((few, refl, long-bad (IsNoItem grammar format) held s.bytes long_item long free s.is), holds-long held s.bytes long free)
 
   pub long-end : Skips From Ended b c End → ReadsLine grammar From Ended a c format count before held (Err (Cut (count + 2)))
-  long-end s = record {
-    bytes = r.bytes ++ s.bytes;
-    told = Tells-more From a b c r.bytes s.bytes r.told s.told;
-    is = rw (bytes-joined From a b before held r s.bytes) (
-      (
-        few,
-        refl,
-        s.is.0,
-        free-append 10 held s.bytes free s.is.1,
-        λ empty. absurd (omega (arith, long, ap length empty, length-append held s.bytes)),
-      ),
-      holds-long held s.bytes long free,
-    );
-  }
+  long-end s =
+      next-read grammar From Ended a c format count before (held ++ s.bytes) held (Err (Cut (count + 2)))
+      (Reads-skips From Ended a b c before held r s)
+      ((few, refl, s.is.0, free-append 10 held s.bytes free s.is.1, long-some held s.bytes long), holds-long held s.bytes long free)
 
   pub long-failed : Skips From Ended b c Failed → ReadsLine grammar From Ended a c format count before held (Err Io)
-  long-failed s = record {
-    bytes = r.bytes ++ s.bytes;
-    told = Tells-more From a b c r.bytes s.bytes r.told s.told;
-    is = rw (bytes-joined From a b before held r s.bytes) (
-      (s.is.0, free-append 10 held s.bytes free s.is.1, λ last. absurd (omega (arith, few, last))),
-      holds-long held s.bytes long free,
-    );
-  }
+  long-failed s =
+      next-read grammar From Ended a c format count before (held ++ s.bytes) held (Err Io) (Reads-skips From Ended a b c before held r s)
+      ((s.is.0, free-append 10 held s.bytes free s.is.1, λ last. absurd (omega (arith, few, last))), holds-long held s.bytes long free)
 
 -- what follows the greatest number of items' lines
 module _ {F H E S : Type 0} (grammar : Grammar F H E) (From : FromSource S)

@@ -1,3 +1,4 @@
 pub mod Quotes
+pub mod Remarks
 mod Shared
 mod SummaryLines

@@ -1,6 +1,6 @@
 -- What two seats with one part each know once they have met, and what a seat knows once it has found tail, as their writers and
 -- their reader see it.
-use Rattle.tmw_ring.proofs.Shared.{Answered, Event, HasFoundTail, IsIdleWriter, IsOf, IsWaitingReader, Ix, List, Me, Part, Parts, ReaderIs, ReaderMeets, ReaderPart, Reads, SeatsHaveMet, Step, TableId, WriterIs, WriterMeets, WriterPart, Writes, [], ap, arith, length, reader_in, reader_is, refl, second_alone, subst, sym, with_tail, without_second, writer_in, writer_is, ℕ, ◌++◌, ◌∙◌, ◌∷◌, ◌≡◌}
+use Rattle.tmw_ring.proofs.Shared.{Answered, Event, HasFoundTail, IsOf, List, Me, Part, Parts, ReaderIs, ReaderMeets, ReaderPart, Reads, SeatsHaveMet, Step, TableId, WriterIs, WriterMeets, WriterPart, Writes, [], ap, arith, length, reader_in, reader_is, refl, second_alone, subst, sym, with_tail, without_second, writer_in, writer_is, ℕ, ◌++◌, ◌∙◌, ◌∷◌, ◌≡◌}
 
 module _ {S : Type 0} where
   -- The seats' parts are put together, find tail, and are cut apart again.
@@ -41,17 +41,6 @@ module _ {S : Type 0} where
         each 0 part refl,
         left ∙ ap (λ (t : ℕ). let n : Me S Parts = (with_tail t run part ∷ [], []) in n) is,
       )
-
-  -- A writer is idle still.
-  pub idle_still : (number : Ix) (tail : ℕ) (run : List Answered) (before after : Me S Parts) → IsIdleWriter number before
-      → after ≡ (with_tail tail run (Writes (writer_in before.0)) ∷ [], []) → IsIdleWriter number after
-  idle_still number tail run before after idle is =
-      subst (λ (m : Me S Parts). IsIdleWriter number m) (sym is) (record { seated = refl; idle = idle.idle; numbered = idle.numbered })
-
-  -- The reader waits still.
-  pub waiting_still : (count : ℕ) (run : List Answered) (before after : Me S Parts) → IsWaitingReader count before
-      → after ≡ (Reads (record (reader_in before.0) { run = run }) ∷ [], []) → IsWaitingReader count after
-  waiting_still count run before after waiting is = grind arith
 
   -- What callers see of a writer that has met.
   pub writer_met : (run : List Answered) (log : List Event) (table table_after : TableId) (before after : Me S Parts) (writer : WriterIs)

@@ -10,7 +10,7 @@ loop-preserved g c =
     let works = worked-more ((goal.Tm-dyn g c.args.memory.now).gives c.args.memory.now.1) g.J.MemoryAnswers.gave (calls_of c.args.script.now)
     c.loop.worker.writer worked.new.writer c.work-stop.result c.requires.gives worked.ensures.worked in
     between-next g.J.MemoryAnswers.gave c.args.stage.ring.now (calls_of c.args.script.now) c.args.worker.now
-    c.loop.worker (record { writer = c.see.new.writer; up = c.tell-in-loop.new.up; down = c.next_bound.new.down }) c.loop.invariant
+    c.loop.worker (record { writer = c.see.new.writer; up = c.tell-in-loop.new.to; down = c.next_bound.new.down }) c.loop.invariant
     c.find_tail-tail.result c.in-Some-next_bound.bound c.work-stop.result
     (record { tail = c.find_tail-tail.result; stop = c.work-stop.result }) worked.new.writer c.find_tail-tail.new.writer
     c.in_default.is worked.ensures.of_ring worked.ensures.number works c.find_tail-tail.ensures
@@ -26,7 +26,7 @@ returns-in_default-next_bound g c =
     let works = worked-more ((goal.Tm-dyn g c.args.memory.now).gives c.args.memory.now.1) g.J.MemoryAnswers.gave (calls_of c.args.script.now)
     c.loop.worker.writer worked.new.writer c.work-stop.result c.requires.gives worked.ensures.worked in
     played_on-over g.J.MemoryAnswers.gave c.args.stage.ring.now (calls_of c.args.script.now) c.args.worker.now c.loop.worker
-    (record { writer = c.find_tail-tail.new.writer; up = c.tell-in-loop.new.up; down = c.next_bound.new.down }) c.loop.invariant
+    (record { writer = c.find_tail-tail.new.writer; up = c.tell-in-loop.new.to; down = c.next_bound.new.down }) c.loop.invariant
     c.find_tail-tail.result worked.result (record { tail = c.find_tail-tail.result; stop = worked.result }) worked.new.writer
     c.in_default.is refl worked.ensures.of_ring worked.ensures.number works c.find_tail-tail.ensures
     c.tell-in-loop.ensures.ring c.tell-in-loop.ensures.sent over.ring over.over

@@ -1,6 +1,6 @@
 -- Where the lines found no memory, that fault answers, which is right of all bytes.
 use Rattle.tmw_command.proofs.Shared.{Err, Memory, Ok, asks_for_log, false, inl, inr, refl, rules, true, ◌≡◌}
-use Rattle.tmw_command.proofs.Remarks.{remarked_run}
+use Rattle.tmw_report.proofs.Remarks.{remarked_run}
 use Rattle.tmw_command.proofs.bench.bench_command.run_bench_cmd.Goals as goal
 
 pub returns-in-Ok : goal.returns-in-Ok

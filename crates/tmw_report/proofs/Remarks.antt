@@ -1,7 +1,9 @@
 -- A run that was remarked on, of what is known of it.
-use Rattle.tmw_command.proofs.Shared.{Fault, IsRemarkedRun, List, Result, ℕ, ◌≡◌}
+use Rattle.std.specs.Prelude.{◌≡◌, ℕ, List, Result}
 use Rattle.tmw_report.specs.CommandRun.{answer_status, answer_text, failures_after_answer}
+use Rattle.tmw_report.specs.Remark.{IsRemarkedRun}
 use Rattle.tmw_report.specs.SendText.{IsPut}
+use Rattle.tmw_report.specs.declared.fault.Fault.{Fault}
 use Rattle.tmw_streams.specs.Streams.{FromSource, ToSink}
 use Rattle.tmw_streams.specs.Transfers.{Tells}
 
