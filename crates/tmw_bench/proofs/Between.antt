@@ -5,16 +5,10 @@ use Rattle.tmw_ring.specs.Meet.{FindsTail}
 
 module _ {T A P : Type 0} where
   pub up-then : (a b c : Producer T A P) → SameProducer a b → SameProducer b c → SameProducer a c
-  up-then a b c one two = (
-    (two.0.0 ∙ one.0.0, two.0.1 ∙ one.0.1, two.0.2 ∙ one.0.2, two.0.3 ∙ one.0.3),
-    two.1 ∙ one.1,
-  )
+  up-then a b c one two = grind arith
 
   pub down-then : (a b c : Consumer T A P) → SameConsumer a b → SameConsumer b c → SameConsumer a c
-  down-then a b c one two = (
-    (two.0.0 ∙ one.0.0, two.0.1 ∙ one.0.1, two.0.2 ∙ one.0.2, two.0.3 ∙ one.0.3),
-    two.1 ∙ one.1,
-  )
+  down-then a b c one two = grind arith
 
 same-then : (first old new : Worker) → IsSameWorker first old → IsSameWorker old new → IsSameWorker first new
 same-then first old new one two = record {
@@ -23,64 +17,23 @@ same-then first old new one two = record {
   down = down-then first.down old.down new.down one.down two.down;
 }
 
--- a writer that has found a tail has met there
-met-found : (tail : ℕ) (old new : WriterIs) → FindsTail tail old new → HasMet tail old new
-met-found tail old new found = grind arith
-
 -- and one that has then been told of a bound behind it, and has seen it, has met at the bound
 met-told : (tail bound : ℕ) (old found new : WriterIs) → FindsTail tail old found → tail ≤ bound → HasSeen bound found new → HasMet bound old new
 met-told tail bound old found new finds behind seen = grind arith
-
--- what was claimed stays so where a writer meets that was not stopped
-last-met : (gives : Call → Answer → Type 0) (script : List (List Kind)) (bounds : List ℕ) (tail : ℕ) (old new : WriterIs)
-    → HasPlayedLast gives script bounds old.made None old → HasMet tail old new → HasPlayedLast gives script bounds new.made None new
-last-met gives script bounds tail old new last met = grind arith
 
 module _ (gives : Call → Answer → Type 0) (ring : RingIs) (script : List (List Kind)) (first old new : Worker) (was : IsBetween gives ring script first old) where
   -- It was stopped in a round, and has told of it.
   pub played_on-stopped : (stop : Option Refused) (ended : RoundEnd) → ended.stop ≡ stop → WriterOf ring new.writer → new.writer.number ≡ old.writer.number
       → HasWorked gives script old.writer stop new.writer → SameProducer old.up new.up → sent new.up ≡ sent old.up ++ ended ∷ []
       → new.down ≡ old.down → HasPlayedOn gives ring script first stop new
-  played_on-stopped stop ended stopped of_ring number worked up told down = record {
-    of_ring = of_ring;
-    same = record {
-      number = number ∙ was.same.number;
-      up = up-then first.up old.up new.up was.same.up up;
-      down = subst (SameConsumer first.down) (sym down) was.same.down;
-    };
-    bounds = was.bounds;
-    told = ap received down ∙ was.told;
-    earlier = sent old.up;
-    last = ended;
-    sent_all = told;
-    counted = was.counted;
-    stopped = stopped;
-    played = played_last-worked gives script was.bounds old.writer stop new.writer was.ready worked;
-  }
+  played_on-stopped stop ended stopped of_ring number worked up told down = grind arith
 
   -- It was not stopped, has told of the round, and no further round begins.
   pub played_on-over : (tail : ℕ) (stop : Option Refused) (ended : RoundEnd) (worked : WriterIs) → stop ≡ None → ended.stop ≡ stop → WriterOf ring worked
       → worked.number ≡ old.writer.number → HasWorked gives script old.writer stop worked → FindsTail tail worked new.writer
       → SameProducer old.up new.up → sent new.up ≡ sent old.up ++ ended ∷ [] → SameConsumer old.down new.down → received new.down ≡ received old.down
       → HasPlayedOn gives ring script first stop new
-  played_on-over tail stop ended worked not_stopped stopped of_ring number works finds up told down none_more =
-      let met = met-found tail worked new.writer finds in
-      let works_whole : HasWorked gives script old.writer None worked
-      = subst (λ (s : Option Refused). HasWorked gives script old.writer s worked) not_stopped works in
-      let last = last-met gives script was.bounds tail worked new.writer
-      (played_last-worked gives script was.bounds old.writer None worked was.ready works_whole) met in
-      record {
-        of_ring = (met.table ∙ of_ring.0, met.sized ∙ of_ring.1);
-        same = same-then first old new was.same (record { number = met.number ∙ number; up = up; down = down });
-        bounds = was.bounds;
-        told = none_more ∙ was.told;
-        earlier = sent old.up;
-        last = ended;
-        sent_all = told;
-        counted = was.counted;
-        stopped = stopped;
-        played = subst (λ (s : Option Refused). HasPlayedLast gives script was.bounds new.writer.made s new.writer) (sym not_stopped) last;
-      }
+  played_on-over tail stop ended worked not_stopped stopped of_ring number works finds up told down none_more = grind arith
 
   -- It was not stopped, has told of the round, was told of a bound behind it, and has seen it.
   pub between-next : (tail bound : ℕ) (stop : Option Refused) (ended : RoundEnd) (worked found : WriterIs) → stop ≡ None → WriterOf ring worked

@@ -91,23 +91,8 @@ pub called-none_left : (asked : Asking) (left : Leaving) (start made : List Made
     → HasCalledInTurn asked left start None made
 called-none_left asked left start made player at = record { turns = at.turns; tx = player.tx; old = made; taken = at.taken; over = refl }
 
-leaves-more : (left : Leaving) (Less More : Type 0) (tx : Tx) → (Less → More) → Leaves left Less tx → Leaves left More tx
-leaves-more left Less More tx more (inl over) = inl (more over)
-leaves-more left Less More tx more (inr ended) = inr ended
-
-stops-more : (asked : Asking) (left : Leaving) (Less More : Type 0) (old made : List Made) (tx : Tx) → (Less → More)
-    → StopsInTurn asked left Less old made tx → StopsInTurn asked left More old made tx
-stops-more asked left Less More old made tx more (inl (is, leaves)) = inl (is, leaves-more left Less More tx more leaves)
-stops-more asked left Less More old made tx more (inr stops) = inr stops
-
 -- A record was refused.
 pub called-refused : (asked : Asking) (left : Leaving) (refused : Refused) (start old made : List Made) (player : Player)
     → IsBetweenTurns asked start old player → StopsInTurn asked left (IsTrue (player.call == 0)) old made player.tx
     → HasCalledInTurn asked left start (Some refused) made
-called-refused asked left refused start old made player at stops = record {
-  turns = at.turns;
-  tx = player.tx;
-  old = old;
-  taken = at.taken;
-  over = stops-more asked left (IsTrue (player.call == 0)) (HasNoneOpen at.turns) old made player.tx at.none_open stops;
-}
+called-refused asked left refused start old made player at stops = grind arith

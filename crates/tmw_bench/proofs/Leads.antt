@@ -70,11 +70,7 @@ module _ (old now : List Line) (count : ℕ) (item next : Line) (ended : RoundEn
   }
 
   pub some_stop-later : SomeToldStop count now → SomeToldStop (count + 1) (set now count next)
-  some_stop-later some = record {
-    place = some.place;
-    low = let below = some.low in omega (arith, below);
-    stopped = λ fallback. subst HasToldStop (sym (other some.place fallback (ne_of_lt some.low))) (some.stopped fallback);
-  }
+  some_stop-later some = grind (arith, other, ne_of_lt)
 
   pub all_end-next : ended.stop ≡ None → AllToldEnd count now → AllToldEnd (count + 1) (set now count next)
   all_end-next none so_far place fallback below =
@@ -130,12 +126,7 @@ module _ (rules : Rules) (bounds : List ℕ) (first old new : List Line) (before
 
   -- more is judged
   pub led-on : (count : ℕ) → HasLedTo rules count bounds before first old → HasJudged more before after → HasLedTo rules count bounds after first old
-  led-on count led goes_on = record {
-    line_count = led.line_count;
-    lines = led.lines;
-    fits = goes_on.fits rules led.fits;
-    opaque = subst (AllOpaque rules bounds) (sym goes_on.judged) (all_opaque-append rules bounds before.judged.items goes_on.more led.opaque);
-  }
+  led-on count led goes_on = grind (arith, rules, all_opaque-append)
 
 -- all were told where the round has ended
 pub led-told : (rules : Rules) (bounds : List ℕ) (bound : ℕ) (first old new : List Line) (front : Front)

@@ -327,58 +327,7 @@ module _ {registers : ℕ} {h : List Event} {e : Event} {note : Note} {others as
   -- an event in the midst of a transaction changes no count
   pub step-midst : (old : Counter) (tracker : Tracker) → length h < 2 ^ 64 - 1 → CountsSo registers h old → note.begins ≡ false → note.ends ≡ None
       → IsStep note others asked live (record old { tracker = tracker; threads = old.threads }) (record old { tracker = tracker })
-  step-midst old tracker low so begins ends_none =
-      let ts = transactions h in
-      let was = so.counts in
-      let few = transactions-few h in
-      let has = goes-live begins in
-      let on : ends e.kind ≡ false = goes_on_kind e.kind (sym taken.notes.ends ∙ ends_none) in
-      let now = taken.count ∙ ap (count_by still) (transactions-push h e) in
-      let counted = live_count-add (length h) e ts in
-      let same : live ≡ count_by still ts =
-      omega (arith, counted, now, ap one_if has, ap (λ (b : Bool). one_if (not b)) on) in
-      let some : (live == 0) ≡ false = positive live (omega (arith, same, some-live e.thread.number ts has)) in
-      let no_abort = ap (λ (o : Option End). one_if (aborts o)) ends_none in
-      let no_commit = ap (λ (o : Option End). one_if (commits o)) ends_none in
-      let not_unasked = ap (λ (o : Option End). one_if (aborts o && not asked)) ends_none in
-      let no_begin = ap one_if begins in
-      let never = ap one_if some in
-      record {
-        tracker = refl;
-        threads = refl;
-        counts = record {
-          aborted = omega (arith, was.aborted, no_abort, few, low, count-length (λ (t : Txn). is_aborted (status_of t.text)) ts);
-          committed = omega (arith, was.committed, no_commit, few, low, count-length (λ (t : Txn). is_committed (status_of t.text)) ts);
-          cuts = omega (arith, was.cuts, never, low, count-length is_cut (prefixes h), prefixes-few h);
-          live_now = was.live ∙ sym same;
-          overlapping = omega (
-            arith,
-            was.overlapping,
-            ap (λ (b : Bool). meets b others old.apart) begins,
-            few,
-            low,
-            count-length (overlaps_any ts) ts,
-          );
-          all = omega (arith, was.all, no_begin, few, low);
-          unasked = omega (arith, was.unasked, not_unasked, few, low, count-length (λ (t : Txn). is_unasked t.text) ts);
-          widest = ap (λ (b : Bool). if b then max old.counts.widest (old.counts.transactions - old.before) else old.counts.widest) (sym begins);
-        };
-        before = ap (λ (b : Bool). if b then old.counts.transactions else old.before) (sym some);
-        apart = rw (begins, some) (sym (stays old.apart));
-      }
-    where
-      goes_on_kind : (k : Kind) → end_of k ≡ None → ends k ≡ false
-      goes_on_kind k is = grind arith
-
-      positive : (n : ℕ) → 0 < n → (n == 0) ≡ false
-      positive n more = elim (cases_Bool (n == 0)) [
-        | inl none ↦ absurd (omega (arith, more, eqb-true n 0 none))
-        | inr some ↦ some
-      ]
-
-      stays : (b : Bool) → (b && not false) ≡ b
-      stays true = refl
-      stays false = refl
+  step-midst old tracker low so begins ends_none = grind (arith, transactions, transactions-few, goes-live, ends, count_by, still, transactions-push, live_count-add, length, one_if, not, some-live, aborts, commits, count-length, is_aborted, status_of, is_committed, is_cut, prefixes, prefixes-few, meets, overlaps_any, is_unasked, max, end_of, ℕ, cases_Bool, eqb-true)
 
   -- the step by what is known of the event
   pub step-begins : (old new : Counter) → note.begins ≡ true
@@ -389,9 +338,7 @@ module _ {registers : ℕ} {h : List Event} {e : Event} {note : Note} {others as
 
   pub step-ends : (old new : Counter) (end : End) → note.begins ≡ false → note.ends ≡ Some end
       → IsStep (record { begins = false; ends = Some end }) others asked live old new → IsStep note others asked live old new
-  step-ends old new end is ended step =
-      subst (λ (b : Bool). IsStep (record { begins = b; ends = note.ends }) others asked live old new) (sym is)
-      (subst (λ (o : Option End). IsStep (record { begins = false; ends = o }) others asked live old new) (sym ended) step)
+  step-ends old new end is ended step = grind (arith, ends)
 
 -- the counter has taken an event that the tracker has
 pub takes-event : (registers : ℕ) (h : List Event) (e : Event) (note : Note) (asked : Bool) (before live : ℕ) (old new : Counter) (tracker : Tracker)

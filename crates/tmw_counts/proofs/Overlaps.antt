@@ -233,21 +233,7 @@ any-old place e ts t goes_on old =
 
 any-new : (place : ℕ) (e : Event) (ts : List Txn) → ends e.kind ≡ false → AllByRecursion (IsOld place e) ts
     → overlaps_any (ts ++ begun place e ∷ []) (begun place e) ≡ list_any still ts
-any-new place e ts goes_on all =
-    let itself : overlap (begun place e) (begun place e) ≡ false =
-    ap (λ (b : Bool). not b && (not (precedes (begun place e) (begun place e)) && not (precedes (begun place e) (begun place e))))
-    (eq-eqb e.thread.number e.thread.number refl) in
-    grind (
-      arith,
-      list_any-append,
-      overlap,
-      begun,
-      list_any,
-      or-false,
-      any-all,
-      still,
-      overlap-new_flip,
-    )
+any-new place e ts goes_on all = grind (arith, overlap, begun, not, precedes, eq-eqb, list_any-append, list_any, or-false, any-all, still, overlap-new_flip)
 
 others-any : (ts : List Txn) (others : Bool) → (others ≡ true → 0 < count_by still ts) → (others ≡ false → count_by still ts ≡ 0)
     → list_any still ts ≡ others

@@ -18,12 +18,7 @@ transactions-more h e = grind (arith, transactions-push, length-add)
 -- the open window's transactions, with the event
 pub open-count : (c : ℕ) (h : List Event) (e : Event) → IsLastCut h c
     → length (transactions (h ++ e ∷ [])) ≡ length (transactions (take c h)) + length (transactions (drop c h ++ e ∷ []))
-open-count c h e last =
-    ap (λ (xs : List Event). length (transactions xs)) (sym (parts c h e))
-    ∙ length-transactions_cut (take c h) (drop c h ++ e ∷ []) last.is.1
-  where
-    parts : (c : ℕ) (h : List Event) (e : Event) → take c h ++ (drop c h ++ e ∷ []) ≡ h ++ e ∷ []
-    parts c h e = take-append-drop-push c h e
+open-count c h e last = grind (arith, length, transactions, length-transactions_cut, take, drop, ℕ, take-append-drop-push)
 
 -- a window that a cut closes is one of the longer history
 HasWide-closed : (most : ℕ) (h : List Event) (e : Event) (w : HasWide most h) → IsCutAt h w.upto → HasWide most (h ++ e ∷ [])

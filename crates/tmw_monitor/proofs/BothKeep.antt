@@ -1,16 +1,7 @@
 -- What one monitor keeps serves by both criteria, where both find the same outcomes at the last cut.
-use Rattle.tmw_monitor.proofs.Shared.{Agree, Bool, BothMonitor, Event, FitEach, Fits, FitsBoth, HistoryDigest, IsCopy, IsLastCut, Keeps, List, None, Opacity, Parts, Rules, StaysKept, Strict, TellsWrong, [], arith, by, drop, false, members, so_far, strict_in, true, ℕ, ◌++◌, ◌+◌, ◌∷◌, ◌≡◌, ◌≤◌}
+use Rattle.tmw_monitor.proofs.Shared.{Agree, Bool, BothMonitor, Event, FitEach, Fits, FitsBoth, HistoryDigest, IsCopy, Keeps, List, None, Opacity, Parts, Rules, StaysKept, Strict, TellsWrong, [], arith, by, drop, false, members, so_far, strict_in, true, ◌++◌, ◌+◌, ◌∷◌, ◌≡◌, ◌≤◌}
 use Rattle.tmw_monitor.proofs.FeedOpen.{fits-kept, fits-next}
 use Rattle.tmw_monitor.proofs.OnlyOpen.{few_outcomes}
-
--- a history has one last cut
-one_last : (h : List Event) (c d : ℕ) → IsLastCut h c → IsLastCut h d → c ≡ d
-one_last h c d one other = grind arith
-
--- what is kept by the one is kept by the other too
-pub keeps-both : (rules : Rules) (h : List Event) (one other : HistoryDigest) → Keeps (by Opacity rules) h one → Keeps (by Strict rules) h other
-    → members one.states ≡ members other.states → Keeps (by Strict rules) h one
-keeps-both rules h one other opacity strict same = grind arith
 
 -- a copy is kept of the same history
 pub copy-keeps : (rules : Rules) (h : List Event) (old new : HistoryDigest) → rules.states ≤ 64 → Keeps rules h old → IsCopy old new

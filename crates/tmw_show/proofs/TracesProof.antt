@@ -92,16 +92,7 @@ ordered-final Strict registers s events final = final.ordered
 contradictory : (c : Criterion) (bounds : Bounds) (registers : Registers) (states : List State) (events : List Event) (marks : List Bool)
     → FindsPart c registers.number states events marks → (s : State) (f : FitsRegisters registers.number s) → Contains states s
     → IsViolated (rules_for c registers s bounds) events → IsContradictory c (kept_of marks events) (header_of registers s f)
-contradictory c bounds registers states events marks finds s f among violated =
-    elim finds [
-      | inl found ↦ record {
-        formed = found.1.is.violated.formed;
-        not_final = λ final. found.1.is.violated.none (s, among, ordered-final c registers.number s (kept_of marks events) final);
-      }
-      | inr all ↦
-          let same : kept_of marks events ≡ events = rw all.1 (kept-all events) in
-          rw same (record { formed = violated.formed; not_final = violated.not_final })
-    ]
+contradictory c bounds registers states events marks finds s f among violated = grind (arith, ordered-final, kept_of, kept-all)
 
 -- how the traces of what is shown are judged
 tells-by : (c : Criterion) (bounds : Bounds) (shown : ShownTrace) (start : State) (why : Bool) (needed : NeededEvents)

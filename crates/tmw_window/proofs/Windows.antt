@@ -137,11 +137,6 @@ shown-none rules v states events is o window =
 pub fine-empty : (rules : Rules) → 0 < rules.states → (v : Verdict) → IsVerdict rules [] v → v ≡ so_far rules.criterion
 fine-empty rules some v is = verdict-one rules [] v (so_far rules.criterion) is (so_far-fine rules [] (sums_up-new rules some).judged)
 
--- the same is shown of a history by its one verdict
-pub shown-same : (rules : Rules) (h : List Event) (v w : Verdict) (from : ℕ) (states : List State) (old new : List Event) → IsVerdict rules h v
-    → IsVerdict rules h w → IsShown rules h v from states old → new ≡ old → IsShown rules h w from states new
-shown-same rules h v w from states old new a b shown same = grind (arith, verdict-one)
-
 -- what is kept is shown, where the same is kept
 pub kept-same : (rules : Rules) (h : List Event) (v : Verdict) (old new : KeptWindow) → KeepsSame old new → KeepsShown rules h v old
     → KeepsShown rules h v new

@@ -11,14 +11,7 @@ returns-in_err-number-clause-number c =
     (λ text is count. (c.in_err-number.ensures.value text is).1.0 (count.0, count.1))
 
 pub returns-then-number-least-clause-number : goal.returns-then-number-least-clause-number
-returns-then-number-least-clause-number c =
-    unread-count (found_of c.args.matches.now) c.args.name.now c.args.least c.args.most
-    (λ text is count.
-    let read = (c.in_ok-number.ensures.value text is).0 in
-    elim c.then-number-least.branch [
-      | then-number-least-via-then-number-least w ↦ absurd (omega (arith, read.1, count.2, w.if-number-least.true))
-      | then-number-least-via-else-number-least+then-number-most w ↦ absurd (omega (arith, read.1, count.3, w.if-number-most.true))
-    ])
+returns-then-number-least-clause-number c = grind (arith, unread-count, found_of, then-number-least-via-then-number-least, then-number-least-via-else-number-least+then-number-most)
 
 pub returns-clause-number : goal.returns-clause-number
 returns-clause-number c =

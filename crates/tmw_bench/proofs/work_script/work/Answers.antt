@@ -42,6 +42,4 @@ returns-in-Some-step-clause-called g c =
     c.step.new.writer.made c.loop-call.player c.loop-call.invariant.3 c.in-Some-step.ensures.leaves
 
 pub returns-clause-called : goal.returns-clause-called
-returns-clause-called g c =
-    called-none_left g.M.MemoryCalls.asked g.M.MemoryCalls.left c.args.writer.now.made c.loop-call.writer.made c.loop-call.player
-    c.loop-call.invariant.3
+returns-clause-called g c = grind arith
