@@ -29,13 +29,13 @@ feeds-none first From Counts Ended a lines judges so is = record {
   bytes = [];
   events = [];
   told = Tells-none From a;
-  fed = λ header bounds asked given earlier r was open_before. (
+  fed = λ header bounds asked given earlier r was. (
     so,
     record {
       read = rw (append-nil given, append-nil earlier) r;
       judged = rw (append-nil given) was;
       final = is;
-      before = rw (append-nil given) (open_before so);
+      before = rw (append-nil given) (λ open_before. open_before);
     },
   );
 }
@@ -57,7 +57,7 @@ module _ {C F : Type 0} (first : Bool) (Counts : CountsFor C) (Ended : Type 0) (
     bytes = g.bytes;
     events = g.items;
     told = g.told;
-    fed = λ header bounds asked given earlier r was open_before. (
+    fed = λ header bounds asked given earlier r was. (
       g.given.0 header given earlier r,
       g.given.1.0 header bounds asked given was,
       λ so. g.given.1.1 so (has so),
@@ -69,14 +69,14 @@ module _ {C F : Type 0} (first : Bool) (Counts : CountsFor C) (Ended : Type 0) (
         bytes = g.bytes;
         events = g.items ++ last ∷ [];
         told = g.told;
-        fed = λ header bounds asked given earlier r was open_before. (
+        fed = λ header bounds asked given earlier r was. (
           taken.stops.0,
           record {
             read = rw (← append_assoc given g.items (last ∷ [])) (g.given.read header given earlier r);
             judged = rw (← append_assoc given g.items (last ∷ []))
                 (taken.stops.1 header bounds asked (given ++ g.items) (taken.takes.0 header bounds asked given was));
             final = taken.stops.2;
-            before = rw (← append_assoc given g.items (last ∷ [])) (AreOpenBefore-push header bounds asked (given ++ g.items) last
+            before = λ open_before. rw (← append_assoc given g.items (last ∷ [])) (AreOpenBefore-push header bounds asked (given ++ g.items) last
                 (open_now taken.between g.items taken.takes taken.stops.0 header bounds asked given was));
           },
         );
@@ -85,9 +85,9 @@ module _ {C F : Type 0} (first : Bool) (Counts : CountsFor C) (Ended : Type 0) (
     bytes = g.bytes;
     events = g.items;
     told = g.told;
-    fed = λ header bounds asked given earlier r was open_before. (
+    fed = λ header bounds asked given earlier r was. (
       g.given.0 header given earlier r,
       g.given.1.0 header bounds asked given was,
-      λ so. open_now fed g.items g.given.1 so header bounds asked given was,
+      λ so. g.given.1.1 so (has so),
     );
   }

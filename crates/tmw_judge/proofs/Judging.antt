@@ -1,10 +1,10 @@
 -- Judging a trace: its first line is read, then its events are fed, and what was told is what was read.
-use Rattle.tmw_judge.proofs.Shared.{AreOpen, AreOpenBefore, Asked, Bool, Bounds, ByCriterion, CountsFor, End, Err, Event, FailsBehind, FeedsEvents, FromSource, HasFaultFor, Header, IsBeginning, IsFirstText, IsReadFor, IsTrue, IsWholeText, Judges, Lines, List, Ok, QuotesHeld, QuotesLine, Reached, ReadsBeginning, Stop, Tells, Tells-more, TextFault, ToSink, Verdict, Version, [], any_open, false, fault_of, format_by, front_of, inl, inr, number_of, quoted-behind, quoted-first, refl, trace_grammar, true, unread_bytes, verdicts_of, ℕ, ◌++◌, ◌≡◌}
+use Rattle.tmw_judge.proofs.Shared.{AreOpen, Asked, Bool, Bounds, ByCriterion, CountsFor, End, Err, Event, FailsBehind, FeedsEvents, FromSource, HasFaultFor, Header, IsBeginning, IsFirstText, IsReadFor, IsTrue, IsWholeText, Judges, Lines, List, Ok, QuotesHeld, QuotesLine, Reached, ReadsBeginning, Stop, Tells, Tells-more, TextFault, ToSink, Verdict, Version, [], any_open, false, fault_of, format_by, front_of, inl, inr, number_of, quoted-behind, quoted-first, refl, trace_grammar, true, unread_bytes, verdicts_of, ℕ, ◌++◌, ◌≡◌}
 use Rattle.tmw_lines.proofs.TextsRead.{soon-behind, text_fault-first}
 use Rattle.tmw_lines.proofs.LinesRead.{text_fault-behind}
 use Rattle.tmw_report.specs.CommandRun.{AnswersTextFault}
 use Rattle.tmw_judge.proofs.AnswerParts.{AreJudgesOf}
-use Rattle.tmw_judge.proofs.FirstOpen.{AreOpenBefore-none}
+use Rattle.tmw_judge.proofs.FirstOpen.{AreOpenBefore-none, open-fed}
 
 -- by `--first` the fault of a line behind an open history is in time
 fault-behind : (first : Bool) (Ended : Type 0) (header : Header) (bounds : Bounds) (asked : Asked) (history : List Event) (bytes : List ℕ)
@@ -71,15 +71,12 @@ fed-unbegun {F = F} first Counts From Errors Ended a b old new lines bounds aske
 module _ {S C F : Type 0} (first : Bool) (From : FromSource S) (Counts : CountsFor C) (First Ended : Type 0) (a b c : S)
     (lines after : Lines Version) (bounds : Bounds) (asked : Asked) (judges fed : Judges C F)
     (begins : ReadsBeginning From Counts First a b lines bounds asked (Ok judges)) where
-  abbrev none_before : IsTrue first → AreOpenBefore begins.is.0 bounds asked []
-  none_before is = AreOpenBefore-none begins.is.0 bounds asked
-
   -- its events were fed
   pub fed-done : (reached : Reached) → FeedsEvents first From Counts Ended b c lines after judges fed (Ok reached)
       → (all : List ℕ) × Tells From a all c × AreJudgesOf first Counts bounds asked Ended all fed
   fed-done End feeds =
       let all = begins.bytes ++ feeds.bytes in
-      let end = feeds.fed begins.is.0 bounds asked [] begins.bytes begins.is.1 begins.is.2 none_before in (
+      let end = feeds.fed begins.is.0 bounds asked [] begins.bytes begins.is.1 begins.is.2 in (
         all,
         Tells-more From a b c begins.bytes feeds.bytes begins.told feeds.told,
         record {
@@ -93,7 +90,7 @@ module _ {S C F : Type 0} (first : Bool) (From : FromSource S) (Counts : CountsF
       )
   fed-done Stop feeds =
       let all = begins.bytes ++ feeds.bytes in
-      let (so, end) = feeds.fed begins.is.0 bounds asked [] begins.bytes begins.is.1 begins.is.2 none_before in (
+      let (so, end) = feeds.fed begins.is.0 bounds asked [] begins.bytes begins.is.1 begins.is.2 in (
         all,
         Tells-more From a b c begins.bytes feeds.bytes begins.told feeds.told,
         record {
@@ -105,7 +102,7 @@ module _ {S C F : Type 0} (first : Bool) (From : FromSource S) (Counts : CountsF
             text = end.read.text;
             few = end.read.few;
             final = end.final;
-            before = end.before;
+            before = end.before (AreOpenBefore-none begins.is.0 bounds asked);
           });
           judged = end.judged;
         },
@@ -119,9 +116,14 @@ module _ {S C F : Type 0} (first : Bool) (From : FromSource S) (Counts : CountsF
       × QuotesLine Errors (number_of (fault_of told)) (fault_of told) all old new
   fed-fault Errors old new told feeds held =
       let all = begins.bytes ++ feeds.bytes in
-      let stop = feeds.fed begins.is.0 bounds asked [] begins.bytes begins.is.1 begins.is.2 none_before in (
+      let stop = feeds.fed begins.is.0 bounds asked [] begins.bytes begins.is.1 begins.is.2 in (
         all,
         Tells-more From a b c begins.bytes feeds.bytes begins.told feeds.told,
-        (told, refl, fault-behind first Ended begins.is.0 bounds asked feeds.events all told stop.0.fails stop.2),
+        (
+          told,
+          refl,
+          fault-behind first Ended begins.is.0 bounds asked feeds.events all told stop.0.fails
+              (λ so. open-fed begins.is.0 bounds feeds.events asked fed.monitors stop.1.fed (stop.2 so)),
+        ),
         quoted-behind Errors Ended after all old new begins.is.0 feeds.events told stop.0 held,
       )

@@ -4,7 +4,7 @@ use Rattle.tmw_judge.specs.Shared.{Asked, Bounds, End, EndsBehind, Event, FailsH
 use Rattle.std.specs.Prelude.{◌≡◌, ◌⊎◌, ℕ, Bool, true, false, IsTrue, Result, Ok, Err, List, [], ◌∷◌, ◌++◌, length}
 use Rattle.tmw_lines.specs.LineFeeds.{HoldsFront}
 use Rattle.tmw_judge.specs.declared.monitors.Monitors.{Monitors}
-use Rattle.tmw_judge.specs.Answer.{AreOpen, AreOpenBefore}
+use Rattle.tmw_judge.specs.Answer.{AreOpenBefore}
 use Rattle.tmw_judge.specs.Tally.{any_open, AreJudged, CountsFor, verdicts_of}
 use Rattle.tmw_judge.specs.declared.judges.Judges.{Judges}
 use Rattle.tmw_judge.specs.Judge.{AreFed}
@@ -32,7 +32,7 @@ pub record AreFedSoMany {C F : Type 0} (Counts : CountsFor C) (judges : Judges C
 abbrev pub has_open : {C F : Type 0} → Judges C F → Bool
 has_open judges = any_open (verdicts_of judges.monitors)
 
--- They have been fed the events that they took. By `--first` they take none behind a final verdict, and stop at the event with which all
+-- They have been fed the events that they took. By `--first` some verdict stays open if one was, and they stop at the event with which all
 -- verdicts are final; else they stop at none.
 abbrev pub judges_taking : {C F : Type 0} → Bool → CountsFor C → Taking (Judges C F) Event
 judges_taking first Counts = record {
@@ -68,27 +68,27 @@ pub record AreFedAllRead {C F : Type 0} (Counts : CountsFor C) (lines : Lines Ve
   pub fed : AreJudged Counts header bounds asked history judges
 
 -- The judges have been fed this history, which is all that was read but for what the reader holds. All their verdicts are final. On no
--- shorter prefix are all verdicts final.
+-- shorter prefix are all verdicts final, if on none shorter than what was given before.
 pub record AreFedFirst {C F : Type 0} (Counts : CountsFor C) (lines : Lines Version) (header : Header) (bounds : Bounds) (asked : Asked)
-    (history : List Event) (bytes : List ℕ) (judges : Judges C F) : Type 0 where
+    (given history : List Event) (bytes : List ℕ) (judges : Judges C F) : Type 0 where
   pub read : HasRead trace_grammar lines header history bytes
   pub judged : AreJudged Counts header bounds asked history judges
   pub final : has_open judges ≡ false
-  pub before : AreOpenBefore header bounds asked history
+  pub before : AreOpenBefore header bounds asked given → AreOpenBefore header bounds asked history
 
 -- These are the bytes read where the judges have been fed this history: its text, and behind it nothing up to the end, or the line that
 -- has the fault, which is no want of memory. By `--first` some verdict is open there, or what the reader holds stands behind it, and all
 -- verdicts are final.
-abbrev pub AreReadAndFed : {C F : Type 0} → Bool → CountsFor C → Type 0 → Lines Version → Header → Bounds → Asked → List Event → List ℕ
-    → Judges C F → Result Reached TextFault → Type 0
-AreReadAndFed first Counts Ended lines header bounds asked history bytes judges (Ok End) =
+abbrev pub AreReadAndFed : {C F : Type 0} → Bool → CountsFor C → Type 0 → Lines Version → Header → Bounds → Asked → List Event → List Event
+    → List ℕ → Judges C F → Result Reached TextFault → Type 0
+AreReadAndFed first Counts Ended lines header bounds asked given history bytes judges (Ok End) =
     EndsBehind trace_grammar Ended header history bytes × AreJudged Counts header bounds asked history judges
     × (IsTrue first → has_open judges ≡ true)
-AreReadAndFed first Counts Ended lines header bounds asked history bytes judges (Ok Stop) =
-    IsTrue first × AreFedFirst Counts lines header bounds asked history bytes judges
-AreReadAndFed first Counts Ended lines header bounds asked history bytes judges (Err fault) =
+AreReadAndFed first Counts Ended lines header bounds asked given history bytes judges (Ok Stop) =
+    IsTrue first × AreFedFirst Counts lines header bounds asked given history bytes judges
+AreReadAndFed first Counts Ended lines header bounds asked given history bytes judges (Err fault) =
     FailsHolding trace_grammar Ended lines header history bytes fault × AreJudged Counts header bounds asked history judges
-    × (IsTrue first → AreOpen header bounds asked history)
+    × (IsTrue first → has_open judges ≡ true)
 
 -- What the source told makes, behind whatever had been read and fed before, lines of events that were fed.
 pub record FeedsEvents {S C F : Type 0} (first : Bool) (From : FromSource S) (Counts : CountsFor C) (Ended : Type 0) (old new : S)
@@ -98,5 +98,4 @@ pub record FeedsEvents {S C F : Type 0} (first : Bool) (From : FromSource S) (Co
   pub told : Tells From old bytes new
   pub fed : (header : Header) (bounds : Bounds) (asked : Asked) (given : List Event) (before : List ℕ)
       → HasRead trace_grammar lines header given before → AreJudged Counts header bounds asked given judges
-      → (IsTrue first → AreOpenBefore header bounds asked given)
-      → AreReadAndFed first Counts Ended lines_after header bounds asked (given ++ events) (before ++ bytes) judges_after result
+      → AreReadAndFed first Counts Ended lines_after header bounds asked given (given ++ events) (before ++ bytes) judges_after result

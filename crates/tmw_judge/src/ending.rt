@@ -3,14 +3,14 @@ ghost use Rattle.tmw_judge.specs.Tally.{any_open, verdicts_of};
 
 use crate::monitors::{Monitors, any_open};
 
-/// Up to where the events of a trace are fed to its judges.
+/// What tells up to where the events of a trace are fed to its judges.
 pub trait Ending: Drop {
     ghost use Rattle.std.specs.Prelude.{Bool};
 
-    /// Whether only up to the event at which all verdicts are final.
+    /// Whether it is only up to the event at which all verdicts are final.
     ghost first: { Bool };
 
-    /// Tells whether monitors have come there.
+    /// Returns whether to stop: if it is so, once all verdicts are final.
     fn is_at(monitors: &Monitors) -> bool
         ensures { result ≡ (first && not (any_open (verdicts_of monitors.now))) };
 }

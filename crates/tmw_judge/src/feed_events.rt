@@ -35,17 +35,17 @@ impl<C: Tally, F: Ending> Taker<Event> for Judges<C, F> {
     ) };
 }
 
-/// Reads the remaining events, up to the source's end or the first fault, or to the event at which all verdicts are final if `F`
-/// says so, and feeds each to the judges as its line is read. A read comes only where no whole line is held. The reader then
-/// returns that end or fault again. It takes no memory, so `Memory` is not among its faults.
+/// Reads the remaining events, up to the source's end, the first fault, or the event at which all verdicts are final if `F`
+/// says so, and feeds each to the judges as its line is read. After an end or a fault the reader returns it again. It takes
+/// no memory, so `Memory` is not among its faults.
 pub fn feed_events<S: Source, C: Tally, F: Ending>(
     lines: &mut TraceLines,
     source: &mut S,
     judges: &mut Judges<C, F>,
 ) -> Result<Reached, TextFault>
     requires { AreFedAllRead C.counts lines.old judges.old }
-    ensures feeds { FeedsEvents F.first S.from C.counts (S.from.ended source.new) source.old source.new
-        lines.old lines.new judges.old judges.new result }
+    ensures feeds { FeedsEvents F.first S.from C.counts (S.from.ended source.new) source.old
+        source.new lines.old lines.new judges.old judges.new result }
     ensures failures { S.from.failures source.new ≡ reading_failures result
         (S.from.failures source.old) }
     ensures over { IfOk result (λ reached. reached ≡ End → IsOver lines.new) }

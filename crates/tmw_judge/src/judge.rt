@@ -67,7 +67,7 @@ fn judge_by<S: Source, E: Sink, C: Tally>(
     }
 }
 
-/// Judges a trace up to this ending.
+/// Judges a trace up to the ending `F`.
 fn judge_to<S: Source, E: Sink, C: Tally, F: Ending>(
     alloc: Global,
     source: &mut S,
