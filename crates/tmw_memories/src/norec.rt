@@ -90,7 +90,9 @@ impl NoRec {
     }
 
     /// Takes the lock at a snapshot at which all that was read had still the values that were read. The lock is then one more.
-    fn take_lock(&self, tx: &Tx) -> Option<u64> {
+    fn take_lock(&self, tx: &Tx) -> Option<u64>
+        ensures { tx.now.snapshot % 2 ≡ 0 → IfSome result (λ seen. seen % 2 ≡ 0) }
+    {
         let mut snapshot = tx.snapshot;
         for _ in 0..TURNS {
             let odd = snapshot.wrapping_add(1);

@@ -1,3 +1,5 @@
+ghost use Rattle.std.specs.Prelude.{◌≡◌, [], IsTrue};
+
 use std::array;
 use std::sync::atomic::{AtomicU64, Ordering};
 use tmw_events::{Ix, MOST_REGISTERS};
@@ -23,7 +25,9 @@ impl Words {
     }
 
     /// Tells whether each of these registers has the value of its entry, each at the moment when it is loaded.
-    pub fn hold(&self, entries: &[Entry]) -> bool {
+    pub fn hold(&self, entries: &[Entry]) -> bool
+        ensures { entries.now ≡ [] → IsTrue result }
+    {
         entries
             .iter()
             .all(|entry| self.load(entry.register) == entry.value)
