@@ -22,13 +22,13 @@ export GLIBC_TUNABLES=glibc.cpu.hwcaps=-AVX2,-AVX_Fast_Unaligned_Load,-ERMS,-AVX
 # The most instructions an event, for each kind of run, by each of these words after `judge`. A run of `doomed` is strictly serializable alone.
 words=('' '--criterion strict' '--criterion both' '--first' '--summary')
 limits='
-serial    82.3 82.3 86.4 88.2 109.7
-calm      163.5 163.2 200.6 169.5 191.0
-wide      144.2 141.9 192.0 150.2 170.4
-long      79.5 79.5 84.4 85.7 93.4
-blind     291.2 291.2 313.7 297.0 324.3
-bench     89.6 89.4 98.2 95.7 113.5
-outcomes  525.4 491.5 940.2 531.5 549.3
+serial    82.3 82.3 86.4 88.5 108.9
+calm      163.5 163.2 200.6 169.7 190.1
+wide      144.2 142.0 192.0 150.4 169.7
+long      79.5 79.5 84.4 85.7 93.3
+blind     291.2 291.2 313.7 297.4 322.9
+bench     89.6 89.5 98.2 95.8 112.7
+outcomes  525.4 491.5 940.2 531.6 548.6
 doomed    - 131.9 - - -
 '
 
