@@ -1,6 +1,7 @@
 -- An event at a cut, by both criteria.
 use Rattle.tmw_monitor.proofs.Shared.{BothMonitor, Contains, End, Event, FitsBoth, Follows, HistoryDigest, IsNext, IsTrue, Ix, Keeps, List, NoOutcome, Opacity, Outcome, OutcomeCheck, Registers, Rules, StandsFor, States, Strict, Tells, TellsEnds, TellsWrong, TooMany, Window, Witnesses, [], ap, append-nil, by, drop, formed-next, grows, inl, inr, is_cut, is_quiet_by, is_well_formed, length, members, refl, subst, transactions, true, views_of, wrong_of, ℕ, ◌++◌, ◌+◌, ◌∙◌, ◌∷◌, ◌≡◌, ◌≤◌}
 use Rattle.tmw_monitor.proofs.BothKeep.{both-next, keeps-one, keeps-strictly}
+use Rattle.tmw_monitor.proofs.CutEnds.{closes}
 use Rattle.tmw_monitor.proofs.BothOpen.{Weighs, next-told}
 use Rattle.tmw_monitor.proofs.NextVerdict.{follows-told}
 use Rattle.tmw_monitor.proofs.OpenWindow.{formed_whole, narrow-push}
@@ -8,42 +9,29 @@ use Rattle.tmw_cuts.proofs.Follows as following
 use Rattle.tmw_defs.proofs.WindowsProof as windows
 
 -- outcomes that both criteria have found alike are those of each
-closed-alike : (states found : States) (cap : ℕ) (events : List Event) (e : Event) (new : HistoryDigest) → IsTrue (is_cut (events ++ e ∷ []))
-    → Tells Opacity states cap (is_quiet_by Opacity (transactions events) e.thread.number e.kind) (events ++ e ∷ []) new Outcome
-    → TellsEnds Strict states cap (events ++ e ∷ []) found Outcome → members new.states ≡ members found
-    → Tells Strict states cap (is_quiet_by Strict (transactions events) e.thread.number e.kind) (events ++ e ∷ []) new Outcome
-closed-alike states found cap events e new cut (inl stays) ends same = absurd (let uncut = stays.uncut in cc)
-closed-alike states found cap events e new cut (inr closes) ends same = inr (record {
-  cut = cut;
-  exact = rw same ends.1;
-  end = ends.2;
-  some = rw same ends.3;
-  few = rw same ends.0;
-  stands = closes.stands;
-  witness = closes.witness;
-})
+pub closed-alike : {new : HistoryDigest} {cap : ℕ} {e : Event} {p : Ix} (old : HistoryDigest) (states : States)
+    → ((events : List Event) → StandsFor old.window events → IsTrue (is_cut (events ++ e ∷ []))) → Weighs Opacity cap e (End p) old new Outcome
+    → ((events : List Event) → StandsFor old.window events → Witnesses (members old.states) (views_of events) old.witness
+    → TellsEnds Strict old.states cap (events ++ e ∷ []) states Outcome)
+    → members new.states ≡ members states → Weighs Strict cap e (End p) old new Outcome
+closed-alike {new = new} {cap = cap} {e = e} old states cut weighs ends same events stands is was = elim (weighs events stands is was) [
+  | inl stays ↦ absurd (let uncut = stays.uncut in let at = cut events stands in cc)
+  | inr both ↦ closes Strict old.states states cap _ (events ++ e ∷ []) new (cut events stands) (ends events stands was) same both.stands both.witness
+]
 
 -- so one goes on to serve both
-pub both-closed : (rules : Rules) (h : List Event) (e : Event) (old : BothMonitor) (new : HistoryDigest) (states : States) (p : Ix) (cap : ℕ)
+pub both-closed : (rules : Rules) (h : List Event) (e : Event) (old : BothMonitor) (new : HistoryDigest) (p : Ix) (cap : ℕ)
     → FitsBoth rules h old → old.shared ≡ true → cap ≡ rules.states → IsNext old.opacity.kept.window e (End p)
-    → ((events : List Event) → StandsFor old.opacity.kept.window events → IsTrue (is_cut (events ++ e ∷ [])))
     → new.window.registers ≡ old.opacity.kept.window.registers → Weighs Opacity cap e (End p) old.opacity.kept new Outcome
-    → ((events : List Event) → StandsFor old.opacity.kept.window events
-    → Witnesses (members old.opacity.kept.states) (views_of events) old.opacity.kept.witness
-    → TellsEnds Strict old.opacity.kept.states cap (events ++ e ∷ []) states Outcome)
-    → members new.states ≡ members states
+    → Weighs Strict cap e (End p) old.opacity.kept new Outcome
     → FitsBoth rules (h ++ e ∷ []) (record old { opacity = record old.opacity { count = old.opacity.count + 1; kept = new } })
-both-closed rules h e old new states p cap fits shared bound next cut same weighs ends alike =
+both-closed rules h e old new p cap fits shared bound next same opaquely strictly =
     let kept = old.opacity.kept in
-    let weighed : Weighs Opacity rules.states e (End p) kept new Outcome = rw (← bound) weighs in
-    let strictly : Weighs Strict rules.states e (End p) kept new Outcome =
-    λ events stands is was. closed-alike kept.states states rules.states events e new (cut events stands) (weighed events stands is was)
-    (rw bound at (ends events stands was)) alike in
     both-next rules h e old new fits shared
     (next-told (by Opacity rules) h e kept new (keeps-one rules h old fits shared) old.opacity.bounds.window (End p) Outcome fits.opacity.window next
-    (λ begins. absurd (cc)) same weighed).0
+    (λ begins. absurd (cc)) same (rw (← bound) opaquely)).0
     (next-told (by Strict rules) h e kept new (keeps-strictly rules h old fits shared) old.opacity.bounds.window (End p) Outcome fits.opacity.window next
-    (λ begins. absurd (cc)) same strictly).0
+    (λ begins. absurd (cc)) same (rw (← bound) strictly)).0
 
 -- A window of no event follows a history that is at a cut.
 follows-open : (registers : ℕ) (h : List Event) (w : Window) → IsTrue (is_cut h) → IsTrue (is_well_formed registers h)

@@ -1,6 +1,7 @@
 -- Where all transactions have committed, each completion holds all of them, so that both criteria ask the same.
-use Rattle.tmw_monitor.proofs.Shared.{Bool, Contains, EndsBy, EndsOf, Event, HistoryDigest, IsTrue, List, NoOutcome, Opacity, Outcome, OutcomeCheck, StandsFor, State, States, Strict, Tells, TellsEnds, TooMany, Txn, Witnesses, [], and_from, and_parts, ap, arith, ends-by, false, have_committed, inl, inr, is_cut, list_all, map, may_hold, members, refl, status_of, transactions, true, view_of, views_of, ℕ, ◌∙◌, ◌∷◌, ◌≡◌}
+use Rattle.tmw_monitor.proofs.Shared.{Bool, Contains, EndsBy, EndsOf, Event, HistoryDigest, IsTrue, List, NoOutcome, Opacity, Outcome, OutcomeCheck, StandsFor, State, States, Strict, Tells, TellsEnds, TooMany, Txn, Witnesses, [], and_from, and_parts, ap, arith, ends-by, false, have_committed, inl, inr, is_cut, length, list_all, map, may_hold, members, refl, status_of, subst, transactions, true, view_of, views_of, ℕ, ◌∙◌, ◌∷◌, ◌≡◌}
 use Rattle.tmw_cuts.specs.Views.{View, view}
+use Rattle.tmw_search.proofs.OneEnd.{one_member}
 use Rattle.tmw_defs.specs.Strict.{AreHeld}
 use Rattle.tmw_defs.specs.declared.status.Status.{Status}
 use Rattle.tmw_defs.specs.Counts.{is_committed}
@@ -41,31 +42,26 @@ pub same_ends : (old : States) (events : List Event) (items : List cuts.Txn) →
 same_ends old events items all shown end ends =
     ends-opaquely (Contains (members old)) (transactions events) end (rw (← shown) (shown_committed items all)) ends
 
--- What was found strictly is found by opacity: outcomes, which are then kept,
-pub opaque-fine : (old outcomes : States) (cap : ℕ) (quiet : Bool) (events : List Event) (kept : HistoryDigest) → IsTrue (is_cut events)
+-- What was found strictly is found by opacity: outcomes, where it has them all,
+pub opaque-fine : (old outcomes : States) (cap : ℕ) (events : List Event)
     → ((end : State) → EndsOf Strict old events end → EndsOf Opacity old events end) → TellsEnds Strict old cap events outcomes Outcome
-    → members kept.states ≡ members outcomes → StandsFor kept.window [] → Witnesses (members kept.states) [] kept.witness
-    → Tells Opacity old cap quiet events kept Outcome
-opaque-fine old outcomes cap quiet events kept cut same ends copied stands witness = inr (record {
-  cut = cut;
-  exact = λ s. (
-    λ has. same s ((ends.1 s).0 (rw copied at has)),
-    λ is. rw copied ((ends.1 s).1 (ends-by Strict (Contains (members old)) (transactions events) s is)),
-  );
-  end = ends.2;
-  some = rw copied ends.3;
-  few = rw copied ends.0;
-  stands = stands;
-  witness = witness;
-})
+    → TellsEnds Opacity old cap events outcomes Outcome
+opaque-fine old outcomes cap events same (few, exact, end, some) = (
+  few,
+  λ s. (λ has. same s ((exact s).0 has), λ is. (exact s).1 (ends-by Strict (Contains (members old)) (transactions events) s is)),
+  end,
+  some,
+)
 
--- or none, or too many.
-pub opaque-wrong : (old outcomes : States) (cap : ℕ) (quiet : Bool) (events : List Event) (kept : HistoryDigest) (found : OutcomeCheck)
-    → IsTrue (is_cut events) → ((end : State) → EndsOf Strict old events end → EndsOf Opacity old events end)
-    → TellsEnds Strict old cap events outcomes found → (found ≡ Outcome → ⊥) → StandsFor kept.window events
-    → Tells Opacity old cap quiet events kept found
-opaque-wrong old outcomes cap quiet events kept Outcome cut same ends wrong stands = absurd (wrong refl)
-opaque-wrong old outcomes cap quiet events kept NoOutcome cut same ends wrong stands =
-    (stands, λ end is. ends.0 end (ends-by Strict (Contains (members old)) (transactions events) end is))
-opaque-wrong old outcomes cap quiet events kept TooMany cut same ends wrong stands =
-    (stands, cut, (ends.0, ends.1, ends.2, λ s has. same s (ends.3 s has)))
+-- or none.
+pub opaque-none : (old : States) (events : List Event) → ((end : State) → EndsOf Strict old events end → ⊥)
+    → (end : State) → EndsOf Opacity old events end → ⊥
+opaque-none old events never end is = never end (ends-by Strict (Contains (members old)) (transactions events) end is)
+
+-- The only outcome found strictly is one by opacity, where that has any.
+pub alone-opaquely : (old outcomes : States) (cap : ℕ) (events : List Event) (one : State) → length (members outcomes) ≡ 1
+    → EndsOf Opacity old events one → TellsEnds Strict old cap events outcomes Outcome
+    → (end : State) → EndsOf Strict old events end → EndsOf Opacity old events end
+alone-opaquely old outcomes cap events one alone is ends end strictly =
+    let first = (ends.1 one).1 (ends-by Strict (Contains (members old)) (transactions events) one is) in
+    subst (λ (e : State). EndsOf Opacity old events e) (one_member (members outcomes) one end alone first ((ends.1 end).1 strictly)) is

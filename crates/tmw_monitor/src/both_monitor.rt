@@ -6,7 +6,7 @@ use crate::bounds::Bounds;
 use crate::broken_rule::BrokenRule;
 use crate::monitor::Monitor;
 use crate::outcome_check::OutcomeCheck;
-use crate::search_or_close::{close_opaquely, close_strictly, search};
+use crate::search_or_close::{close_forced, close_opaquely, close_strictly, search};
 use crate::take::take_open;
 use crate::take_at_once::take_at_once;
 use std::alloc::{AllocError, Global};
@@ -207,6 +207,9 @@ impl BothMonitor {
         let (kept, strict) = (&mut self.opacity.kept, &mut self.strict.kept);
         kept.window.end(event, place);
         kept.witness.follow(&kept.window, event, Move::End(place));
+        if close_forced(kept, cap) {
+            return;
+        }
         let strictly = close_strictly(kept, &mut strict.states, &mut strict.found, cap);
         let found = close_opaquely(kept, &strict.states, strictly, cap);
         if closes_alike(found, &kept.states, strictly, &strict.states) {

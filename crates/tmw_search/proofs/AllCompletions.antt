@@ -21,7 +21,7 @@ moved : {xs : List Effect} {one other : State} {node next : Node} {base e : Stat
 moved onto x = record { held = x.held; rank = x.rank; legal = onto x.held x.rank x.legal; size = x.size; settled = x.settled; rest = x.rest }
 
 -- from another start that has the same in each register that is read
-start-same : (xs : List Effect) (held : ℕ) (one other : State) (rank : ℕ → ℕ) (j r : ℕ) → slice_index other r ≡ slice_index one r
+pub start-same : (xs : List Effect) (held : ℕ) (one other : State) (rank : ℕ → ℕ) (j r : ℕ) → slice_index other r ≡ slice_index one r
     → Reads xs held one rank j r Open → Reads xs held other rank j r Open
 start-same = grind arith
 
@@ -160,29 +160,39 @@ pub more-part : {criterion : Criterion} {xs : List Effect} {n : ℕ} {starts : L
 more-part {held = held} {left = left} {i = i} within one a =
     adds-to (λ e y. by-others y (fewer left i held y.more within one y.completes)) (λ never. absurd (never-true never)) a
 
+-- an end from the start, by some completion
+pub record RankedEnd (criterion : Criterion) (items : List cuts.Txn) (start : State) (committed pending : ℕ) (reach : List ℕ) (e : State) : Type 0 where
+  pub more : ℕ
+  pub completes : Completes committed pending more
+  pub ends : EndsIn (effects items) start reach (members_of criterion (length items) more) more e
+
+pub leads-of : (criterion : Criterion) (items : List cuts.Txn) (events : List Event) (start : State) (committed pending : ℕ) (reach : List ℕ)
+    (e : State) → Shown criterion items events committed pending reach → length start ≡ 8
+    → LeadsBy criterion start (transactions events) e ↔ RankedEnd criterion items start committed pending reach e
+leads-of criterion items events start committed pending reach e s size =
+    let ts = transactions events in
+    let xs = effects items in
+    let law = are_ranked criterion ts xs reach start s.acts s.few s.order size e in (
+      λ leads.
+          let (more, c, y) = law.0 (start, refl, leads) in
+          record { more = more; completes = (s.completes more).0 c; ends = subst (λ (n : ℕ). EndsIn xs start reach (members_of criterion n more) more e) s.same y },
+      λ y.
+          let (t, is, leads) = law.1
+          (y.more, (s.completes y.more).1 y.completes, subst (λ (n : ℕ). EndsIn xs start reach (members_of criterion n y.more) y.more e) (sym s.same) y.ends) in
+          subst (λ (x : State). LeadsBy criterion x ts e) is leads,
+    )
+
 pub ends-of : (criterion : Criterion) (items : List cuts.Txn) (events : List Event) (starts : List State) (committed pending : ℕ)
     (reach : List ℕ) (e : State) → Shown criterion items events committed pending reach
     → ((i : ℕ) → i < length starts → length (get_or starts i []) ≡ 8)
     → EndsByMore criterion (effects items) (length items) starts reach committed pending e
     ↔ EndsBy criterion (Contains starts) (transactions events) e
 ends-of criterion items events starts committed pending reach e s sizes =
-    let ts = transactions events in
-    let xs = effects items in
-    let law = λ (start : State) (has : Contains starts start). are_ranked criterion ts xs reach start s.acts s.few s.order (start-size starts start sizes has) e in (
-      λ y.
-          let (t, is, leads) = (law y.start y.from).1
-          (y.more, (s.completes y.more).1 y.completes, subst (λ (n : ℕ). EndsIn xs y.start reach (members_of criterion n y.more) y.more e) (sym s.same) y.ends) in
-          (y.start, y.from, subst (λ (x : State). LeadsBy criterion x ts e) is leads),
-      λ ends.
-          let (start, has, leads) = ends in
-          let (more, c, y) = (law start has).0 (start, refl, leads) in
-          record {
-            more = more;
-            completes = (s.completes more).0 c;
-            start = start;
-            from = has;
-            ends = subst (λ (n : ℕ). EndsIn xs start reach (members_of criterion n more) more e) s.same y;
-          },
+    let law = λ (start : State) (has : Contains starts start). leads-of criterion items events start committed pending reach e s (start-size starts start sizes has) in (
+      λ y. (y.start, y.from, (law y.start y.from).1 (record { more = y.more; completes = y.completes; ends = y.ends })),
+      λ (start, has, leads).
+          let y = (law start has).0 leads in
+          record { more = y.more; completes = y.completes; start = start; from = has; ends = y.ends },
     )
 
 -- the ends are few, or too many

@@ -4,6 +4,7 @@ pub mod Bits
 mod Branches
 pub mod Chosen
 mod Consequences
+mod ForcedEnds
 mod LastWriters
 mod LayerLists
 pub mod LayerSteps

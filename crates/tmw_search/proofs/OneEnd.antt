@@ -1,13 +1,12 @@
 -- An end state that is known is the only one, where the end states are forced: what each writer of a register finds and leaves there
 -- sums up to the same over each legal serial order. Masks tell of a window that they are.
-use Rattle.tmw_search.proofs.Shared.{AreForced, AreHeld, Bool, Contains, Criterion, EndsOf, Event, IsForced, IsMaskOf, IsTrue, Leads, LeadsBy, List, Op, Opacity, Placed, Replaces, Some, StandsFor, State, States, Status, Strict, Txn, View, Window, [], after, after_writes, and_from, and_left, and_parts, and_right, ap, arith, bit_and, bit_at, bit_at-lt, bit_at-zero, bit_at_above, bit_at_and, bit_at_not, bit_at_or, bit_not, bit_or, cases_Bool, cases_lt, cond, contains_cases, contains_here, contains_none, count_by, count_by-le-length, end_state, eqb-false, eqb-true, ext_get_or, false, get_or-set_other, get_or-set_same, get_or_from_slice_get, if◌then◌else◌, inl, inr, is_blind_writer, is_committed, is_ended, is_over, is_writer, length, length-set, list_all, list_all-remove, map, may_be, may_hold, members, not, not-false, not-true, not_from_false, operations, precedes, reads_hold, refl, remove, slice_get, slice_get_within, slice_index, slice_set, status_of, subst, suc, sum_by, sum_by-cons, sum_by_more, sym, take, take_all, transactions, true, view_of, views, w8, zero, ℕ, ◌%◌, ◌+◌, ◌<◌, ◌==◌, ◌^◌, ◌↔◌, ◌∙◌, ◌∷◌, ◌≡◌, ◌≤◌, ◌⊎◌}
+use Rattle.tmw_search.proofs.Shared.{AreForced, AreHeld, Bool, Contains, Criterion, EndsOf, Event, IsForced, IsMaskOf, IsTrue, Leads, LeadsBy, List, Op, Opacity, Placed, Replaces, Some, StandsFor, State, States, Status, Strict, Txn, View, Window, [], after, after_writes, and_from, and_left, and_parts, and_right, ap, arith, bit_and, bit_at, bit_at-lt, bit_at-zero, bit_at_above, bit_at_and, bit_at_not, bit_at_or, bit_not, bit_or, cases_Bool, cases_lt, cond, contains_cases, contains_here, contains_none, count_by, count_by-le-length, end_state, eqb-false, eqb-true, ext_get_or, false, get_or-set_other, get_or-set_same, get_or_from_slice_get, if◌then◌else◌, inl, inr, is_blind_writer, is_committed, is_cut, is_ended, is_over, is_writer, length, length-set, list_all, list_all-remove, map, may_be, may_hold, members, not, not-false, not-true, not_from_false, operations, precedes, reads_hold, refl, remove, slice_get, slice_get_within, slice_index, slice_set, status_of, subst, suc, sum_by, sum_by-cons, sum_by_more, sym, take, take_all, transactions, true, view_of, views, w8, zero, ℕ, ◌%◌, ◌+◌, ◌<◌, ◌==◌, ◌^◌, ◌↔◌, ◌∙◌, ◌∷◌, ◌≡◌, ◌≤◌, ◌⊎◌}
 use Rattle.tmw_cuts.specs.RegisterUse.{needs, writes}
 use Rattle.std.proofs.lemmas.List.Folds.{list_all-map, list_all_more}
 use Rattle.std.proofs.lemmas.Bool.Decides.{nat_tests}
 use Rattle.tmw_defs.specs.declared.op.Op.TheVariants.{Read, Write, Add}
 use Rattle.tmw_defs.specs.Opaque.{Explains}
 use Rattle.tmw_defs.proofs.Completions.{list_all-held}
-use Rattle.tmw_defs.specs.Cuts.{is_cut}
 use Rattle.tmw_search.proofs.Bits.{bit_cases}
 
 sum_by-remove : {A : Type 0} (f : A → ℕ) (xs : List A) (i : ℕ) (x : A) → slice_get xs i ≡ Some x
@@ -203,7 +202,7 @@ forced-end_by Strict s a b ts forced ended (one, e, is_a) (two, f, is_b) =
 only_member : (x y : State) → Contains (x ∷ []) y → x ≡ y
 only_member x y has = elim (contains_cases x y [] has) [ inl same ↦ same | inr later ↦ absurd (contains_none y later) ]
 
-one_member : (xs : List State) (s t : State) → length xs ≡ 1 → Contains xs s → Contains xs t → s ≡ t
+pub one_member : (xs : List State) (s t : State) → length xs ≡ 1 → Contains xs s → Contains xs t → s ≡ t
 one_member [] s t one has too = absurd (omega (arith, one))
 one_member (x ∷ y ∷ xs) s t one has too = absurd (omega (arith, one))
 one_member (x ∷ []) s t one has too = sym (only_member x s has) ∙ only_member x t too
@@ -221,7 +220,7 @@ forced-only criterion old events end forced cut one (start, within, leads) s = (
 )
 
 -- what a window shows is forced where its transactions are
-shown-forced : (all ts : List Txn) → AreForced (map (view_of all) ts) → IsForced (λ t. status_of t.text) (λ t. operations t.text) ts
+pub shown-forced : (all ts : List Txn) → AreForced (map (view_of all) ts) → IsForced (λ t. status_of t.text) (λ t. operations t.text) ts
 shown-forced all ts forced = λ r.
     elim (forced r) [
       | inl few ↦ inl (omega (arith, few, count-map r ts))

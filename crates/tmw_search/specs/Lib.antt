@@ -1,4 +1,5 @@
 pub mod EndStates
+pub mod ForcedEnds
 pub mod LastWriters
 pub mod Layers
 pub mod LegalOrders

@@ -13,4 +13,5 @@ pub use Rattle.tmw_defs.specs.History.{Txn, transactions}
 pub use Rattle.tmw_defs.specs.Opaque.{State, after_writes, may_hold, precedes, reads_hold}
 pub use Rattle.tmw_defs.specs.Outcomes.{Ends, Only}
 pub use Rattle.tmw_defs.specs.declared.criterion.Criterion.{Criterion}
+pub use Rattle.tmw_defs.specs.declared.criterion.Criterion.TheVariants.{Opacity, Strict}
 pub use Rattle.tmw_events.specs.declared.event.Event.{Event}

@@ -15,6 +15,7 @@ use crate::read_consequences::read_all;
 use crate::root::{all_agree, order_of, orderly, root_of, statuses_of};
 use crate::settle_sources::settle;
 use crate::source_choices::Choices;
+use crate::states_differ::differ;
 use tmw_cuts::{State, Txn, lowest};
 use tmw_defs::Criterion;
 use tmw_events::MOST_REGISTERS;
@@ -120,19 +121,6 @@ fn needed_registers(choices: &Choices) -> u8
         registers |= choices.reads[j];
     }
     registers
-}
-
-/// Tells whether the states differ in a register of the mask.
-fn differ(one: &State, other: &State, mask: u8) -> bool
-    ensures { IsFalse result → (r : ℕ) → r < 8 → In mask r
-        → slice_index one.now r ≡ slice_index other.now r }
-{
-    for r in 0..8usize {
-        if mask >> r & 1 == 1 && one[r] != other[r] {
-            return true;
-        }
-    }
-    false
 }
 
 /// Adds the ends of the root's orders from each of the starts. One from which they end as from the one before it is

@@ -1,7 +1,7 @@
 //! The ends of a node's orders: one register after another, one of its writers is taken for the last.
 ghost use Rattle.tmw_search.specs.Shared.{State, members};
 ghost use Rattle.std.specs.Prelude.{IfNone, IfSome, MatchOption, IsFalse, IsTrue, length, slice_index, ℕ, ◌<◌, ◌↔◌, ◌≡◌};
-ghost use Rattle.tmw_search.specs.Precedence.{IsRead, Within, Has, IsOrder, Narrows};
+ghost use Rattle.tmw_search.specs.Precedence.{IsRead, Within, IsOrder, Narrows};
 ghost use Rattle.tmw_search.specs.LastWriters.{ComeBefore, ComesBehind, IsEndOf, EndWith, IsPutLast, LeftByOne, Adds};
 ghost use Rattle.tmw_search.specs.NodeOrders.{In, effects, left_at, ordered, IsNode};
 

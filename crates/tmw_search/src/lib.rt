@@ -10,6 +10,8 @@ mod end_set;
 mod end_states;
 mod find_serial_order;
 #[tactic(auto, using(crate::proofs::Bits::masks))]
+mod forced_ends;
+#[tactic(auto, using(crate::proofs::Bits::masks))]
 mod last_writers;
 mod layer_steps;
 mod layers;
@@ -25,11 +27,14 @@ mod search;
 mod serial_order;
 mod settle_sources;
 mod source_choices;
+#[tactic(auto, using(crate::proofs::Bits::masks))]
+mod states_differ;
 mod window_outcomes;
 
 pub use end_set::EndSet;
 pub use end_states::EndStates;
 pub use find_serial_order::find_order;
+pub use forced_ends::replace_by_forced;
 pub use layer_steps::{is_next, may_hold};
 pub use layers::layer;
 pub use serial_order::{SerialOrder, SerialStep};

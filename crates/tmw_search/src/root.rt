@@ -110,7 +110,7 @@ fn reads_of(items: &[Txn], mask: u8) -> Masks
 }
 
 /// Returns which transactions of the mask write each register, as masks.
-fn writers_of(items: &[Txn], mask: u8) -> [u8; MOST_REGISTERS]
+pub fn writers_of(items: &[Txn], mask: u8) -> [u8; MOST_REGISTERS]
     ensures { ShowWriters (effects items.now) mask result }
 {
     let mut writers = [0; MOST_REGISTERS];

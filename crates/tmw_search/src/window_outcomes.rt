@@ -1,15 +1,14 @@
 ghost use Rattle.tmw_search.specs.Shared.{Event, HasRoom, StandsFor, room_of};
-ghost use Rattle.std.specs.Prelude.{IfOk, IfSome, List, ◌<◌, ◌≡◌, ◌≤◌};
-ghost use Rattle.tmw_search.specs.EndStates.{TellsEnd, AreEnds, EndsOf, Replaces, told};
+ghost use Rattle.std.specs.Prelude.{IfOk, List, ◌<◌, ◌≡◌, ◌≤◌};
+ghost use Rattle.tmw_search.specs.EndStates.{TellsEnd, AreEnds, Replaces, told};
 
 use crate::completion_ends::find_ends;
 use crate::end_set::EndSet;
 use crate::end_states::EndStates;
 use crate::find_serial_order::find_order;
-use crate::one_end::is_forced;
 use std::alloc::{AllocError, Global};
 use std::mem;
-use tmw_cuts::{State, States, Window};
+use tmw_cuts::{States, Window};
 use tmw_defs::Criterion;
 
 /// Tells whether the window's transactions have a legal serial order, for some completion, from one of the states. By
@@ -67,28 +66,20 @@ fn find_outcomes(
 }
 
 /// Replaces the states by the outcomes of the window's transactions from them, if these are at most `cap`, and tells
-/// whether they are. `known`, if given, has to be one of them: if there can be no other, nothing is searched.
+/// whether they are.
 pub fn replace_by_outcomes(
     criterion: Criterion,
     states: &mut States,
     found: &mut EndSet,
     window: &Window,
     cap: u8,
-    known: Option<State>,
 ) -> bool
     requires cap { cap ≤ 64 }
     requires room { HasRoom states.old }
     ensures replaces { (events : List Event) → StandsFor window.now events
-        → IfSome known (EndsOf criterion states.old events)
         → Replaces criterion states.old cap events states.new result }
     ensures room { HasRoom states.new }
 {
-    if let Some(end) = known {
-        if states.len() == 1 && cap > 0 && window.is_cut() && is_forced(window.transactions()) {
-            states.put_only(&end);
-            return true;
-        }
-    }
     if !find_outcomes(criterion, states, window, cap, found) {
         return false;
     }

@@ -38,7 +38,7 @@ loop-index-preserved c =
             (omega (arith, w.if-index-eq0.false)) c.requires.node c.requires.waits c.requires.reads
             (λ j r few less is. or-left _ _ r (c.needed_registers-needed.ensures j r few less is))
             (λ r few out. c.unwritten.ensures r few (λ has. out (or-right _ _ r has)))
-            (w.differ.ensures w.if-differ.false) c.loop-index.invariant.adds;
+            (w.differ.ensures.0 w.if-differ.false) c.loop-index.invariant.adds;
         cap = c.loop-index.invariant.cap;
         follows = c.loop-index.invariant.follows;
       })

@@ -1,5 +1,4 @@
-use Rattle.tmw_search.proofs.Shared.{In, ℕ, ◌<◌}
-use Rattle.tmw_search.specs.LastWriters.{ComesBehind}
+use Rattle.tmw_search.proofs.Shared.{ComesBehind, In, ℕ, ◌<◌}
 use Rattle.tmw_search.proofs.last_writers.last_of.Given as goal
 
 abbrev pub invariant-loop-left : goal.invariant-loop-left

@@ -1,8 +1,7 @@
-use Rattle.tmw_search.proofs.Shared.{From, Open, Start, arith, eq-eqb, inl, inr, ne_eqb, refl, sym, ◌∙◌}
-use Rattle.std.proofs.lemmas.Nat.Bits.{same_from_bits_below}
+use Rattle.tmw_search.proofs.Shared.{From, Open, Start, arith, eq-eqb, inl, inr, ne_eqb, refl, same_from_bits_below, sym, ◌∙◌}
 use Rattle.tmw_search.proofs.Bits.{bit_cases, bit_one, same_place}
-use Rattle.tmw_search.proofs.read_consequences.only_source.Goals as goal
 use Rattle.tmw_search.proofs.read_consequences.only_source.Goals.{then-branch-2-via-then-branch-2, then-branch-2-via-else-branch-2+then-branch-i}
+use Rattle.tmw_search.proofs.read_consequences.only_source.Goals as goal
 
 pub returns-then-branch-2 : goal.returns-then-branch-2
 returns-then-branch-2 c Open is = is

@@ -1,0 +1,17 @@
+ghost use Rattle.std.specs.Prelude.{IsFalse, slice_index, ℕ, ◌<◌, ◌↔◌, ◌≡◌};
+ghost use Rattle.tmw_search.specs.NodeOrders.{In};
+
+use tmw_cuts::State;
+
+/// Tells whether the states differ in a register of the mask.
+pub fn differ(one: &State, other: &State, mask: u8) -> bool
+    ensures { IsFalse result ↔ ((r : ℕ) → r < 8 → In mask r
+        → slice_index one.now r ≡ slice_index other.now r) }
+{
+    for r in 0..8usize {
+        if mask >> r & 1 == 1 && one[r] != other[r] {
+            return true;
+        }
+    }
+    false
+}
