@@ -45,6 +45,8 @@ cp -r "$top/bindings/rust" "$folder/rust"
 cd "$folder/rust"
 sed -i 's/println!("cargo:rustc-link-arg-{kind}={}", wraps(&folder));/let _ = (kind, wraps(\&folder));/' build.rs
 ends 'no words for the linker: planted' 1 cmp -s "$top/bindings/rust/build.rs" build.rs
+ends 'a mutex of tmwatch::sync without them' 0 env TMWATCH_LIB="$library" "$cargo" test --offline --locked --release --features steps --test sync \
+    orders_are_seen
 for change in 's/sequence.load(Acquire)/sequence.load(Relaxed)/' 's/^        fence(Acquire);//' 's/^        fence(Release);//' \
     's/snapshot + 2, Release/snapshot + 2, Relaxed/'; do
     sed "$change" "$top/bindings/rust/examples/sequence.rs" >examples/sequence.rs

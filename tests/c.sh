@@ -102,6 +102,10 @@ ends 'a full recorder compiles' 0 "$cc" -std=gnu11 "${strict[@]}" -o "$folder/re
 ends 'a full recorder' 0 diff "$top/tests/c/recorded.lines" "$folder/lines"
 ends 'one event too many' 134 "$folder/recorded" more
 has_told 'one event too many: what is told' -x 'recorder: no room for the event'
+# In each placing, right and wrong, an event is recorded before or after what the memory does, as it was.
+ends 'placings compile' 0 "$cc" -std=gnu11 "${strict[@]}" -o "$folder/placed" "$top/tests/c/placed.c"
+"$folder/placed" >"$folder/lines"
+ends 'where each placing records' 0 diff "$top/tests/c/placed.lines" "$folder/lines"
 # The bench is compiled here, so that the flags reach it too.
 bench=(-DTMWATCH_PAUSES "$folder/lib/libtmwatch_bench.a" "${static[@]}" "$waits")
 

@@ -219,6 +219,10 @@ static void check_unmarked(void)
         words[X] = 7;
         CHECK(makes(1, READ, X, 0, RELAXED) == 7 && orders->unseen[UNMARKED_STORE]);
         begin();
+        makes(0, READ, X, 0, RELAXED);
+        words[X] = 7;
+        CHECK(makes(1, READ, X, 0, RELAXED) == 7 && orders->unseen[UNMARKED_STORE]);
+        begin();
         makes(0, WRITE, X, 1, RELAXED);
         stores(0, (const void *)(uintptr_t)&words[X], 8);
         words[X] = 7;
