@@ -1,12 +1,14 @@
 /*
-Where each placing of examples/recorders/little.c records the events of five transactions: a line each, of events by their letters, with
-register and value. The memory is one that marks its own calls by small letters, and refuses those that it is told to.
+Where each placing of examples/recorders/little.c records the events of six transactions: a line each, of events by their letters, with register
+and value. The memory is one that marks its own calls by small letters, and refuses those that it is told to.
 */
 #define MEMORY_H
 #define main little
 #include "tmwatch/rounds.h"
 
 enum { THREAD = 2, MARKS = 7 };
+/* By what a thread's state of draws is how many it has made: those of its pauses here. */
+#define DRAWS_EACH UINT64_C(0xF1DE83E19937733D)
 struct tx {
     bool has_begun;
 };
@@ -44,8 +46,9 @@ static void memory_undo(const struct tx *tx)
 }
 #include "../../examples/recorders/little.c"
 
-static void print_events(void)
+static void print_events(uint64_t draws)
 {
+    printf(" %llu draws", (unsigned long long)draws);
     for (const struct event *it = events; it < events + recorded; it++) {
         printf(" %s%c", (it->thread == MARKS) == (it->kind >= 'a') ? "" : "?", it->kind);
         if (it->kind == 'R' || it->kind == 'W')
@@ -68,7 +71,7 @@ int main(void)
             refused = refusals[i];
             calls = 0;
             make_transaction(&worker);
-            print_events();
+            print_events(worker.draws * DRAWS_EACH);
         }
     return 0;
 }
