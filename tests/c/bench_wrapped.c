@@ -192,6 +192,7 @@ long __real_syscall(long number, ...)
 
 int main(void)
 {
+    static const int many[MOST_MADE + 1];
     pthread_mutex_t *lock = (void *)objects[0];
     EACH(TELL)
     TELL_VOID(_ZNSt18condition_variable10notify_oneEv, (void *)objects[1]);
@@ -215,6 +216,10 @@ int main(void)
     IN_MODES(tmwatch_lock_taken, tmwatch_lock_taken(objects[0]));
     IN_MODES(tmwatch_lock_returning, tmwatch_lock_returning(objects[0]));
     IN_MODES(tmwatch_lock_returned, tmwatch_lock_returned(objects[0]));
+    for (int i = 0; i < MOST_MADE + 1; i++)
+        begin_making(&many[i]);
+    for (int i = 0; i < MOST_MADE; i++)
+        CHECK(*find_made(&many[i]) == &many[i]);
     CHECK(!tmwatch_step_unwrapped());
     return 0;
 }
