@@ -5,6 +5,7 @@ where the C library fails.
 */
 #include "../../bench-c/instrumented/waits.c"
 #include "check.h"
+#include <stdarg.h>
 
 enum { THREAD = 5, OTHER = 7 };
 enum mode { BESIDE, FREE, HELD, ALONE, FAILS, MODES };
@@ -66,7 +67,7 @@ void tmwatch_orders_unlocks(tmwatch_simulation *orders, unsigned thread, const v
 }
 void tmwatch_orders_futex(tmwatch_simulation *orders, const volatile void *word, const void *caller)
 {
-    CHECK((char *)orders == &model && caller);
+    CHECK((char *)orders == &model && caller && name_of(caller) == '?');
     printf(" futex-%c", name_of(word));
 }
 
@@ -172,7 +173,13 @@ REAL_SLEEP(clock_nanosleep, time == &time_given && !left && clock == OTHER && fl
 REAL_SLEEP(usleep, microseconds == OTHER, useconds_t microseconds)
 long __real_syscall(long number, ...)
 {
-    return number;
+    va_list words;
+    va_start(words, number);
+    printf(" call %s %c", number == SYS_futex ? "futex" : "", name_of(va_arg(words, void *)));
+    for (int i = 0; i < 5; i++)
+        printf(" %ld", va_arg(words, long));
+    va_end(words);
+    return OTHER;
 }
 
 /* A line of a function, in each mode. */
@@ -195,10 +202,14 @@ int main(void)
     static const int many[MOST_MADE + 1];
     pthread_mutex_t *lock = (void *)objects[0];
     EACH(TELL)
+    IN_MODES(__cxa_guard_acquire, begin_making(objects[0]); objects[0][0] = mode != FREE;
+             printf(" = %d", __wrap___cxa_guard_acquire((void *)objects[0])));
+    CHECK(*find_made(objects[0]) == objects[0]);
     TELL_VOID(_ZNSt18condition_variable10notify_oneEv, (void *)objects[1]);
     TELL_VOID(_ZNSt18condition_variable10notify_allEv, (void *)objects[1]);
     TELL_VOID(_ZNSt18condition_variable4waitERSt11unique_lockISt5mutexE, (void *)objects[1], &lock);
     TELL_VOID(__cxa_guard_release, (void *)objects[0]);
+    CHECK(*find_made(objects[0]) != objects[0]);
     TELL_VOID(__cxa_guard_abort, (void *)objects[0]);
     for (int i = 0; i < 3; i++) {
         makes = i > 0;
@@ -211,6 +222,9 @@ int main(void)
     IN_MODES(thrd_sleep, printf(" = %d", __wrap_thrd_sleep(&time_given, NULL)));
     IN_MODES(clock_nanosleep, printf(" = %d", __wrap_clock_nanosleep(OTHER, THREAD, &time_given, NULL)));
     IN_MODES(usleep, printf(" = %d", __wrap_usleep(OTHER)));
+    static const long calls[][2] = {{SYS_futex, FUTEX_WAIT}, {SYS_futex, FUTEX_WAIT_BITSET_PRIVATE}, {SYS_futex, FUTEX_WAKE}, {SYS_gettid, FUTEX_WAIT}};
+    for (int i = 0; i < 4; i++)
+        IN_MODES(syscall, printf(" = %ld", __wrap_syscall(calls[i][0], (long)objects[0], calls[i][1], 3, 4, 5, 6)));
     IN_MODES(tmwatch_lock_tried, printf(" = %d", tmwatch_lock_tried()));
     IN_MODES(tmwatch_lock_awaited, printf(" = %d", tmwatch_lock_awaited(objects[0])));
     IN_MODES(tmwatch_lock_taken, tmwatch_lock_taken(objects[0]));
