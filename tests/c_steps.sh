@@ -46,12 +46,12 @@ ends 'blocks that are given back compile' 0 "$cc" "${strict[@]}" -o "$folder/blo
 ends 'blocks that are given back' 0 "$folder/blocks"
 # What marked accesses and wrapped functions ask of the steps, the model and the C library. (ThreadSanitizer has functions of those names.)
 by_themselves() {
-    ends "$1 by themselves compile" 0 "$cc" "${strict[@]}" -o "$folder/$1" "$top/tests/c/bench_$1.c"
+    ends "$1 by themselves compile" 0 "$cc" "${strict[@]}" -o "$folder/$1" "$top/tests/c/bench_$1.c" "${@:2}"
     ends "$1 by themselves" 0 sh -c '"$1" >"$2" && diff "$2" "$3"' sh "$folder/$1" "$folder/lines" "$top/tests/c/bench_$1.lines"
 }
 if [ "${FLAGS:-}" != -fsanitize=thread ]; then
     by_themselves wrapped
-    by_themselves accesses
+    by_themselves accesses "$top/bench-c/instrumented/accesses_16.c"
 fi
 paused norec examples/c/norec.c NONE
 paused norec_READS examples/c/norec.c READS

@@ -1,6 +1,6 @@
 /*
-Each function of bench-c/instrumented/accesses.c by itself: its steps (s), what it asks the model of C++20, where one is, and what that is told,
-its answer, and then what the place holds. A line for each size and each kind of memory: without a model, and with one that answers by older
+Each function of bench-c/instrumented/accesses.c, and accesses_16.c, by itself: its steps (s), what it asks the model of C++20, where one is, and
+what that is told, its answer, and then what the place holds. A line for each size and each kind of memory: without a model, and with one that answers by older
 values, by newest ones, or by failed swaps. Then how long stores are delayed, and what is not.
 */
 #include "../../bench-c/instrumented/accesses.c"
@@ -75,6 +75,10 @@ void tmwatch_orders_fence(const tmwatch_access *it)
 {
     tell(it, "fence");
 }
+void tmwatch_orders_wide(const tmwatch_access *it)
+{
+    tell(it, "wide");
+}
 void tmwatch_orders_plain(const tmwatch_access *it, size_t bytes, bool stores, bool is_lasting)
 {
     tell(it, stores ? "stores" : "loads");
@@ -125,6 +129,50 @@ static void tell_atomics(void)
     putchar('\n');
 }
 
+/* Of 16 bytes, whose halves are told apart. */
+__extension__ typedef unsigned __int128 wide;
+wide __tsan_atomic128_load(const volatile wide *at, int order);
+void __tsan_atomic128_store(volatile wide *at, wide value, int order);
+wide __tsan_atomic128_compare_exchange_val(volatile wide *at, wide held, wide value, int order, int failed);
+#define WIDE(high, low) ((wide)(high) << 64 | (low))
+#define HALVES(value) (unsigned)((value) >> 64), (unsigned)(value)
+#define WIDELY(call) TELL(wide answer = call; printf(" = %u-%u, %u-%u", HALVES(answer), HALVES(*at)))
+#define CHANGE_WIDELY(name, value)                                              \
+    do {                                                                        \
+        wide __tsan_atomic128_##name(volatile wide * it, wide other, int order); \
+        WIDELY(__tsan_atomic128_##name(at, value, __ATOMIC_RELAXED));           \
+    } while (0)
+#define SWAP_WIDELY(name, looked_for)                                                                          \
+    do {                                                                                                       \
+        int __tsan_atomic128_##name(volatile wide * it, wide * held_there, wide value, int order, int failed); \
+        wide held = looked_for;                                                                                \
+        WIDELY((wide)__tsan_atomic128_##name(at, &held, *at + 1, __ATOMIC_RELAXED, __ATOMIC_RELAXED));         \
+        printf("%u-%u ", HALVES(held));                                                                        \
+    } while (0)
+static void tell_wide(void)
+{
+    wide *at = (wide *)place;
+    *at = (uintptr_t)at;
+    CHECK(__tsan_atomic128_load(at, __ATOMIC_RELAXED) == (uintptr_t)at && *at == (uintptr_t)at);
+    TELL(__tsan_atomic128_store(at, WIDE(3, 5), __ATOMIC_RELAXED));
+    WIDELY(__tsan_atomic128_load(at, __ATOMIC_RELAXED));
+    CHANGE_WIDELY(exchange, WIDE(7, 9));
+    CHANGE_WIDELY(fetch_add, WIDE(1, 2));
+    CHANGE_WIDELY(fetch_sub, WIDE(2, 1));
+    CHANGE_WIDELY(fetch_and, WIDE(14, 11));
+    CHANGE_WIDELY(fetch_or, WIDE(9, 4));
+    CHANGE_WIDELY(fetch_xor, WIDE(3, 1));
+    CHANGE_WIDELY(fetch_nand, WIDE(5, 6));
+    TELL(__tsan_atomic128_store(at, WIDE(3, 5), __ATOMIC_RELAXED));
+    WIDELY(__tsan_atomic128_compare_exchange_val(at, WIDE(3, 5), WIDE(4, 6), __ATOMIC_RELAXED, __ATOMIC_RELAXED));
+    WIDELY(__tsan_atomic128_compare_exchange_val(at, WIDE(4, 5), WIDE(1, 1), __ATOMIC_RELAXED, __ATOMIC_RELAXED));
+    SWAP_WIDELY(compare_exchange_strong, WIDE(4, 6));
+    SWAP_WIDELY(compare_exchange_strong, WIDE(4, 6));
+    SWAP_WIDELY(compare_exchange_weak, WIDE(4, 7));
+    SWAP_WIDELY(compare_exchange_weak, WIDE(3, 7));
+    putchar('\n');
+}
+
 #define PLAINLY(infix, size)                                 \
     TELL(__tsan_##infix##read##size(place + size));          \
     TELL(__tsan_##infix##write##size(place + size));         \
@@ -152,7 +200,8 @@ static void tell_plain(void)
     putchar('\n');
 }
 
-/* A store that is delayed is out once it is drawn, at one step in four; or if it is the oldest of nine; or before one that isn't delayed. */
+/* A store that is delayed is out once it is drawn, at one step in four; or if it is the oldest of nine; or before one that isn't delayed, the
+   strongest fence, or an access of 16 bytes. */
 static void check_delayed(void)
 {
     static uint64_t words[9];
@@ -171,6 +220,18 @@ static void check_delayed(void)
     }
     __tsan_atomic64_store(&words[8], 8, __ATOMIC_SEQ_CST);
     CHECK(words[7] == 7 && words[8] == 8);
+    how.draws = NOT_DRAWN;
+    __tsan_atomic64_store(&words[0], 9, __ATOMIC_RELEASE);
+    how.draws = NOT_DRAWN;
+    __tsan_atomic_thread_fence(__ATOMIC_ACQ_REL);
+    CHECK(words[0] == 7);
+    how.draws = NOT_DRAWN;
+    __tsan_atomic_thread_fence(__ATOMIC_SEQ_CST);
+    CHECK(words[0] == 9);
+    how.draws = NOT_DRAWN;
+    __tsan_atomic64_store(&words[0], 10, __ATOMIC_RELEASE);
+    __tsan_atomic128_load((wide *)place, __ATOMIC_RELAXED);
+    CHECK(words[0] == 10);
 }
 
 /* Whether a store there is delayed. */
@@ -239,7 +300,9 @@ static void check_forwarded(void)
 int main(void)
 {
     tell_atomics();
+    tell_wide();
     has_model = true;
+    tell_wide();
     for (int i = TMWATCH_FAILS; i <= TMWATCH_TAKES_NEWEST; i++) {
         compared = (enum tmwatch_compared)i;
         is_newest = compared == TMWATCH_TAKES_NEWEST;
