@@ -152,8 +152,11 @@ wide __tsan_atomic128_compare_exchange_val(volatile wide *at, wide held, wide va
 static void tell_wide(void)
 {
     wide *at = (wide *)place;
-    *at = (uintptr_t)at;
-    CHECK(__tsan_atomic128_load(at, __ATOMIC_RELAXED) == (uintptr_t)at && *at == (uintptr_t)at);
+    uint64_t values[] = {0, 1, (uintptr_t)at};
+    for (int i = 0; i < 3; i++) {
+        *at = values[i];
+        CHECK(__tsan_atomic128_load(at, __ATOMIC_RELAXED) == values[i] && *at == values[i]);
+    }
     TELL(__tsan_atomic128_store(at, WIDE(3, 5), __ATOMIC_RELAXED));
     WIDELY(__tsan_atomic128_load(at, __ATOMIC_RELAXED));
     CHANGE_WIDELY(exchange, WIDE(7, 9));
