@@ -108,7 +108,8 @@ said_of_words() {
     for words in 'none right 10 10' 'reads late-call 2 1' 'commit late-request 2 1' 'place early-commit 2 1' 'none at-end 2 1' 'none late-abort 2 1' \
         'none no-abort 2 1' 'none right 10' 'none left 10 10' 'no right 10 10'; do
         read -r -a words <<<"$words"
-        "$folder/alone" "${words[@]}" 2>&1 >"$folder/trace" || echo $?
+        "$folder/alone" "${words[@]}" >"$folder/trace" 2>"$folder/said" || echo $?
+        cat "$folder/said"
         cksum <"$folder/trace"
     done
     "$folder/alone" none right 9 1 >/dev/full || echo $?
