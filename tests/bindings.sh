@@ -33,6 +33,10 @@ ends 'the pages' 0 env TMWATCH_LIB="$library" "$cargo" doc --offline --locked
 ends 'a program on the bench' 0 env TMWATCH_LIB="$library" "$cargo" run --offline --locked --release --example lock -- --schedule steps \
     --rounds 500
 has_told 'a program on the bench: no rescue' '"rescues":0,"rounds":500,'
+# (each pause is a step)
+ends 'a program of one thread' 0 env TMWATCH_LIB="$library" "$cargo" run --offline --locked --release --example lock -- --schedule steps --rounds 20 \
+    --threads 1 --aborts 50
+has_told 'a program of one thread: its steps' '"steps":325,'
 # A memory that uses tmwatch::sync, by the orders of C++20: the right one, and ones with an order too weak, whose lines are told.
 in_order() {
     TMWATCH_LIB=$library CARGO_PROFILE_RELEASE_DEBUG=1 "$cargo" run --offline --locked --release --example sequence --features steps -- \
