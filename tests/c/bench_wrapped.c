@@ -234,6 +234,7 @@ int main(void)
         begin_making(&many[i]);
     for (int i = 0; i < MOST_MADE; i++)
         CHECK(*find_made(&many[i]) == &many[i]);
+    CHECK(find_made(&many[MOST_MADE]) == &made_now[MOST_MADE]);
     CHECK(!tmwatch_step_unwrapped());
     return 0;
 }
