@@ -199,7 +199,7 @@ long __real_syscall(long number, ...)
 
 int main(void)
 {
-    static const int many[MOST_MADE + 1];
+    static const int many[MOST_MADE + 2];
     pthread_mutex_t *lock = (void *)objects[0];
     EACH(TELL)
     IN_MODES(__cxa_guard_acquire, begin_making(objects[0]); objects[0][0] = mode != FREE;
@@ -230,11 +230,11 @@ int main(void)
     IN_MODES(tmwatch_lock_taken, tmwatch_lock_taken(objects[0]));
     IN_MODES(tmwatch_lock_returning, tmwatch_lock_returning(objects[0]));
     IN_MODES(tmwatch_lock_returned, tmwatch_lock_returned(objects[0]));
-    for (int i = 0; i < MOST_MADE + 1; i++)
+    for (int i = 0; i < MOST_MADE + 2; i++)
         begin_making(&many[i]);
     for (int i = 0; i < MOST_MADE; i++)
         CHECK(*find_made(&many[i]) == &many[i]);
-    CHECK(find_made(&many[MOST_MADE]) == &made_now[MOST_MADE]);
+    CHECK(find_made(&many[MOST_MADE + 1]) == &made_now[MOST_MADE]);
     CHECK(!tmwatch_step_unwrapped());
     return 0;
 }
