@@ -211,8 +211,8 @@ int main(void)
     TELL_VOID(__cxa_guard_release, (void *)objects[0]);
     CHECK(*find_made(objects[0]) != objects[0]);
     TELL_VOID(__cxa_guard_abort, (void *)objects[0]);
-    for (int i = 0; i < 3; i++) {
-        makes = i > 0;
+    for (int i = 0; i < 4; i++) {
+        makes = i == 1 || i == 2;
         IN_MODES(pthread_once, nests = i == 2; printf(" = %d", __wrap_pthread_once((void *)objects[0], make)));
         TELL_VOID(call_once, (void *)objects[0], make);
     }
