@@ -44,7 +44,7 @@ TOP = os.path.dirname(os.path.dirname(os.path.realpath(__file__)))
 LANGUAGES = {".c": "c", ".h": "c", ".rs": "rust", ".rt": "rust", ".py": "python", ".sh": "shell"}
 STRING = r'"(?:\\.|[^"\\])*"'
 SKIPPED = {
-    "c": r"//[^\n]*|/\*.*?\*/|^[ \t]*\#(?:\\\n|[^\n])*",
+    "c": r"//[^\n]*|/\*.*?\*/|^[ \t]*\#define \w+\([^)]*\)|^[ \t]*\#(?!define \w+\()(?:\\\n|[^\n])*",
     "rust": r"//[^\n]*|/\*.*?\*/|\#!?\[[^\]]*\]",
     "python": r'"""(?:.|\n)*?"""|\#[^\n]*',
     "shell": r"(?<![\w$\{\\(?*])\#[^\n]*|^[ ]*(?:set|shift|trap) [^\n]*",
@@ -176,7 +176,8 @@ def dropped_statements(text, tokens, language):
     """A statement of one line, with nothing or a word that does nothing in its place."""
     nothing = {"c": ";", "rust": "", "python": "pass", "shell": ":"}[language]
     places, before = {token.at for token in tokens}, ";"
-    for found in re.finditer(r"^([ ]+)(\S.*)$", text, re.MULTILINE):
+    lines = r"^([ ]+)(\S.*?)(?: *\\)?$" if language == "c" else r"^([ ]+)(\S.*)$"
+    for found in re.finditer(lines, text, re.MULTILINE):
         line, is_code = found[2], found.start(2) in places
         is_whole = before[-1:] in ";{}:)" or before.endswith(("else", "then", "do", "*/")) or language in ("python", "shell")
         is_headed = re.match(r"(return|if|else|for|while|until|do|done|fi|case|esac|elif|def|class|with|try|except|break|continue|then)\b", line)

@@ -33,6 +33,10 @@ ends 'the pages' 0 env TMWATCH_LIB="$library" "$cargo" doc --offline --locked
 ends 'a program on the bench' 0 env TMWATCH_LIB="$library" "$cargo" run --offline --locked --release --example lock -- --schedule steps \
     --rounds 500
 has_told 'a program on the bench: no rescue' '"rescues":0,"rounds":500,'
+# (each pause is a step)
+ends 'a program of one thread' 0 env TMWATCH_LIB="$library" "$cargo" run --offline --locked --release --example lock -- --schedule steps --rounds 20 \
+    --threads 1 --aborts 50
+has_told 'a program of one thread: its steps' '"steps":325,'
 # A memory that uses tmwatch::sync, by the orders of C++20: the right one, and ones with an order too weak, whose lines are told.
 in_order() {
     TMWATCH_LIB=$library CARGO_PROFILE_RELEASE_DEBUG=1 "$cargo" run --offline --locked --release --example sequence --features steps -- \
@@ -45,6 +49,8 @@ cp -r "$top/bindings/rust" "$folder/rust"
 cd "$folder/rust"
 sed -i 's/println!("cargo:rustc-link-arg-{kind}={}", wraps(&folder));/let _ = (kind, wraps(\&folder));/' build.rs
 ends 'no words for the linker: planted' 1 cmp -s "$top/bindings/rust/build.rs" build.rs
+ends 'a mutex of tmwatch::sync without them' 0 env TMWATCH_LIB="$library" "$cargo" test --offline --locked --release --features steps --test sync \
+    orders_are_seen
 for change in 's/sequence.load(Acquire)/sequence.load(Relaxed)/' 's/^        fence(Acquire);//' 's/^        fence(Release);//' \
     's/snapshot + 2, Release/snapshot + 2, Relaxed/'; do
     sed "$change" "$top/bindings/rust/examples/sequence.rs" >examples/sequence.rs

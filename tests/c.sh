@@ -102,6 +102,24 @@ ends 'a full recorder compiles' 0 "$cc" -std=gnu11 "${strict[@]}" -o "$folder/re
 ends 'a full recorder' 0 diff "$top/tests/c/recorded.lines" "$folder/lines"
 ends 'one event too many' 134 "$folder/recorded" more
 has_told 'one event too many: what is told' -x 'recorder: no room for the event'
+# What it makes of its words, with one thread: traces, which are the same each time, and what it says of wrong ones.
+said_of_words() {
+    local words
+    for words in 'none right 10 10' 'reads late-call 2 1' 'commit late-request 2 1' 'place early-commit 2 1' 'none at-end 2 1' 'none late-abort 2 1' \
+        'none no-abort 2 1' 'none right 10' 'none left 10 10' 'no right 10 10'; do
+        read -r -a words <<<"$words"
+        "$folder/alone" "${words[@]}" >"$folder/trace" 2>"$folder/said" || echo $?
+        cat "$folder/said"
+        cksum <"$folder/trace"
+    done
+    "$folder/alone" none right 9 1 >/dev/full || echo $?
+}
+ends 'one thread compiles' 0 "$cc" -std=gnu11 "${strict[@]}" -DTHREADS=1 -o "$folder/alone" "$top/examples/recorders/little.c"
+ends 'one thread: what it makes of its words' 0 diff "$top/tests/c/little.lines" <(said_of_words)
+# In each placing, right and wrong, an event is recorded before or after what the memory does, as it was.
+ends 'placings compile' 0 "$cc" -std=gnu11 "${strict[@]}" -o "$folder/placed" "$top/tests/c/placed.c"
+"$folder/placed" >"$folder/lines"
+ends 'where each placing records' 0 diff "$top/tests/c/placed.lines" "$folder/lines"
 # The bench is compiled here, so that the flags reach it too.
 bench=(-DTMWATCH_PAUSES "$folder/lib/libtmwatch_bench.a" "${static[@]}" "$waits")
 

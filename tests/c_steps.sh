@@ -44,6 +44,15 @@ ends 'parts of the bench compile' 0 "$cc" "${strict[@]}" -o "$folder/parts" "$to
 [ "${FLAGS:-}" = -fsanitize=thread ] || ends 'parts of the bench' 0 "$folder/parts"
 ends 'blocks that are given back compile' 0 "$cc" "${strict[@]}" -o "$folder/blocks" "$top/tests/c/bench_blocks.c"
 ends 'blocks that are given back' 0 "$folder/blocks"
+# What marked accesses and wrapped functions ask of the steps, the model and the C library. (ThreadSanitizer has functions of those names.)
+by_themselves() {
+    ends "$1 by themselves compile" 0 "$cc" "${strict[@]}" -o "$folder/$1" "$top/tests/c/bench_$1.c" "${@:2}"
+    ends "$1 by themselves" 0 sh -c '"$1" >"$2" && diff "$2" "$3"' sh "$folder/$1" "$folder/lines" "$top/tests/c/bench_$1.lines"
+}
+if [ "${FLAGS:-}" != -fsanitize=thread ]; then
+    by_themselves wrapped
+    by_themselves accesses "$top/bench-c/instrumented/accesses_16.c"
+fi
 paused norec examples/c/norec.c NONE
 paused norec_READS examples/c/norec.c READS
 paused tl2 tests/c/bench_tl2.c NONE

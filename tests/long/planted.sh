@@ -59,7 +59,7 @@ plant_model() {
     local files=(clocks delayed findings lines model places races sequence simulation)
     files=("${files[@]/#/bench-c/instrumented/orders/}")
     # shellcheck disable=SC2016
-    planted model --build "$compile"' -c -o "$OBJECT" bench-c/instrumented/orders.c' "${files[@]/%/.c}" -- sh -c '
+    planted model --build "$compile"' -c -o "$OBJECT" bench-c/instrumented/orders.c' --then 'tests/orders.sh --model' "${files[@]/%/.c}" -- sh -c '
         for test in told plain delayed litmus "exact 2000" "random 50000"; do
             cc -std=c11 -g -O1 -w -Iinclude -o model "tests/orders/${test%% *}.c" && ./model "${test#* }" || exit
         done
@@ -73,7 +73,8 @@ plant_model() {
 plant_rust() {
     local files=(sync/atomic sync/mutex bench ffi retrying told watch) build='cd bindings/rust && cargo test --offline --locked'
     files=("${files[@]/#/bindings/rust/src/}")
-    planted rust --build "$build --no-run && cargo test --offline --locked --release --features steps --no-run" "${files[@]/%/.rs}" -- \
+    planted rust --build "$build --no-run && cargo test --offline --locked --release --features steps --no-run" \
+        --then tests/bindings.sh "${files[@]/%/.rs}" -- \
         sh -c "$build --release --features steps && cargo test --offline --locked"
 }
 plant_ci() {
@@ -96,6 +97,7 @@ plant_recorders() {
     # shellcheck disable=SC2016
     planted recorders --build "${compile/c11/gnu11}"' -pthread -o "$OBJECT" examples/recorders/little.c &&
         rustc --edition 2021 -O -o "$OBJECT.rs" examples/recorders/little.rs && cat "$OBJECT.rs" >>"$OBJECT"' \
+        --then 'cc -std=gnu11 -pthread -Iinclude -o placed tests/c/placed.c && ./placed | diff tests/c/placed.lines -' \
         examples/recorders/{little.c,little.rs,recorder.rs} -- env PROGRAM="$program" RUNS=1 ROUNDS=500 tests/long/recorders.sh
 }
 plant_lines() {

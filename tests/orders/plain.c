@@ -219,6 +219,10 @@ static void check_unmarked(void)
         words[X] = 7;
         CHECK(makes(1, READ, X, 0, RELAXED) == 7 && orders->unseen[UNMARKED_STORE]);
         begin();
+        makes(0, READ, X, 0, RELAXED);
+        words[X] = 7;
+        CHECK(makes(1, READ, X, 0, RELAXED) == 7 && orders->unseen[UNMARKED_STORE]);
+        begin();
         makes(0, WRITE, X, 1, RELAXED);
         stores(0, (const void *)(uintptr_t)&words[X], 8);
         words[X] = 7;
@@ -231,17 +235,43 @@ static void check_unmarked(void)
     }
 }
 
-/* A thread that loads again and again gets the newest value in the end. */
+/* What code that isn't marked stores releases nothing. */
+static void check_unreleased(void)
+{
+    for (unsigned i = 0; i < 2; i++) {
+        begin();
+        tmwatch_access wide = {orders, 0, words, words, 16, RELAXED};
+        stores(0, bytes, 8);
+        if (i > 0)
+            tmwatch_orders_wide(&wide);
+        makes(0, READ, X, 0, RELAXED);
+        words[X] = 7;
+        CHECK(makes(1, READ, X, 0, ACQUIRE) == 7);
+        loads(1, bytes, 8);
+        CHECK(orders->has_race);
+    }
+}
+
+/* A thread that loads again and again gets the newest value in the end: as late at first and in a later history. */
 static void check_stale_end(void)
 {
-    for (unsigned i = 0; i < 1000; i++) {
+    unsigned most[2] = {0};
+    for (unsigned i = 0; i < 4000; i++) {
         begin();
-        makes(0, WRITE, X, 1, RELAXED);
-        unsigned stale = 0;
-        while (stale <= MOST_STALE && makes(1, READ, X, 0, RELAXED) == 0)
-            stale++;
-        CHECK(stale <= MOST_STALE);
+        for (unsigned history = 0; history < 2; history++) {
+            makes(0, WRITE, X, 1, RELAXED);
+            unsigned stale = 0;
+            while (stale < MOST_STALE && makes(1, READ, X, 0, RELAXED) == 0)
+                stale++;
+            most[history] = stale > most[history] ? stale : most[history];
+            if (stale < MOST_STALE)
+                break;
+            CHECK(history == 0 || makes(1, READ, X, 0, RELAXED) == 1);
+            tmwatch_orders_forget(orders, words, sizeof words);
+            words[X] = 0;
+        }
     }
+    CHECK(most[0] == MOST_STALE && most[1] == MOST_STALE);
 }
 
 enum { AROUND = 2, MOST_BYTES = (FEW_WORDS + MOST_WORDS) * WORD_BYTES };
@@ -539,6 +569,7 @@ int main(void)
     check_ordered();
     check_atomic();
     check_unmarked();
+    check_unreleased();
     check_stale_end();
     check_blocks();
     check_cells();

@@ -491,6 +491,23 @@ mod tests {
     }
 
     #[test]
+    fn a_transaction_is_taken_once() {
+        let mut slot = Slot { is_live: false, transaction: MaybeUninit::uninit() };
+        let mut refuses = |call: fn(&mut Slot<Box<u64>>) -> u64, value| {
+            if let Some(value) = value {
+                slot.set(Box::new(value));
+            }
+            let ended = std::panic::catch_unwind(std::panic::AssertUnwindSafe(|| call(&mut slot)));
+            ended.map_err(|it| *it.downcast::<&str>().unwrap())
+        };
+        for value in [None, Some(1), None] {
+            let held = value.ok_or("no transaction is live");
+            assert_eq!(refuses(|it| **it.live(), value), held);
+            assert_eq!(refuses(|it| *it.take(), None), held);
+        }
+    }
+
+    #[test]
     fn what_was_not_written_is_no_text() {
         let written = |full: bool, flush: bool| {
             let it = Stream::open()?;

@@ -288,38 +288,47 @@ fn a_plan_out_of_range_is_refused() {
     assert!(bench(&Sequence::new(false), &Plan { rounds: 5, attempts: 8, schedule: Schedule::Permits, ..Plan::default() }).is_ok());
 }
 
-/// A transaction that is aligned to more than what the bench gives.
+/// Transactions that are aligned to what the bench gives, and to more.
+#[derive(Default)]
+#[repr(align(16))]
+struct Narrow;
+#[derive(Default)]
 #[repr(align(32))]
 struct Wide;
 
-struct Aligned;
+struct Aligned<T>(std::marker::PhantomData<fn() -> T>);
 
-impl Memory for Aligned {
-    type Transaction<'m> = Wide;
+impl<T: Default + 'static> Memory for Aligned<T> {
+    type Transaction<'m> = T;
 
-    fn begin(&self) -> Result<Wide, Aborted> {
-        Ok(Wide)
+    fn begin(&self) -> Result<T, Aborted> {
+        Ok(T::default())
     }
 
-    fn read(&self, _: &mut Wide, _: usize) -> Result<u64, Aborted> {
+    fn read(&self, _: &mut T, _: usize) -> Result<u64, Aborted> {
         Ok(0)
     }
 
-    fn write(&self, _: &mut Wide, _: usize, _: u64) -> Result<(), Aborted> {
+    fn write(&self, _: &mut T, _: usize, _: u64) -> Result<(), Aborted> {
         Ok(())
     }
 
-    fn commit(&self, _: Wide) -> Result<(), Aborted> {
+    fn commit(&self, _: T) -> Result<(), Aborted> {
         Ok(())
     }
 
-    fn abort(&self, _: Wide) {}
+    fn abort(&self, _: T) {}
 }
 
 #[test]
-#[should_panic(expected = "aligns")]
+fn an_aligned_transaction_is_taken() {
+    assert!(bench(&Aligned::<Narrow>(Default::default()), &Plan { rounds: 1, ..Plan::default() }).is_ok());
+}
+
+#[test]
+#[should_panic(expected = "the bench aligns a transaction as malloc does")]
 fn a_wide_transaction_is_refused() {
-    let _ = bench(&Aligned, &Plan { rounds: 1, ..Plan::default() });
+    let _ = bench(&Aligned::<Wide>(Default::default()), &Plan { rounds: 1, ..Plan::default() });
 }
 
 /// A lock that is tried, and that thread 1 keeps after some commits.
@@ -422,7 +431,7 @@ fn each_number_is_passed_on() {
     let benched = bench(&Racing::default(), &Plan { threads: 3, registers: 2, attempts: 1, ..numbers }).unwrap();
     let words = "--threads 3 --registers 2 --calls 2 --writes 77 --adds 11 --aborts 9 --pause 7 --mixes 33 --blinds 5 --attempts 1 --plain";
     assert_eq!(benched.again, format!("--seed 6 --round {} {words}", benched.rounds));
-    assert!(benched.is_certain && benched.event > 0);
+    assert!(benched.is_certain && benched.event > 0 && benched.trace.is_none());
     // There are no words for a start.
     let start = [7, 0, 0, 0, 0, 0, 0, 0];
     let memory = Racing(std::array::from_fn(|k| AtomicU64::new(start[k])));

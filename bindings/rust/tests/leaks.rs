@@ -1,7 +1,7 @@
-//! What the package takes it gives back: a watch and recorders that are dropped in either order, and a bench that is refused. Alone in its
-//! program, so that no other test's blocks are counted.
+//! What the package takes it gives back: a watch and recorders that are dropped in either order, a bench that is refused, and one that runs.
+//! Alone in its program, so that no other test's blocks are counted.
 
-use tmwatch::{bench, Aborted, Event, Memory, Plan, Settings, Status, Watch};
+use tmwatch::{bench, Aborted, Event, Memory, Plan, Schedule, Settings, Status, Watch};
 
 /// The part of the C library's `struct mallinfo2` that is looked at.
 #[repr(C)]
@@ -37,25 +37,26 @@ fn growth(mut does: impl FnMut()) -> usize {
     taken().saturating_sub(before)
 }
 
-struct Idle;
+/// Holds zeros.
+struct Zeros;
 
-impl Memory for Idle {
+impl Memory for Zeros {
     type Transaction<'m> = ();
 
     fn begin(&self) -> Result<(), Aborted> {
-        Err(Aborted)
+        Ok(())
     }
 
     fn read(&self, _: &mut (), _: usize) -> Result<u64, Aborted> {
-        Err(Aborted)
+        Ok(0)
     }
 
     fn write(&self, _: &mut (), _: usize, _: u64) -> Result<(), Aborted> {
-        Err(Aborted)
+        Ok(())
     }
 
     fn commit(&self, _: ()) -> Result<(), Aborted> {
-        Err(Aborted)
+        Ok(())
     }
 
     fn abort(&self, _: ()) {}
@@ -79,7 +80,12 @@ fn all_is_given_back() {
     });
     let refused = growth(|| {
         let plan = Plan { threads: 9, trace: true, ..Plan::default() };
-        assert_eq!(bench(&Idle, &plan).unwrap_err(), Status::BadSize);
+        assert_eq!(bench(&Zeros, &plan).unwrap_err(), Status::BadSize);
     });
-    assert!(watch_first < FEW && recorders_first < FEW && refused < FEW, "{watch_first} {recorders_first} {refused}");
+    let traced = growth(|| {
+        let plan = Plan { rounds: 20, writes: 0, adds: 0, blinds: 0, schedule: Schedule::Steps, trace: true, ..Plan::default() };
+        assert!(bench(&Zeros, &plan).unwrap().trace.unwrap().len() > 1000);
+    });
+    let all = [watch_first, recorders_first, refused, traced];
+    assert!(all.iter().all(|it| *it < FEW), "{all:?}");
 }

@@ -364,6 +364,54 @@ fn orders_are_seen_with_the_feature_alone() {
     assert!(wrong.shown.contains("stale load"), "{}", wrong.shown);
 }
 
+/// A mutex that is only tried. It counts how often it was free, and how often held, while the other thread was giving it back.
+#[cfg(feature = "steps")]
+#[derive(Default)]
+struct Returned {
+    mutex: Mutex<()>,
+    returns: [plain::AtomicU64; 2],
+    free: plain::AtomicU64,
+    held: plain::AtomicU64,
+}
+#[cfg(feature = "steps")]
+struct ReturnedGuard<'l>(Option<tmwatch::sync::MutexGuard<'l, ()>>, &'l plain::AtomicU64);
+
+#[cfg(feature = "steps")]
+impl Lock for Returned {
+    type Guard<'l> = ReturnedGuard<'l>;
+    fn lock(&self) -> ReturnedGuard<'_> {
+        let (own, other) = (&self.returns[tmwatch::thread()], &self.returns[1 - tmwatch::thread()]);
+        loop {
+            let before = other.load(SeqCst);
+            let tried = self.mutex.try_lock();
+            if before % 2 == 1 && other.load(SeqCst) == before {
+                if tried.is_ok() { &self.free } else { &self.held }.fetch_add(1, SeqCst);
+            }
+            if let Ok(guard) = tried {
+                return ReturnedGuard(Some(guard), own);
+            }
+        }
+    }
+}
+
+#[cfg(feature = "steps")]
+impl Drop for ReturnedGuard<'_> {
+    fn drop(&mut self) {
+        self.1.fetch_add(1, SeqCst);
+        self.0 = None;
+        self.1.fetch_add(1, SeqCst);
+    }
+}
+
+#[test]
+#[cfg(feature = "steps")]
+fn a_mutex_is_free_at_the_step_at_which_it_is_given_back() {
+    let memory = Global { lock: Returned::default(), words: Default::default() };
+    bench(&memory, &Plan { rounds: 200, threads: 2, schedule: Schedule::Steps, ..Plan::default() }).unwrap();
+    assert!(memory.lock.free.load(SeqCst) > 0);
+    assert_eq!(memory.lock.held.load(SeqCst), 0);
+}
+
 /// Whether a lock orders what it guards.
 #[cfg(feature = "steps")]
 fn holds(taken: By, given: By) -> bool {
