@@ -33,8 +33,8 @@ pub fn search(criterion: Criterion, kept: &mut HistoryDigest) -> OutcomeCheck
     }
 }
 
-/// Weighs the events of a window at a cut, from the outcomes at its beginning. The set becomes that of the outcomes at the cut,
-/// if these are at most `cap`, and the window is cleared.
+/// Weighs the events of a window at a cut, from the outcomes at its beginning. If there are outcomes at the cut, at most `cap`, the set
+/// becomes theirs and the window is cleared, and else the window stays.
 pub fn close(criterion: Criterion, kept: &mut HistoryDigest, cap: u8) -> OutcomeCheck
     requires { cap ≤ 64 }
     ensures tells { (quiet : Bool) (events : List Event)
@@ -90,8 +90,8 @@ fn close_searched(criterion: Criterion, kept: &mut HistoryDigest, cap: u8) -> Ou
     OutcomeCheck::Outcome
 }
 
-/// Weighs by strict serializability the events of a window at a cut, which is kept with the outcomes at its beginning. The set becomes
-/// that of the outcomes at the cut, if these are at most `cap`.
+/// Weighs by strict serializability the events of a window at a cut, whose outcomes at its beginning `kept` has. The set becomes that of
+/// the outcomes at the cut, if these are at most `cap`.
 pub fn close_strictly(
     kept: &HistoryDigest,
     states: &mut States,
@@ -101,7 +101,7 @@ pub fn close_strictly(
     requires cap { cap ≤ 64 }
     requires room { HasRoom states.old }
     ensures tells { (events : List Event) → StandsFor kept.now.window events
-        → IsTrue (is_cut events) → length (members kept.now.states) ≤ 65
+        → length (members kept.now.states) ≤ 65
         → TellsEnds Strict kept.now.states cap events states.new result }
     ensures room { HasRoom states.new }
 {
@@ -124,8 +124,8 @@ fn have_committed(items: &[Txn]) -> bool
         .all(|item| matches!(item.status, Status::Committed))
 }
 
-/// Tells whether opacity has all these outcomes, which strict serializability has at a cut: if all have committed, or if there is one
-/// alone and opacity has one.
+/// Returns `true` only if opacity has all these outcomes, which strict serializability has at a cut: if all have committed, or if there is
+/// one alone and opacity has one.
 fn has_all(kept: &HistoryDigest, outcomes: &States) -> bool
     ensures { IsTrue result → (cap : ℕ) (events : List Event) → StandsFor kept.now.window events
         → Witnesses (members kept.now.states) (views_of events) kept.now.witness
@@ -139,8 +139,8 @@ fn has_all(kept: &HistoryDigest, outcomes: &States) -> bool
     have_committed(kept.window.transactions())
 }
 
-/// Weighs by opacity the events of a window at a cut, where this was found of them by strict serializability, with these outcomes. The
-/// set becomes that of the outcomes at the cut, if these are at most `cap`, and the window is cleared.
+/// Weighs by opacity the events of a window at a cut, where this was found of them by strict serializability, with these outcomes. If
+/// there are outcomes at the cut, at most `cap`, the set becomes theirs and the window is cleared, and else the window stays.
 pub fn close_opaquely(
     kept: &mut HistoryDigest,
     outcomes: &States,

@@ -1,6 +1,6 @@
 -- From each start that meets what the reads need, committed and aborted transactions that force their end lead to the known end, with what
 -- the start holds where none writes.
-use Rattle.tmw_search.proofs.Shared.{Adds, AddsFits, AreAlike, AreForced, Completes, Contains, Criterion, Effect, EndsBy, Event, HaveEight, IfSome, In, IsOverlaid, IsRow, IsTrue, List, MatchOption, Meets, Needs, NeedsOfStart, None, Option, ShowWriters, ShowsNeeds, ShowsStatus, Some, State, Status, TakesNeeds, Txn, View, [], and_le_r, and_parts, ap, arith, bit_and, bit_at, bit_at_ones, bit_or, cases_lt, contains_none, effects, eq-eqb, get_or, get_or_default, has_asked, inl, inr, is_cut, is_ended, is_over, is_pending, length, length-map, list_all, list_all-remove, map, orderly, refl, slice_get, slice_index, status_of, subst, suc, sym, transactions, true, view, views_of, zero, ℕ, ◌%◌, ◌*◌, ◌+◌, ◌-◌, ◌<◌, ◌^◌, ◌↔◌, ◌∙◌, ◌≡◌, ◌≤◌, ◌⊎◌}
+use Rattle.tmw_search.proofs.Shared.{Adds, AddsForced, AreAlike, AreForced, Completes, Contains, Criterion, Effect, EndsBy, Event, HaveEight, IfSome, In, IsOverlaid, IsRow, IsTrue, List, MatchOption, Meets, Needs, NeedsOfStart, None, Option, ShowWriters, ShowsNeeds, ShowsStatus, Some, State, Status, TakesNeeds, Txn, View, [], and_le_r, and_parts, ap, arith, bit_and, bit_at, bit_at_ones, bit_or, cases_lt, contains_none, effects, eq-eqb, get_or, get_or_default, has_asked, inl, inr, is_cut, is_ended, is_over, is_pending, length, length-map, list_all, list_all-remove, map, orderly, refl, slice_get, slice_index, status_of, subst, suc, sym, transactions, true, view, views_of, zero, ℕ, ◌%◌, ◌*◌, ◌+◌, ◌-◌, ◌<◌, ◌^◌, ◌↔◌, ◌∙◌, ◌≡◌, ◌≤◌, ◌⊎◌}
 use Rattle.tmw_search.specs.declared.forced_ends.StartNeeds.{StartNeeds}
 use Rattle.tmw_search.proofs.AllCompletions.{RankedEnd, leads-of, start-same}
 use Rattle.tmw_search.proofs.Bits.{bit_cases, masks}
@@ -21,7 +21,7 @@ upto-all starts n all s = (
   λ (i, within, is). (i, omega (arith, within, all), sym (get_or_default starts i s [] within) ∙ is),
 )
 
-pub fits-none : {needs : StartNeeds} {writers : List ℕ} {end : State} {old : List State} (starts : List State) → AddsFits needs writers end (Upto starts 0) old old
+pub fits-none : {needs : StartNeeds} {writers : List ℕ} {end : State} {old : List State} (starts : List State) → AddsForced needs writers end (Upto starts 0) old old
 fits-none starts = record {
   only = λ e has. inl has;
   kept = λ e has. has;
@@ -29,8 +29,8 @@ fits-none starts = record {
 }
 
 pub fits-next : {needs : StartNeeds} {writers : List ℕ} {end z : State} {old mid new : List State} (starts : List State) (n : ℕ)
-    → AddsFits needs writers end (Upto starts n) old mid → Meets needs (get_or starts n []) → Adds true mid new (λ e. e ≡ z)
-    → IsOverlaid writers (get_or starts n []) end z → AddsFits needs writers end (Upto starts (n + 1)) old new
+    → AddsForced needs writers end (Upto starts n) old mid → Meets needs (get_or starts n []) → Adds true mid new (λ e. e ≡ z)
+    → IsOverlaid writers (get_or starts n []) end z → AddsForced needs writers end (Upto starts (n + 1)) old new
 fits-next {writers = writers} {end = end} {z = z} starts n a meets b o = record {
   only = λ e has. elim (b.only e has) [
     | inr same ↦ inr (get_or starts n [], (n, omega arith, refl), meets, subst (λ (x : State). IsOverlaid writers (get_or starts n []) end x) (sym same) o)
@@ -49,8 +49,8 @@ fits-next {writers = writers} {end = end} {z = z} starts n a meets b o = record 
 }
 
 pub fits-past : {needs : StartNeeds} {writers : List ℕ} {end : State} {old new : List State} (starts : List State) (n : ℕ)
-    → AddsFits needs writers end (Upto starts n) old new → (Meets needs (get_or starts n []) → ⊥)
-    → AddsFits needs writers end (Upto starts (n + 1)) old new
+    → AddsForced needs writers end (Upto starts n) old new → (Meets needs (get_or starts n []) → ⊥)
+    → AddsForced needs writers end (Upto starts (n + 1)) old new
 fits-past starts n a never = record {
   only = λ e has. elim (a.only e has) [
     | inl before ↦ inl before
@@ -97,7 +97,7 @@ alike-all needs starts n None all never = ([], λ s has m. absurd (never s ((upt
 alike-all needs starts n (Some x) all alike = (x, λ s has. alike s ((upto-all starts n all s).1 has))
 
 pub fits-all : {needs : StartNeeds} {writers : List ℕ} {end : State} {old new : List State} (starts : List State) (n : ℕ) → n ≡ length starts
-    → AddsFits needs writers end (Upto starts n) old new → AddsFits needs writers end (Contains starts) old new
+    → AddsForced needs writers end (Upto starts n) old new → AddsForced needs writers end (Contains starts) old new
 fits-all starts n all a = record {
   only = λ e has. elim (a.only e has) [
     | inl before ↦ inl before
@@ -236,7 +236,7 @@ module _ (criterion : Criterion) (items : List cuts.Txn) (events : List Event) (
 
   pub forced-ends : (starts found : List State) (writers : List ℕ) (end : State) → ((i : ℕ) → i < length starts → length (get_or starts i []) ≡ 8)
       → ShowWriters (effects items) committed writers → AreForced (map view items) → map view items ≡ views_of events
-      → IsTrue (list_all (λ t. is_ended t.text) (transactions events)) → AddsFits needs writers end (Contains starts) [] found
+      → IsTrue (list_all (λ t. is_ended t.text) (transactions events)) → AddsForced needs writers end (Contains starts) [] found
       → AreAlike needs (Contains starts) → EndsBy criterion (Contains starts) (transactions events) end
       → (e : State) → Contains found e ↔ EndsBy criterion (Contains starts) (transactions events) e
   forced-ends starts found writers end sizes writes forced shown ended adds alike known e =

@@ -24,6 +24,7 @@ pub use Rattle.tmw_cuts.specs.declared.window.Window.{Window}
 pub use Rattle.tmw_defs.proofs.Places.{Lies, lies-add, lies-transactions}
 pub use Rattle.tmw_defs.proofs.Removals.{length-taken, list_all-places, list_all-remove}
 pub use Rattle.tmw_defs.proofs.Weaker.{ends-by}
+pub use Rattle.tmw_defs.specs.Counts.{is_committed}
 pub use Rattle.tmw_defs.specs.Criteria.{EndsBy, ExplainsBy, LeadsBy}
 pub use Rattle.tmw_defs.specs.Cuts.{is_cut}
 pub use Rattle.tmw_defs.specs.History.{Txn, add_event, is_ended, is_over, operations, status_of, transactions, transactions_from}
@@ -37,12 +38,12 @@ pub use Rattle.tmw_defs.specs.declared.op.Op.{Op}
 pub use Rattle.tmw_defs.specs.declared.status.Status.{Status}
 pub use Rattle.tmw_events.specs.declared.event.Event.{Event}
 pub use Rattle.tmw_search.specs.EndStates.{AreEnds, EndsOf, Replaces, TellsEnd}
-pub use Rattle.tmw_search.specs.ForcedEnds.{AddsFits, AreAlike, IsOverlaid, Meets, NeedsOfStart, ShowsNeeds, TakesNeeds}
+pub use Rattle.tmw_search.specs.ForcedEnds.{AddsForced, AreAlike, IsOverlaid, Meets, NeedsOfStart, ShowsNeeds, TakesNeeds}
 pub use Rattle.tmw_search.specs.LastWriters.{Adds, AreEndsFrom, ComeBefore, ComesBehind, ComesLast, Completes, EndWith, EndsByMore, EndsByReading, EndsFromAll, IsEndOf, IsPutLast, LeftByOne}
 pub use Rattle.tmw_search.specs.Layers.{Follows, InLayer, IsFirst, LeavesNone, Makes, MakesAt, chosen, pair_cmp}
 pub use Rattle.tmw_search.specs.LegalOrders.{Agree, AreRising, Begins, EndsAt, EndsIn, Explains, HasEight, HaveEight, IsLast, IsRoot, IsRow, IsSerial, Marks, NoneExplains, ReadsAll, Refutes, ShowWriters, ShowsStatus, has_asked, has_committed, members_of, orderly}
 pub use Rattle.tmw_search.specs.NodeOrders.{AllOpen, Entails, FromIs, Gives, HasNone, Holds, In, IsBranch, IsFound, IsLegal, IsNode, IsOnly, IsSound, KeepsOthers, Leaves, LeavesOut, MayBe, MayGive, Needs, NoneMay, Reads, ReadsFrom, ReadsStart, Settles, TakesIn, Writes, effects, idle, left_at, looking, need_at, ordered}
-pub use Rattle.tmw_search.specs.OneEnd.{AreForced, IsForced, is_blind_writer, is_committed, is_writer}
+pub use Rattle.tmw_search.specs.OneEnd.{AreForced, IsForced, is_blind_writer, is_writer}
 pub use Rattle.tmw_search.specs.Precedence.{AllSettled, Before, Chosen, ChosenBy, Has, IfClear, IfStuck, IsBetween, IsOrder, IsOut, IsRanking, IsRead, Joins, Narrows, Out, Passes, SettledBy, SettledSource, Sourced, WithinSource, is_open, lives, opens, room, source_at}
 unfoldable pub use Rattle.tmw_search.specs.Precedence.{room_of}
 pub use Rattle.tmw_search.specs.declared.consequence.Consequence.TheVariants.{Clear, Never, Stuck}

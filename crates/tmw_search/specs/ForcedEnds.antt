@@ -1,4 +1,4 @@
--- What the reads of committed and aborted transactions need of the start of an order, and the ends of the starts that meet it.
+-- What the reads of committed and aborted transactions need of the start of a serial order, and the ends of the starts that meet it.
 use Rattle.tmw_search.specs.Shared.{Contains, Criterion, Effect, EndsBy, Event, Opacity, State, transactions, view, views_of}
 use Rattle.std.specs.Prelude.{IsTrue, List, length, map, slice_index, ℕ, ◌<◌, ◌↔◌, ◌≡◌, ◌≤◌, ◌⊎◌}
 use Rattle.tmw_defs.specs.Cuts.{is_cut}
@@ -24,7 +24,7 @@ pub record ShowsNeeds (xs : List Effect) (held : ℕ) (needs : StartNeeds) : Typ
   pub fixed : (r : ℕ) → r < 8 → In needs.fixed r → NeedsOfStart xs held r (slice_index needs.values r)
   pub all : (j r : ℕ) → j < 8 → r < 8 → Needs xs j r → In needs.fixed r ⊎ In needs.open r
 
--- The other needs are these, and those of the one at the place.
+-- The other needs are these, maybe with more, and those of the one at the place.
 pub record TakesNeeds (xs : List Effect) (held place : ℕ) (old new : StartNeeds) : Type 0 where
   pub fixed : (r : ℕ) → r < 8 → In new.fixed r
       → (In old.fixed r × (slice_index new.values r ≡ slice_index old.values r)) ⊎ NeedsOfStart xs held r (slice_index new.values r)
@@ -46,12 +46,12 @@ pub record IsOverlaid (writers : List ℕ) (base other state : State) : Type 0 w
   pub rest : (r : ℕ) → r < 8 → ((k : ℕ) → k < 8 → In (slice_index writers r) k → ⊥) → slice_index state r ≡ slice_index base r
 
 -- For each state of the set that holds what is needed, it was added with what the end holds where there is a writer, and nothing else was.
-pub record AddsFits (needs : StartNeeds) (writers : List ℕ) (end : State) (S : State → Type 0) (old new : List State) : Type 0 where
+pub record AddsForced (needs : StartNeeds) (writers : List ℕ) (end : State) (S : State → Type 0) (old new : List State) : Type 0 where
   pub only : (e : State) → Contains new e → Contains old e ⊎ ((start : State) × S start × Meets needs start × IsOverlaid writers start end e)
   pub kept : (e : State) → Contains old e → Contains new e
   pub all : (start : State) → S start → Meets needs start → (e : State) × Contains new e × IsOverlaid writers start end e
 
--- Whatever events at a cut the transactions are of, and where this is an end of theirs from one of the starts, by each criterion their ends are
+-- Whatever events at a cut the transactions are of, and where this is an end of theirs by opacity from one of the starts, by each criterion their ends are
 -- these, and at most so many.
 abbrev pub AreForcedEnds : List cuts.Txn → List State → State → ℕ → List State → Type 0
 AreForcedEnds items starts end cap ends = (criterion : Criterion) (events : List Event) → map view items ≡ views_of events → IsTrue (is_cut events)

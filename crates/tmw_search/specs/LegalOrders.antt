@@ -7,8 +7,8 @@ use Rattle.std.specs.Prelude.{Bool, IsTrue, List, Some, bit_or, get_or, length, 
 use Rattle.tmw_search.specs.Precedence.{IsRanking, IsRead, source_at}
 use Rattle.tmw_search.specs.declared.source_choices.ReadSource.TheVariants.{Open}
 use Rattle.tmw_search.specs.NodeOrders.{idle, In, Needs, left_at, Writes, Reads, Leaves}
+use Rattle.tmw_defs.specs.Counts.{is_committed}
 use Rattle.tmw_defs.specs.QuietEvents.{is_pending}
-use Rattle.tmw_search.specs.OneEnd.{is_committed}
 use Rattle.tmw_search.specs.declared.node.Node.{Node}
 use Rattle.tmw_cuts.specs.declared.txn.Txn as cuts
 

@@ -2,7 +2,7 @@
 ghost use Rattle.tmw_search.specs.Shared.{Contains, Criterion, Event, HasRoom, Opacity, StandsFor, State, members, room_of, view};
 ghost use Rattle.std.specs.Prelude.{IfSome, IsFalse, IsTrue, List, Some, length, map, slice_index, true, ℕ, ◌<◌, ◌↔◌, ◌≡◌, ◌≤◌};
 ghost use Rattle.tmw_search.specs.EndStates.{EndsOf, Replaces};
-ghost use Rattle.tmw_search.specs.ForcedEnds.{AddsFits, AreAlike, AreForcedEnds, IsOverlaid, ShowsNeeds, TakesNeeds};
+ghost use Rattle.tmw_search.specs.ForcedEnds.{AddsForced, AreAlike, AreForcedEnds, IsOverlaid, ShowsNeeds, TakesNeeds};
 ghost use Rattle.tmw_search.specs.LegalOrders.{ShowWriters};
 ghost use Rattle.tmw_search.specs.NodeOrders.{In, effects, left_at};
 ghost use Rattle.tmw_search.specs.OneEnd.{AreForced};
@@ -19,21 +19,21 @@ use tmw_events::MOST_REGISTERS;
 /// What the reads of transactions need of the state that their order begins from.
 #[derive(Clone, Copy, Drop)]
 pub struct StartNeeds {
-    /// The registers that a committed transaction reads from the start, since none leaves what it reads there, as a mask.
+    /// Registers that a committed transaction reads from the start, since none leaves what it reads there, as a mask.
     pub fixed: u8,
     /// What it reads there.
     pub values: State,
-    /// The registers of all other reads, as a mask.
+    /// Registers, at least those of all other reads, as a mask.
     pub open: u8,
 }
 
-/// Tells whether one of the mask leaves the value in the register.
-fn is_left(items: &[Txn], mask: u8, register: usize, value: u64) -> bool
+/// Tells whether one of these writers of the register leaves the value there.
+fn is_left(items: &[Txn], writers: u8, register: usize, value: u64) -> bool
     requires { register < 8 }
-    ensures { IsTrue result ↔ ((k : ℕ) × (k < 8) × In mask k
+    ensures { IsTrue result ↔ ((k : ℕ) × (k < 8) × In writers k
         × (left_at (effects items.now) k register ≡ value)) }
 {
-    let mut left = mask;
+    let mut left = writers;
     while left != 0 {
         let place = lowest(left);
         left -= 1 << place;
@@ -101,7 +101,7 @@ fn overlaid(state: &State, other: &State, writers: &[u8; MOST_REGISTERS]) -> Sta
 /// Tells whether the state holds the same as the other, if there is one, in the registers of the mask.
 #[inline(always)]
 fn is_alike(other: &Option<State>, state: &State, mask: u8) -> bool
-    ensures { IsTrue result → IfSome other.now (λ one. (r : ℕ) → r < 8 → In mask r
+    ensures { IsTrue result ↔ IfSome other.now (λ one. (r : ℕ) → r < 8 → In mask r
         → slice_index one r ≡ slice_index state.now r) }
 {
     match other {
@@ -111,15 +111,15 @@ fn is_alike(other: &Option<State>, state: &State, mask: u8) -> bool
 }
 
 /// Adds the end of each start that meets the needs, by one that is known, if these starts hold the same in each register that
-/// is open. Returns whether they do and all were added: they are not too many.
-fn add_fits(
+/// is open. Returns whether they do and all were added.
+fn add_forced(
     starts: &[State],
     needs: &StartNeeds,
     writers: &[u8; MOST_REGISTERS],
     end: &State,
     found: &mut EndSet,
 ) -> bool
-    ensures adds { IsTrue result → AddsFits needs.now writers.now end.now (Contains starts.now)
+    ensures adds { IsTrue result → AddsForced needs.now writers.now end.now (Contains starts.now)
         (members found.old.ends) (members found.new.ends) }
     ensures alike { IsTrue result → AreAlike needs.now (Contains starts.now) }
     ensures cap { found.new.cap ≡ found.old.cap }
@@ -139,12 +139,13 @@ fn add_fits(
     true
 }
 
-/// Finds the outcomes of committed and aborted transactions where each start forces one end at most and this is one of them.
-/// Returns whether it found them, and they are at most `cap`.
+/// Finds the outcomes, by each criterion, of committed and aborted transactions where each start forces one end at most and
+/// this is an outcome by opacity. Returns whether it found them, and they are at most `cap`.
 fn find_forced(items: &[Txn], starts: &[State], end: &State, cap: u8, found: &mut EndSet) -> bool
     requires few { length items.now ≤ 8 }
     requires room { cap < room_of found.old.ends }
-    ensures ends { IsTrue result → AreForced (map view items.now)
+    requires forced { AreForced (map view items.now) }
+    ensures ends { IsTrue result
         → AreForcedEnds items.now starts.now end.now cap (members found.new.ends) }
     ensures cap { found.new.cap ≡ cap }
 {
@@ -152,12 +153,12 @@ fn find_forced(items: &[Txn], starts: &[State], end: &State, cap: u8, found: &mu
     let committed = statuses_of(items).committed;
     let writers = writers_of(items, committed);
     let needs = needs_of(items, &writers, committed);
-    add_fits(starts, &needs, &writers, end, found) && found.are_few()
+    add_forced(starts, &needs, &writers, end, found) && found.are_few()
 }
 
 /// Replaces the states by the outcomes of the window's transactions from them where no search is needed, and tells whether it
 /// did: at a cut of which an outcome is known, where each state leads to one at most. Both criteria have the same then. If
-/// `known` is given it is an outcome.
+/// `known` is given it is an outcome by opacity.
 pub fn replace_by_forced(
     states: &mut States,
     found: &mut EndSet,

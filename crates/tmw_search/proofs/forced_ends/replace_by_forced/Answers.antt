@@ -24,6 +24,6 @@ returns-clause-replaces c done = (
       let cut : c.is_cut.result ≡ true = grind (arith, c.if-not-is_cut.false) in
       let forced : c.is_forced.result ≡ true = grind (arith, c.if-not-is_forced.false) in
       let found : c.find_forced.result ≡ true = grind (arith, c.if-not-find_forced.false) in
-      rw c.swap.ensures.x_after ((rw c.states.ensures.members at (c.find_forced.ensures.ends found (c.is_forced.ensures forced)))
+      rw c.swap.ensures.x_after ((rw c.states.ensures.members at (c.find_forced.ensures.ends found))
       criterion events (c.transactions-items.ensures.stands events stands) (sym (c.is_cut.ensures events stands) ∙ cut) known),
 )

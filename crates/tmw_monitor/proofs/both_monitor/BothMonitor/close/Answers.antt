@@ -45,7 +45,7 @@ returns-then-closes_alike c rules history fits =
     let stood = λ (events : List Event) (stands : StandsFor kept.window events).
     subst (λ (w : Window). StandsFor w (events ++ e ∷ [])) (sym (stays.window c.if-close_forced.false)) (c.end.ensures.stands events stands c.requires.next) in
     let found = λ (events : List Event) (stands : StandsFor kept.window events).
-    c.close_strictly-strictly.ensures.tells (events ++ e ∷ []) (stood events stands) (c.requires.cut events stands)
+    c.close_strictly-strictly.ensures.tells (events ++ e ∷ []) (stood events stands)
     (omega (arith, few, most, bound, ap (length {A = State}) states)) in
     let ends : (events : List Event) → StandsFor kept.window events → Witnesses (members kept.states) (views_of events) kept.witness
     → TellsEnds Strict kept.states cap (events ++ e ∷ []) c.close_strictly-strictly.new.states c.close_strictly-strictly.result =
@@ -88,7 +88,7 @@ returns c rules history fits =
     let stood = λ (events : List Event) (stands : StandsFor kept.window events).
     subst (λ (w : Window). StandsFor w (events ++ e ∷ [])) (sym (stays.window c.if-close_forced.false)) (c.end.ensures.stands events stands c.requires.next) in
     let found = λ (events : List Event) (stands : StandsFor kept.window events).
-    c.close_strictly-strictly.ensures.tells (events ++ e ∷ []) (stood events stands) (c.requires.cut events stands)
+    c.close_strictly-strictly.ensures.tells (events ++ e ∷ []) (stood events stands)
     (omega (arith, few, most, bound, ap (length {A = State}) same)) in
     let weighs : Weighs Opacity old.opacity.bounds.states e (End c.args.place) kept c.close_opaquely-found.new.kept c.close_opaquely-found.result =
     λ events stands next was.

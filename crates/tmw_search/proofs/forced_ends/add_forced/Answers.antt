@@ -1,7 +1,7 @@
 use Rattle.tmw_search.proofs.Shared.{arith, refl, ◌∙◌}
 use Rattle.tmw_search.proofs.ForcedEnds.{alike-all, alike-next, alike-past, fits-all, fits-next, fits-none, fits-past}
-use Rattle.tmw_search.proofs.forced_ends.add_fits.Goals.{then-not-differ+else-not-is_alike+else-not-add, else-not-differ}
-use Rattle.tmw_search.proofs.forced_ends.add_fits.Goals as goal
+use Rattle.tmw_search.proofs.forced_ends.add_forced.Goals.{then-not-differ+else-not-is_alike+else-not-add, else-not-differ}
+use Rattle.tmw_search.proofs.forced_ends.add_forced.Goals as goal
 
 pub loop-start-init : goal.loop-start-init
 loop-start-init c = record {
@@ -18,7 +18,7 @@ loop-start-preserved c =
     elim c.if-not-differ.branch [
       | then-not-differ+else-not-is_alike+else-not-add w ↦ rw (w.found-is, w.fit-is) (record {
         adds = fits-next starts n was.adds (c.differ.ensures.0 (grind (arith, w.if-not-differ.true))) (rw w.if-not-add.false at w.add.ensures.adds) w.overlaid.ensures;
-        alike = alike-next c.args.needs.now starts n c.loop-start.fit was.alike (w.is_alike.ensures (grind (arith, w.if-not-is_alike.false)));
+        alike = alike-next c.args.needs.now starts n c.loop-start.fit was.alike (w.is_alike.ensures.0 (grind (arith, w.if-not-is_alike.false)));
         cap = w.add.ensures.cap ∙ was.cap;
       })
       | else-not-differ w ↦ rw (w.found-is, w.fit-is) (record {
