@@ -12,6 +12,7 @@ pub mod OneChanged
 pub mod OneEventMore
 pub mod Pushes
 mod RegisterUse
+pub mod RegisterValues
 mod Shared
 mod Steps
 pub mod StrictOrder

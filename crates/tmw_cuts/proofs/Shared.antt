@@ -5,10 +5,11 @@ pub use Rattle.std.proofs.Math.Nat.{mod-eq_of_lt}
 pub use Rattle.std.proofs.Math.Pow.{pow_mono}
 pub use Rattle.std.proofs.lemmas.Bool.{and_parts, and_right, cases_Bool, cases_eq, cases_lt, cond_both, eq-eqb, eqb-false, eqb-true, le-ltb, lt-ltb}
 pub use Rattle.std.proofs.lemmas.Cmp.{nat_list_cmp_total, tied_itself}
-pub use Rattle.std.proofs.lemmas.List.{append-nil, drop_all, get_or-set_other, get_or-set_same, get_or-take, get_or_default, length-map, length-set, length-take-le, map-append, same_lists, set-get_or, take-append-drop, take-map, take-set-le, take_more_set}
+pub use Rattle.std.proofs.lemmas.List.{append-nil, drop_all, get_or-set_other, get_or-set_same, get_or-take, get_or_default, length-map, length-set, length-take-le, map-append, same_lists, set-get_or, take-append-drop, take-set-le, take_more_set}
 pub use Rattle.std.proofs.lemmas.List.Folds.{list_all-append, list_all-map}
 pub use Rattle.std.proofs.lemmas.Map.Lookups.{CmpEqualImpliesEq, exact_bytes}
 pub use Rattle.std.proofs.lemmas.Nat.Bits.{and_pow, bit_at-pow_other, bit_at-pow_same, bit_at-suc, bit_at-trailing_zeros, bit_at-zero, bit_at_above, bit_at_lowest, bit_at_or, bit_at_set_other, bit_at_set_same, same_from_bits}
+pub use Rattle.std.specs.Cmp.Lexicographic.{slice_cmp}
 pub use Rattle.std.specs.Int.{bit_at}
 pub use Rattle.std.specs.List.{AllByRecursion, Contains, insert, list_all, range_with_len}
 pub use Rattle.std.specs.List.Sorted.{IsBinarySearchResult, IsNonDecreasingBy, IsPartitionPoint, IsSearchInRange}
@@ -20,7 +21,7 @@ pub use Rattle.tmw_defs.proofs.Places.{IsLater, Lies, later-transactions, lies-t
 pub use Rattle.tmw_defs.proofs.QuietTexts.{status_of-push}
 pub use Rattle.tmw_defs.specs.Cuts.{is_cut}
 pub use Rattle.tmw_defs.specs.History.{Txn, add_event, answers, is_ended, is_over, is_text, is_well_formed, operation, operations, status_after, status_of, transactions, transactions_from}
-pub use Rattle.tmw_defs.specs.Opaque.{State, after_writes, precedes, reads_hold}
+pub use Rattle.tmw_defs.specs.Opaque.{Placed, State, after, after_writes, precedes, reads_hold}
 pub use Rattle.tmw_defs.specs.declared.op.Op.{Op}
 pub use Rattle.tmw_defs.specs.declared.op.Op.TheVariants.{Add, Read, Write}
 pub use Rattle.tmw_defs.specs.declared.status.Status.TheVariants.{Live, Pending}

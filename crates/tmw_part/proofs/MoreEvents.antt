@@ -1,5 +1,7 @@
 -- With more events a history has as many transactions as before or more, and does not become well-formed.
-use Rattle.tmw_part.proofs.Shared.{AreUnfit, Bool, Event, List, Txn, [], add_event, add_event_here, add_event_past, and_from, and_parts, ap, arith, cases_Bool, drop, get_or, inl, inr, is_text, is_well_formed, joins, length, length-add_event, list_all, refl, subst, sym, take, take-append-drop, take_more, transactions, transactions_from, transactions_from-append, true, ℕ, ◌++◌, ◌+◌, ◌<◌, ◌∙◌, ◌∷◌, ◌≡◌, ◌≤◌}
+use Rattle.tmw_part.proofs.Shared.{AreUnfit, Bool, Event, List, Txn, [], add_event, and_from, and_parts, ap, arith, cases_Bool, drop, get_or, inl, inr, is_text, is_well_formed, length, list_all, refl, subst, sym, take, take-append-drop, take_more, transactions, transactions_from, true, ℕ, ◌++◌, ◌+◌, ◌<◌, ◌∙◌, ◌∷◌, ◌≡◌, ◌≤◌}
+use Rattle.tmw_defs.proofs.OneMore.{add_event_here, add_event_past, joins, length-add_event}
+use Rattle.tmw_defs.proofs.Places.{transactions_from-append}
 use Rattle.tmw_events.specs.declared.event.Kind.{Kind}
 
 length-more : (place : ℕ) (ts : List Txn) (es : List Event) → length ts ≤ length (transactions_from place ts es)

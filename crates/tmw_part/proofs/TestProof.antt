@@ -1,5 +1,10 @@
 -- The test of a part tells what is kept as a part.
-use Rattle.tmw_part.proofs.Shared.{Add, AreOpsLeft, Bool, Each, Event, IsAlike, IsKept, IsTrue, List, Op, Read, Status, Txn, Write, [], agree, and_from, and_parts, ap, are_ops_left, are_placed, arith, calls, cases_Bool, eq-eqb, eqb-true, inl, inr, is_left_of, is_same, is_same_op, is_same_status, is_stay, is_unread, is_whole, keeps_last, keeps_part, list_all, map, may_go, may_miss_all, operations, owner_in, owners, part_of, places_of, precedes, refl, same_ix, status_of, sym, transactions, true, txn_at, ℕ, ◌==◌, ◌∷◌, ◌≡◌}
+use Rattle.tmw_part.proofs.Shared.{AreOpsLeft, Bool, Each, Event, IsAlike, IsKept, IsTrue, List, Txn, [], agree, and_from, and_parts, ap, are_ops_left, are_placed, arith, cases_Bool, eq-eqb, eqb-true, inl, inr, is_left_of, is_same, is_same_op, is_same_status, is_stay, is_unread, is_whole, keeps_last, keeps_part, list_all, map, may_go, may_miss_all, operations, owner_in, owners, part_of, places_of, precedes, refl, status_of, sym, transactions, true, txn_at, ℕ, ◌==◌, ◌∷◌, ◌≡◌}
+use Rattle.tmw_defs.specs.declared.op.Op.TheVariants.{Add, Read, Write}
+use Rattle.tmw_defs.specs.declared.op.Op.{Op}
+use Rattle.tmw_defs.specs.declared.status.Status.{Status}
+use Rattle.tmw_kept.specs.Pieces.{calls}
+use Rattle.tmw_events.proofs.Same.{same_ix}
 
 same_op : (x y : Op) → is_same_op x y ≡ true → x ≡ y
 same_op (Read q w) (Read r v) same =

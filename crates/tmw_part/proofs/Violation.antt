@@ -1,5 +1,8 @@
 -- What a search for an end state tells of events that were taken into its window.
-use Rattle.tmw_part.proofs.Shared.{AreNeededIn, AreTaken, Bool, Criterion, Err, Event, Fails, IfNone, IfOk, IsFalse, IsNeededIn, IsTrue, IsViolated, IsViolatedPart, List, None, Ok, Option, Piece, Result, Some, State, TellsViolated, [], all_kept, arith, end_state, false, inl, inr, is_some, keeps_part, kept_of, length, members, not, refl, sym, transactions, true, with_readers, ℕ, ◌∙◌, ◌∷◌, ◌≡◌, ◌≤◌}
+use Rattle.tmw_part.proofs.Shared.{AreNeededIn, AreTaken, Bool, Err, Event, Fails, IfNone, IfOk, IsFalse, IsNeededIn, IsTrue, IsViolated, IsViolatedPart, List, None, Ok, Option, Piece, Result, Some, State, TellsViolated, [], all_kept, arith, false, inl, inr, is_some, keeps_part, kept_of, length, members, not, refl, sym, transactions, true, ℕ, ◌∙◌, ◌∷◌, ◌≡◌, ◌≤◌}
+use Rattle.tmw_defs.specs.declared.criterion.Criterion.{Criterion}
+use Rattle.tmw_defs.specs.Outcomes.{end_state}
+use Rattle.tmw_part.specs.Readers.{with_readers}
 use Rattle.tmw_cuts.specs.declared.states.States.{States}
 use Rattle.tmw_cuts.specs.declared.window.Window.{Window}
 use Rattle.tmw_search.specs.EndStates.{TellsEnd}

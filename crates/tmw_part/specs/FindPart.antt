@@ -1,15 +1,12 @@
 -- What is found in a violated window: a part that is violated by itself, of which nothing more can be taken out.
-use Rattle.tmw_part.specs.Shared.{Contains, Criterion, Event, HasOrderBy, State, is_well_formed, members, transactions}
+use Rattle.tmw_part.specs.Shared.{Event, Piece, State, all_kept, is_well_formed, kept_of, members, pieces, transactions}
+use Rattle.tmw_defs.specs.declared.criterion.Criterion.{Criterion}
 use Rattle.std.specs.Prelude.{All, Bool, IsFalse, IsTrue, List, [], false, length, true, ℕ, ◌<◌, ◌∷◌, ◌≡◌, ◌≢◌, ◌≤◌, ◌⊎◌}
-use Rattle.tmw_part.specs.declared.piece.Piece.{Piece}
+use Rattle.tmw_kept.specs.HasOrderFrom.{HasOrderFrom}
 use Rattle.tmw_part.specs.declared.whole_window.WholeWindow.{WholeWindow}
-use Rattle.tmw_part.specs.Marks.{all_kept, kept_of, without}
-use Rattle.tmw_part.specs.Pieces.{pieces, with_readers}
+use Rattle.tmw_part.specs.Marks.{without}
+use Rattle.tmw_part.specs.Readers.{with_readers}
 use Rattle.tmw_part.specs.KeptPart.{IsKept}
-
--- From one of these states the events' transactions have a serial order.
-abbrev pub HasOrderFrom : Criterion → List State → List Event → Type 0
-HasOrderFrom criterion states events = (s : State) × Contains states s × HasOrderBy criterion s (transactions events)
 
 -- The events are violated: they are well-formed, of at most eight transactions, and have no order from any of the states.
 pub record IsViolated (criterion : Criterion) (registers : ℕ) (states : List State) (events : List Event) : Type 0 where

@@ -1,16 +1,11 @@
 -- What is kept of a window, a mark for each event, as a part of the window's transactions that agrees with them.
-use Rattle.tmw_part.specs.Shared.{Each, Event, IsLeftOf, Kind, Op, Txn, W, is_unread, left_by, list_all, list_any, may_go_whole, operations, precedence, range_with_len, transactions}
+use Rattle.tmw_part.specs.Shared.{Call, Each, Event, IsLeftOf, Kind, Op, Txn, W, calls, is_among, is_unread, kept_of, list_all, may_go_whole, operations, owner_in, places_of, precedence, range_with_len, transactions, txn_at}
+use Rattle.tmw_cuts.specs.RegisterUse.{left_by}
 use Rattle.std.specs.Prelude.{Bool, IsTrue, List, None, Option, Some, [], false, if◌then◌else◌, map, not, slice_index_or, true, zip, ℕ, ◌&&◌, ◌+◌, ◌==◌, ◌||◌, ◌∷◌, ◌≡◌}
-use Rattle.tmw_part.specs.declared.piece.Call.{Call}
-use Rattle.tmw_part.specs.Marks.{keeps_last, kept_of, places_of}
-use Rattle.tmw_part.specs.NameInWindow.{owner_in, txn_at}
-use Rattle.tmw_part.specs.Pieces.{calls}
-use Rattle.tmw_part.specs.UnlikeAnswers.{first_unlike, needed_of}
+use Rattle.tmw_part.specs.Marks.{keeps_last}
+use Rattle.tmw_kept.specs.UnlikeAnswers.{first_unlike, needed_of}
 
--- The number is one of these; and they without the first that is this one.
-abbrev pub is_among : ℕ → List ℕ → Bool
-is_among n places = list_any (λ p. p == n) places
-
+-- These numbers without the first that is this one.
 abbrev pub without_number : ℕ → List ℕ → List ℕ
 without_number n [] = []
 without_number n (p ∷ places) = if p == n then places else p ∷ without_number n places

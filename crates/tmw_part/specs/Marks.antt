@@ -1,20 +1,6 @@
 -- Which events of a window are kept: a mark for each, in order.
-use Rattle.tmw_part.specs.Shared.{Event, enumerate_from, list_any}
-use Rattle.std.specs.Prelude.{Bool, List, filter, length, map, not, replicate, slice_get, true, unwrap_or, zip, ℕ, ◌&&◌, ◌-◌}
-use Rattle.tmw_part.specs.declared.piece.Piece.{Piece}
-use Rattle.tmw_part.specs.Pieces.{is_of}
-
--- Each event is kept.
-abbrev pub all_kept : List Event → List Bool
-all_kept window = replicate (length window) true
-
--- The events that are kept.
-abbrev pub kept_of : List Bool → List Event → List Event
-kept_of marks events = map (λ pair. pair.1) (filter (λ pair. pair.0) (zip marks events))
-
--- The places of those that are kept.
-abbrev pub places_of : List Bool → List ℕ
-places_of marks = map (λ pair. pair.0) (filter (λ pair. pair.1) (enumerate_from 0 marks))
+use Rattle.tmw_part.specs.Shared.{Event, Piece, enumerate_from, is_of, list_any}
+use Rattle.std.specs.Prelude.{Bool, List, length, map, not, slice_get, true, unwrap_or, zip, ℕ, ◌&&◌, ◌-◌}
 
 -- The last event is kept.
 abbrev pub keeps_last : List Bool → Bool

@@ -1,10 +1,11 @@
 -- The test of what is kept of a window, as it is computed.
-use Rattle.tmw_part.specs.Shared.{Aborted, Add, Committed, Event, Kind, Live, Op, Pending, Read, Status, Txn, Write, is_unread, list_all, may_go, operations, precedes, status_of, transactions}
+use Rattle.tmw_part.specs.Shared.{Event, Kind, Op, Txn, calls, is_unread, list_all, may_go, operations, owner_in, places_of, precedes, status_of, transactions, txn_at}
+use Rattle.tmw_defs.specs.declared.status.Status.TheVariants.{Aborted, Committed, Live, Pending}
+use Rattle.tmw_defs.specs.declared.op.Op.TheVariants.{Add, Read, Write}
+use Rattle.tmw_defs.specs.declared.status.Status.{Status}
 use Rattle.std.specs.Prelude.{Bool, List, [], false, if◌then◌else◌, map, true, ℕ, ◌&&◌, ◌==◌, ◌∷◌}
 use Rattle.tmw_part.specs.KeptPart.{agree, are_placed, is_same, is_whole, may_miss_all, part_of}
-use Rattle.tmw_part.specs.Marks.{keeps_last, places_of}
-use Rattle.tmw_part.specs.NameInWindow.{owner_in, txn_at}
-use Rattle.tmw_part.specs.Pieces.{calls}
+use Rattle.tmw_part.specs.Marks.{keeps_last}
 
 abbrev pub is_same_op : Op → Op → Bool
 is_same_op (Read q w) (Read r v) = (q.number == r.number) && (w == v)

@@ -3,20 +3,11 @@ ghost use Rattle.std.specs.Prelude.{not, ◌≡◌};
 ghost use Rattle.tmw_part.specs.KeptPart.{agree, agrees};
 ghost use Rattle.tmw_part.specs.PartTest.{are_ops_left, is_left_of, is_same_op};
 
-use crate::register_use::{find_unlike, left_by, needed_of};
-use crate::transaction::{TextOperations, Transaction, status_of};
 use tmw_defs::Op;
 use tmw_events::{Ix, Kind};
-
-/// Whether the operation was answered this value of this register.
-pub(crate) fn is_answered(register: Ix, value: u64, op: Op) -> bool
-    ensures { result ≡ is_answered register.number value op }
-{
-    match op {
-        Op::Read(other, answer) | Op::Add(other, _, answer) => other == register && answer == value,
-        Op::Write(_, _) => false,
-    }
-}
+use tmw_kept::{
+    TextOperations, Transaction, find_unlike, is_answered, left_by, needed_of, status_of,
+};
 
 /// Whether no operation of a transaction was answered this value of this register.
 fn answers_none(text: &[Kind], register: Ix, value: u64) -> bool

@@ -3,10 +3,9 @@ ghost use Rattle.std.specs.Prelude.{IfNone, IfOk, IfSome, IsFalse, IsTrue, List,
 ghost use Rattle.tmw_part.specs.FindPart.{TellsIn};
 ghost use Rattle.tmw_part.specs.TakeEvents.{AreTaken, AreUnfit};
 
-use crate::transaction::MOST_TRANSACTIONS;
 use crate::whole_window::WholeWindow;
 use std::alloc::AllocError;
-use tmw_cuts::Window;
+use tmw_cuts::{MOST_TRANSACTIONS, Window};
 use tmw_events::{Event, Registers};
 use tmw_search::possible;
 

@@ -1,17 +1,15 @@
-ghost use Rattle.tmw_part.specs.Shared.{transactions};
+ghost use Rattle.tmw_part.specs.Shared.{kept_of, transactions};
 ghost use Rattle.std.specs.Prelude.{IfOk, IsFalse, IsTrue, length, ◌≡◌, ◌≤◌};
 ghost use Rattle.tmw_part.specs.FindPart.{FailsIn, IsPartIn};
-ghost use Rattle.tmw_part.specs.Marks.{kept_of};
 ghost use Rattle.tmw_part.specs.PartTest.{keeps_part};
 
 use crate::is_violated::is_violated;
-use crate::marks::{are_whole, keeps_last, kept_of, may_miss_all, places_of};
+use crate::marks::{are_whole, keeps_last, may_miss_all};
 use crate::part_test::is_part;
-use crate::piece::calls;
-use crate::transaction::transactions;
 use crate::whole_window::WholeWindow;
 use std::alloc::{AllocError, Global};
 use tmw_events::Event;
+use tmw_kept::{calls, kept_of, places_of, transactions};
 
 /// Whether what is kept passes the test of a part of the window.
 fn keeps_part(

@@ -1,38 +1,13 @@
 //! Which events of a window are kept: a mark for each, in order.
 ghost use Rattle.tmw_part.specs.Shared.{list_all};
 ghost use Rattle.std.specs.Prelude.{IfOk, slice_index_or, true, ◌≡◌};
-ghost use Rattle.tmw_part.specs.Marks.{is_of_any, keeps_last, kept_of, places_of, without};
+ghost use Rattle.tmw_part.specs.Marks.{is_of_any, keeps_last, without};
 ghost use Rattle.tmw_part.specs.KeptPart.{is_whole, may_miss, may_miss_all};
 
 use crate::is_left_of::is_unread;
-use crate::piece::{Call, Piece};
-use crate::transaction::Transaction;
 use std::alloc::{AllocError, Global};
 use tmw_events::{Event, Kind};
-
-/// Returns the events that are kept.
-pub fn kept_of(alloc: Global, marks: &[bool], events: &[Event]) -> Result<Vec<Event>, AllocError>
-    ensures { IfOk result (λ kept. kept.items ≡ kept_of marks.now events.now) }
-{
-    marks
-        .iter()
-        .zip(events)
-        .filter(|pair| *pair.0)
-        .map(|pair| *pair.1)
-        .collect(alloc)
-}
-
-/// Returns the places of the events that are kept.
-pub(crate) fn places_of(alloc: Global, marks: &[bool]) -> Result<Vec<usize>, AllocError>
-    ensures { IfOk result (λ places. places.items ≡ places_of marks.now) }
-{
-    marks
-        .iter()
-        .enumerate()
-        .filter(|pair| *pair.1)
-        .map(|pair| pair.0)
-        .collect(alloc)
-}
+use tmw_kept::{Call, Piece, Transaction};
 
 /// Tells whether the last event is kept.
 pub(crate) fn keeps_last(marks: &[bool]) -> bool

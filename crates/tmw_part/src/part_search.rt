@@ -1,19 +1,17 @@
-ghost use Rattle.tmw_part.specs.Shared.{members, transactions};
+ghost use Rattle.tmw_part.specs.Shared.{kept_of, members, pieces, transactions};
 ghost use Rattle.std.specs.Prelude.{All, IfNone, IfOk, IfSome, IsFalse, IsTrue, length, ◌<◌, ◌≡◌, ◌≤◌};
 ghost use Rattle.tmw_part.specs.FindPart.{AreNeededIn, FindsPart, IsMinimalIn, IsNeededIn, IsPartIn};
-ghost use Rattle.tmw_part.specs.Marks.{kept_of};
-ghost use Rattle.tmw_part.specs.Pieces.{pieces};
 
 use crate::is_violated::is_violated;
 use crate::is_violated_part::is_violated_part;
 use crate::marks::without;
-use crate::piece::{Piece, pieces};
 use crate::readers::with_readers;
 use crate::whole_window::WholeWindow;
 use std::alloc::{AllocError, Global};
 use tmw_cuts::States;
 use tmw_defs::Criterion;
 use tmw_events::{Event, Registers};
+use tmw_kept::{Piece, pieces};
 
 /// How many events a window has at most that is searched.
 pub const MOST_EVENTS: usize = 1_000;

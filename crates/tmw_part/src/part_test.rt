@@ -1,21 +1,11 @@
-ghost use Rattle.tmw_part.specs.Shared.{is_unread, list_all};
+ghost use Rattle.tmw_part.specs.Shared.{is_among, is_unread, list_all, owner_in};
 ghost use Rattle.std.specs.Prelude.{IfOk, map, ◌≡◌};
-ghost use Rattle.tmw_part.specs.NameInWindow.{owner_in};
-ghost use Rattle.tmw_part.specs.KeptPart.{are_placed, is_among, without_number};
+ghost use Rattle.tmw_part.specs.KeptPart.{are_placed, without_number};
 ghost use Rattle.tmw_part.specs.PartTest.{is_order_kept, is_part_at, is_row_kept, is_stay};
 
 use crate::is_left_of::{is_left_of, may_go_whole};
-use crate::name_in_window::owner_in;
-use crate::step_rules::{precedes_at, text_at};
-use crate::transaction::{Transaction, precedes};
 use std::alloc::{AllocError, Global};
-
-/// Whether the number is one of these.
-pub(crate) fn is_among(number: usize, places: &[usize]) -> bool
-    ensures { result ≡ is_among number places.now }
-{
-    places.iter().any(|place| *place == number)
-}
+use tmw_kept::{Transaction, is_among, owner_in, precedes, precedes_at, text_at};
 
 /// Returns these numbers without the first that is this one.
 fn without_number(alloc: Global, number: usize, places: &[usize]) -> Result<Vec<usize>, AllocError>

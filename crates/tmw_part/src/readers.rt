@@ -1,22 +1,10 @@
+ghost use Rattle.tmw_part.specs.Shared.{puts};
 ghost use Rattle.std.specs.Prelude.{IfOk, ◌≡◌};
-ghost use Rattle.tmw_part.specs.Pieces.{is_put, puts, readers, reads_put, with_readers};
+ghost use Rattle.tmw_part.specs.Readers.{is_put, readers, reads_put, with_readers};
 
-use crate::piece::{Call, Piece, calls};
 use std::alloc::{AllocError, Global};
 use tmw_events::{Event, Ix, Kind};
-
-/// Tells whether the call puts the value into the register.
-pub(crate) fn puts(register: Ix, value: u64, call: &Call) -> bool
-    ensures { result ≡ puts register.number value call.now }
-{
-    match (call.kind, call.next) {
-        (Kind::W(other, written), _) => other == register && written == value,
-        (Kind::N(other, added), Some(Kind::V(found))) => {
-            other == register && found.wrapping_add(added) == value
-        }
-        _ => false,
-    }
-}
+use tmw_kept::{Call, Piece, calls, puts};
 
 /// Whether one of these calls is of the piece and puts the value into the register.
 fn is_put(piece: &Piece, calls: &[Call], register: Ix, value: u64) -> bool

@@ -1,6 +1,6 @@
 -- A pair is on the way to another where an order of just the transactions that it lacks leads there: each way begins with a step,
 -- and each step begins a way.
-use Rattle.tmw_search.proofs.Shared.{Follows, IsTrue, Leads, LeavesNone, List, Placed, Some, State, Txn, View, [], after, and_from, and_parts, ap, arith, bit_at, bit_at-lt, bit_at-zero, bit_at_set_other, bit_at_set_same, bit_or, chosen, false, inl, inr, length, list_all, list_all-places, mask-set, may_be, not, not-true, not_from_false, operations, precedes, reads_hold, refl, same_from_bits, slice_get, slice_get_within, suc, sym, true, w8, zero, ℕ, ◌%◌, ◌*◌, ◌+◌, ◌-◌, ◌<◌, ◌^◌, ◌∙◌, ◌∷◌, ◌≡◌, ◌≤◌}
+use Rattle.tmw_search.proofs.Shared.{Follows, IsTrue, Leads, LeavesNone, List, Placed, Some, State, Txn, View, [], after, and_from, and_parts, ap, arith, bit_at, bit_at-lt, bit_at-zero, bit_at_set_other, bit_at_set_same, bit_or, chosen, false, inl, inr, length, list_all, list_all-places, mask-set, may_be, not, not-true, not_from_false, operations, precedes, reads_hold, refl, same_from_bits, slice_get, slice_get_some, slice_get_within, sym, true, w8, ℕ, ◌%◌, ◌*◌, ◌+◌, ◌-◌, ◌<◌, ◌^◌, ◌∙◌, ◌∷◌, ◌≡◌, ◌≤◌}
 use Rattle.tmw_search.proofs.RankedOrders.{NoneBeforeItself, ShowsTransaction, ShowsTransactions}
 use Rattle.tmw_search.proofs.Bits.{IsLess, less_of, bit_true, bit_within, masks, bit_cases, same_place, more_fits}
 use Rattle.tmw_search.proofs.Chosen.{chosen_at, chosen-at, length-chosen, list_all-chosen, list_all_chosen, chosen-zero, chosen_none}
@@ -68,11 +68,6 @@ leads_first ts left s r few some (p ∷ order, e, is) =
       fewer = length-chosen ts left i place p.txn rest c less;
       leads = (order, record { each = each; kept = kept; completed = completed; legal = legal }, is);
     }
-
-pub slice_get_some : {A : Type 0} (xs : List A) (i : ℕ) → i < length xs → (x : A) × (slice_get xs i ≡ Some x)
-slice_get_some [] i within = absurd (omega arith)
-slice_get_some (x ∷ xs) zero within = (x, refl)
-slice_get_some (x ∷ xs) (suc i) within = slice_get_some xs i (omega arith)
 
 -- The mask is one of these, and leaves none that precedes one of its own.
 pub record IsFront (ts : List Txn) (mask : ℕ) : Type 0 where

@@ -1,10 +1,8 @@
 -- The law: what legal serial orders end in is what rankings end in.
-use Rattle.tmw_search.proofs.Shared.{Bool, Criterion, Effect, EndsAt, ExplainsBy, In, IsSerial, IsTrue, List, Opacity, Placed, PlacesEach, State, Strict, Txn, and_le_r, ap, arith, bit_and, bit_at, bit_at_above, bit_at_ones, cases_Bool, cases_lt, chosen, end_state, eq-eqb, eqb-true, inl, inr, is_legal, keeps_order, length, list_all, may_be, members_of, pow_pos, precedes, refl, same_from_bits, slice_get_within, slice_index, subst, sym, ℕ, ◌-◌, ◌<◌, ◌^◌, ◌∙◌, ◌≡◌, ◌≤◌}
+use Rattle.tmw_search.proofs.Shared.{Bool, Criterion, Effect, EndsAt, ExplainsBy, In, IsSerial, IsTrue, List, Opacity, Placed, PlacesEach, State, Strict, Txn, and_le_r, ap, arith, bit_and, bit_at, bit_at_above, bit_at_ones, cases_Bool, cases_lt, chosen, end_state, eq-eqb, eqb-true, inl, inr, is_legal, keeps_order, length, length-end, list_all, may_be, members_of, pow_pos, precedes, refl, same_from_bits, slice_get_some, slice_get_within, slice_index, subst, sym, ℕ, ◌-◌, ◌<◌, ◌^◌, ◌∙◌, ◌≡◌, ◌≤◌}
 use Rattle.tmw_search.proofs.RankedOrders.{ActAs, AreRanked, IsCompletion, RanksTo, ShowsOrder}
 use Rattle.tmw_search.proofs.Bits.{masks, below_bits, bit_within, bit_cases, same_place}
 use Rattle.tmw_search.proofs.Chosen.{chosen-full, chosen_bits, are_held, held_by}
-use Rattle.tmw_search.proofs.OneEnd.{length-end}
-use Rattle.tmw_search.proofs.LayerSteps.{slice_get_some}
 use Rattle.tmw_search.proofs.Ranks.{IsSorted, Ranks, ranks_of, sorts, Apart, keeps, same_ends, serves_start, sorted_all}
 
 -- what a serial order of the criterion holds, and its ranks

@@ -1,7 +1,7 @@
 -- An end state that is known is the only one, where the end states are forced: what each writer of a register finds and leaves there
 -- sums up to the same over each legal serial order. Masks tell of a window that they are.
-use Rattle.tmw_search.proofs.Shared.{AreForced, AreHeld, Bool, Contains, Criterion, EndsOf, Event, IsForced, IsMaskOf, IsTrue, Leads, LeadsBy, List, Op, Opacity, Placed, Replaces, Some, StandsFor, State, States, Status, Strict, Txn, View, Window, [], after, after_writes, and_from, and_left, and_parts, and_right, ap, arith, bit_and, bit_at, bit_at-lt, bit_at-zero, bit_at_above, bit_at_and, bit_at_not, bit_at_or, bit_not, bit_or, cases_Bool, cases_lt, cond, contains_cases, contains_here, contains_none, count_by, count_by-le-length, end_state, eqb-false, eqb-true, ext_get_or, false, get_or-set_other, get_or-set_same, get_or_from_slice_get, if◌then◌else◌, inl, inr, is_blind_writer, is_committed, is_cut, is_ended, is_over, is_writer, length, length-set, list_all, list_all-remove, map, may_be, may_hold, members, not, not-false, not-true, not_from_false, operations, precedes, reads_hold, refl, remove, slice_get, slice_get_within, slice_index, slice_set, status_of, subst, suc, sum_by, sum_by-cons, sum_by_more, sym, take, take_all, transactions, true, view_of, views, w8, zero, ℕ, ◌%◌, ◌+◌, ◌<◌, ◌==◌, ◌^◌, ◌↔◌, ◌∙◌, ◌∷◌, ◌≡◌, ◌≤◌, ◌⊎◌}
-use Rattle.tmw_cuts.specs.RegisterUse.{needs, writes}
+use Rattle.tmw_search.proofs.Shared.{AreForced, AreHeld, Bool, Contains, Criterion, EndsOf, Event, IsForced, IsMaskOf, IsTrue, Leads, LeadsBy, List, Op, Opacity, Placed, Replaces, Some, StandsFor, State, States, Status, Strict, Txn, View, Window, [], after, after-final, after_writes, and_from, and_left, and_parts, and_right, ap, arith, bit_and, bit_at, bit_at-lt, bit_at-zero, bit_at_above, bit_at_and, bit_at_not, bit_at_or, bit_not, bit_or, cases_Bool, cases_lt, cond, contains_cases, contains_here, contains_none, count_by, count_by-le-length, end_state, eqb-false, eqb-true, ext_get_or, false, final, final-kept, get_or-set_other, get_or-set_same, get_or_from_slice_get, if◌then◌else◌, index-set, inl, inr, is_blind_writer, is_committed, is_cut, is_ended, is_over, is_writer, length, length-end, length-set, list_all, list_all-remove, map, may_be, may_hold, members, not, not-false, not-true, not_from_false, operations, precedes, reads_hold, refl, remove, slice_get, slice_get_within, slice_index, slice_set, status_of, subst, suc, sum_by, sum_by-cons, sum_by_more, sym, take, take_all, transactions, true, view_of, views, w8, zero, ℕ, ◌%◌, ◌+◌, ◌<◌, ◌==◌, ◌^◌, ◌↔◌, ◌∙◌, ◌∷◌, ◌≡◌, ◌≤◌, ◌⊎◌}
+use Rattle.tmw_cuts.specs.RegisterUse.{needs}
 use Rattle.std.proofs.lemmas.List.Folds.{list_all-map, list_all_more}
 use Rattle.std.proofs.lemmas.Bool.Decides.{nat_tests}
 use Rattle.tmw_defs.specs.declared.op.Op.TheVariants.{Read, Write, Add}
@@ -15,47 +15,6 @@ sum_by-remove f [] i x at = absurd (cc)
 sum_by-remove f (y ∷ ys) zero x at = let same : y ≡ x = cc in sum_by-cons f y ys ∙ ap (λ z. f z + sum_by f ys) same
 sum_by-remove f (y ∷ ys) (suc i) x at =
     omega (arith, sum_by-cons f y ys, sum_by-cons f y (remove ys i), sum_by-remove f ys i x at)
-
--- what a register holds after operations, if it held this before
-abbrev pub final : ℕ → ℕ → List Op → ℕ
-final r x [] = x
-final r x (Read q v ∷ ops) = final r x ops
-final r x (Write q v ∷ ops) = final r (if q.number == r then v else x) ops
-final r x (Add q d v ∷ ops) = final r (if q.number == r then (v + d) % 2 ^ 64 else x) ops
-
-pub index-set : (s : State) (q r v : ℕ) → r < length s → slice_index (slice_set s q v) r ≡ (if q == r then v else slice_index s r)
-index-set = grind (arith, cases_Bool, eqb-true, get_or-set_same, get_or-set_other, eqb-false)
-
-pub after-final : (s : State) (ops : List Op) (r : ℕ) → r < length s
-    → slice_index (after_writes s ops) r ≡ final r (slice_index s r) ops
-after-final s [] r within = refl
-after-final s (Read q v ∷ ops) r within = after-final s ops r within
-after-final s (Write q v ∷ ops) r within =
-    after-final (slice_set s q.number v) ops r (rw length-set within) ∙ ap (λ x. final r x ops) (index-set s q.number r v within)
-after-final s (Add q d v ∷ ops) r within =
-    let w = (v + d) % 2 ^ 64 in
-    after-final (slice_set s q.number w) ops r (rw length-set within) ∙ ap (λ x. final r x ops) (index-set s q.number r w within)
-
--- a state keeps its registers
-length-writes : (s : State) (ops : List Op) → length (after_writes s ops) ≡ length s
-length-writes s [] = refl
-length-writes s (Read q v ∷ ops) = length-writes s ops
-length-writes s (Write q v ∷ ops) = length-writes (slice_set s q.number v) ops ∙ length-set s q.number v
-length-writes s (Add q d v ∷ ops) = length-writes (slice_set s q.number ((v + d) % 2 ^ 64)) ops ∙ length-set s q.number ((v + d) % 2 ^ 64)
-
-pub length-after : (s : State) (p : Placed) → length (after s p) ≡ length s
-length-after = grind (arith, cases_Bool, length-writes)
-
-pub length-end : (s : State) (order : List Placed) → length (end_state s order) ≡ length s
-length-end s [] = refl
-length-end s (p ∷ order) = length-end (after s p) order ∙ length-after s p
-
--- a register that no operation writes stays
-pub final-kept : (r x : ℕ) (ops : List Op) → writes r ops ≡ false → final r x ops ≡ x
-final-kept r x [] none = refl
-final-kept r x (Read q v ∷ ops) none = final-kept r x ops none
-final-kept r x (Write q v ∷ ops) none = let rest = final-kept r x ops in grind arith
-final-kept r x (Add q d v ∷ ops) none = let rest = final-kept r x ops in grind arith
 
 -- what operations find in a register: the value that they first read there, or else this
 abbrev found : ℕ → ℕ → List Op → ℕ

@@ -1,11 +1,9 @@
 -- A serial order gives each of its transactions a rank, and ranks give a serial order. It is legal where each read has its value from a
 -- writer before it that no other comes behind, and ends in what the last writers leave.
-use Rattle.tmw_search.proofs.Shared.{Bool, Effect, EndsAt, In, IsTrue, List, Needs, Open, Placed, PlacesEach, Reads, Some, State, Txn, Writes, [], after, and_from, and_parts, ap, arith, bit_at, bit_at-more_other, bit_at-more_same, bit_at-zero, cases_lt, chosen, end_state, eq-eqb, ext_get_or, false, get_or, idle, if◌then◌else◌, inl, inr, is_legal, keeps_order, left_at, length, length-taken, list_all, ne_eqb, need_at, nil_from_length, not, not-true, not_from_false, operations, precedes, reads_hold, refl, remove, slice_get, slice_index, subst, suc, sym, true, zero, ℕ, ◌+◌, ◌-◌, ◌<◌, ◌==◌, ◌^◌, ◌↔◌, ◌∙◌, ◌∷◌, ◌≡◌, ◌≤◌, ◌⊎◌}
+use Rattle.tmw_search.proofs.Shared.{Bool, Effect, EndsAt, In, IsTrue, List, Needs, Open, Placed, PlacesEach, Reads, Some, State, Txn, Writes, [], after, and_from, and_parts, ap, arith, bit_at, bit_at-more_other, bit_at-more_same, bit_at-zero, cases_lt, chosen, end_state, eq-eqb, ext_get_or, false, get_or, idle, if◌then◌else◌, inl, inr, is_legal, keeps_order, left_at, length, length-after, length-taken, list_all, ne_eqb, need_at, nil_from_length, not, not-true, not_from_false, operations, precedes, reads_hold, refl, remove, slice_get, slice_get_some, slice_index, subst, suc, sym, true, zero, ℕ, ◌+◌, ◌-◌, ◌<◌, ◌==◌, ◌^◌, ◌↔◌, ◌∙◌, ◌∷◌, ◌≡◌, ◌≤◌, ◌⊎◌}
 use Rattle.tmw_search.proofs.RankedOrders.{ActAs}
 use Rattle.tmw_search.proofs.Bits.{masks, bit_within, bit_cases, less_here, less_has, same_place}
 use Rattle.tmw_search.proofs.Chosen.{chosen_at, chosen-at, chosen_none}
-use Rattle.tmw_search.proofs.LayerSteps.{slice_get_some}
-use Rattle.tmw_search.proofs.OneEnd.{length-after}
 
 -- The next in the order is the one at k: of the members that are ranked at `upto` or above, the lowest.
 pub record IsNext (ts : List Txn) (member : ℕ → Type 0) (held : ℕ) (rank : ℕ → ℕ) (upto k : ℕ) (p : Placed) : Type 0 where

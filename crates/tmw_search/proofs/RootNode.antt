@@ -1,10 +1,9 @@
 -- Where the search begins: the masks of who precedes whom are an order, and are the real-time order of a window's transactions.
-use Rattle.tmw_search.proofs.Shared.{AllByRecursion, AreRising, Begins, Bool, Criterion, Event, Has, In, IsOrder, IsRow, IsTrue, Lies, List, Marks, Some, Txn, View, [], add_event, and_from, and_parts, ap, arith, bit, bit_and, bit_at-zero, bit_at_ones, bit_or, cases_Bool, cases_lt, false, get_or-set_other, get_or-set_same, get_or_past, inl, inr, is_ended, length, length-set, lies-add, lt-ltb, ltb-true, members_of, precedes, refl, set, slice_get, slice_get_within, slice_index, suc, sym, transactions, transactions_from, true, views_of, zero, ℕ, ◌%◌, ◌*◌, ◌+◌, ◌-◌, ◌<◌, ◌^◌, ◌↔◌, ◌∙◌, ◌∷◌, ◌≡◌, ◌≤◌, ◌⊎◌}
+use Rattle.tmw_search.proofs.Shared.{AllByRecursion, AreRising, Begins, Bool, Criterion, Event, Has, In, IsOrder, IsRow, IsTrue, Lies, List, Marks, Some, Txn, View, [], add_event, and_from, and_parts, ap, arith, bit, bit_and, bit_at-zero, bit_at_ones, bit_or, cases_Bool, cases_lt, false, get_or-set_other, get_or-set_same, get_or_past, inl, inr, is_ended, length, length-set, lies-add, lt-ltb, ltb-true, members_of, precedes, refl, set, slice_get, slice_get_some, slice_get_within, slice_index, suc, sym, transactions, transactions_from, true, views_of, zero, ℕ, ◌%◌, ◌*◌, ◌+◌, ◌-◌, ◌<◌, ◌^◌, ◌↔◌, ◌∙◌, ◌∷◌, ◌≡◌, ◌≤◌, ◌⊎◌}
 use Rattle.std.proofs.lemmas.List.FromFn.{get_or-map-range_with_len}
 use Rattle.std.proofs.Math.Pow.{pow-lt}
 use Rattle.tmw_defs.proofs.OneMore.{joins, add_event_here, add_event_past}
 use Rattle.tmw_search.proofs.Bits.{below_bits, bit_true, bit_within, masks, same_place, or-left, or-right, or_either}
-use Rattle.tmw_search.proofs.LayerSteps.{slice_get_some}
 use Rattle.tmw_search.proofs.WindowViews.{shows-views_of, last_in_time}
 
 -- none begins before the one before it

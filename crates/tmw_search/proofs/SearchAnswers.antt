@@ -1,8 +1,7 @@
 -- What the search answers is what the criterion asks: where it finds a node some legal serial order ends somewhere, and else none does.
-use Rattle.tmw_search.proofs.Shared.{Agree, AreRising, Begins, Bool, Completes, Contains, Contains-append_cases, Criterion, Effect, EndsBy, Entails, Event, Explains, HasNone, HaveEight, In, IsFound, IsLegal, IsRoot, IsSerial, IsTrue, List, Node, NoneExplains, Only, Opacity, Refutes, ShowsStatus, Some, State, States, Status, Strict, TellsEnd, Txn, View, Window, [], and_parts, ap, arith, bit, bit_at, bit_at_ones, cases_lt, effects, end_state, eq-eqb, eqb-true, false, get_or, get_or_default, inl, inr, is_committed, is_ended, is_over, is_pending, length, length-map, map, may_hold, members, members_of, orderly, precedes, refl, slice_get, slice_get_within, status_of, subst, suc, sym, take, take_more, transactions, true, view, views, views_of, zero, ℕ, ◌+◌, ◌<◌, ◌==◌, ◌↔◌, ◌∙◌, ◌∷◌, ◌≡◌, ◌≤◌, ◌⊎◌}
+use Rattle.tmw_search.proofs.Shared.{Agree, AreRising, Begins, Bool, Completes, Contains, Contains-append_cases, Criterion, Effect, EndsBy, Entails, Event, Explains, HasNone, HaveEight, In, IsFound, IsLegal, IsRoot, IsSerial, IsTrue, List, Node, NoneExplains, Only, Opacity, Refutes, ShowsStatus, Some, State, States, Status, Strict, TellsEnd, Txn, View, Window, [], and_parts, ap, arith, bit, bit_at, bit_at_ones, cases_lt, effects, end_state, eq-eqb, eqb-true, false, get_or, get_or_default, inl, inr, is_committed, is_ended, is_over, is_pending, length, length-map, map, may_hold, members, members_of, orderly, precedes, refl, slice_get, slice_get_some, slice_get_within, status_of, subst, suc, sym, take, take_more, transactions, true, view, views, views_of, zero, ℕ, ◌+◌, ◌<◌, ◌==◌, ◌↔◌, ◌∙◌, ◌∷◌, ◌≡◌, ◌≤◌, ◌⊎◌}
 use Rattle.tmw_search.proofs.RankedOrders.{ActAs, IsCompletion, NoneBeforeItself, ShowsOrder, ShowsTransactions}
 use Rattle.tmw_search.proofs.Bits.{bit_cases, bit_true, bit_within, or-left, or-right, or_either}
-use Rattle.tmw_search.proofs.LayerSteps.{slice_get_some}
 use Rattle.tmw_search.proofs.LegalOrdersProof.{are_ranked, ordered_by}
 use Rattle.tmw_search.proofs.RootNode.{marks-within, rising-views}
 use Rattle.tmw_search.proofs.WindowViews.{act-as, shows-views_of, none_before_itself}

@@ -1,7 +1,7 @@
 -- What the proofs of this crate take from the libraries, from the crates below and from its specs.
 pub use Rattle.std.proofs.Common.{Bool, Err, IsFalse, IsPermutation, IsSorted, IsTrue, List, None, Ok, OnErr, OnOk, Option, Result, Some, [], ap, arith, bit_and, bit_or, cond, false, inl, inr, length, map, nat_cmp, nat_eq, not, pow-suc, refl, rules, subst, suc, sym, take, true, w8, zero, ℕ, ◌%◌, ◌&&◌, ◌*◌, ◌++◌, ◌+◌, ◌-◌, ◌/◌, ◌<◌, ◌==◌, ◌^◌, ◌||◌, ◌∙◌, ◌∷◌, ◌≡◌, ◌≤◌, ◌⊎◌}
 pub use Rattle.std.proofs.Math.ListN.{set}
-pub use Rattle.std.proofs.lemmas.Bool.{and_from, and_left, and_parts, and_right, cases_Bool, cases_eq, cases_lt, eq-eqb, eqb-false, eqb-true, le-ltb, lt-ltb, ltb-true, ne_eqb, not-false, not-true, not_from_false}
+pub use Rattle.std.proofs.lemmas.Bool.{and_from, and_left, and_parts, and_right, cases_Bool, cases_eq, cases_lt, eq-eqb, eqb-true, le-ltb, lt-ltb, ltb-true, ne_eqb, not-false, not-true, not_from_false}
 pub use Rattle.std.proofs.lemmas.List.{ext_get_or, get_or-map, get_or-replicate, get_or-set_other, get_or-set_same, get_or_default, get_or_past, length-map, length-set, nil_from_length, set-set, take_all, take_more}
 pub use Rattle.std.proofs.lemmas.List.Elements.{Contains-append_cases, Contains-append_left, Contains-get_or, Contains-push, Contains-push_cases}
 pub use Rattle.std.proofs.lemmas.List.Sums.{count_by-le-length, sum_by-cons, sum_by-set, sum_by_more}
@@ -13,7 +13,8 @@ pub use Rattle.std.specs.List.{AllByRecursion, Contains, count_by, list_all, sum
 pub use Rattle.std.specs.List.Sorted.{IsStrictlySortedBy}
 pub use Rattle.std.specs.Prelude.{IfSome, MatchOption, get_or, if◌then◌else◌, remove, slice_get, slice_index, slice_set, ◌↔◌}
 pub use Rattle.tmw_cuts.proofs.Bits.{bit_at-before_of, bit_at-less_same, bit_at-more_other, bit_at-more_same, bit_small, mask-set, shift_is}
-pub use Rattle.tmw_cuts.proofs.FirstMembers.{contains_cases, contains_here, contains_none}
+pub use Rattle.tmw_cuts.proofs.FirstMembers.{contains_cases, contains_here, contains_none, slice_get_some}
+pub use Rattle.tmw_cuts.proofs.RegisterValues.{after-final, final, final-kept, index-set, length-after, length-end}
 pub use Rattle.tmw_cuts.specs.Members.{AddsMember, members}
 pub use Rattle.tmw_cuts.specs.RegisterMask.{IsMaskOf, have}
 pub use Rattle.tmw_cuts.specs.StandsFor.{StandsFor, before_of, view_of, views, views_of}

@@ -1,5 +1,5 @@
 -- What a window shows of its events is what the search and the law need of their transactions.
-use Rattle.tmw_search.proofs.Shared.{AllByRecursion, Bool, Effect, Event, HaveEight, IsTrue, Lies, List, Op, Some, State, Txn, [], and_from, and_parts, and_right, ap, arith, before_of, bit, bit_at-before_of, cases_Bool, effect_of, effects, eq-eqb, eqb-true, false, get_or, get_or_from_slice_get, have, idle, inl, inr, is_ended, le-ltb, length, length-map, lies-transactions, map, not, pow-suc, precedes, refl, slice_get, slice_get-map, slice_get_read, slice_get_within, slice_index, suc, transactions, true, view, view_of, views_of, zero, ℕ, ◌<◌, ◌==◌, ◌^◌, ◌||◌, ◌∙◌, ◌∷◌, ◌≡◌, ◌≤◌}
+use Rattle.tmw_search.proofs.Shared.{AllByRecursion, Bool, Effect, Event, HaveEight, IsTrue, Lies, List, Op, Some, State, Txn, [], and_from, and_parts, and_right, ap, arith, before_of, bit, bit_at-before_of, cases_Bool, effect_of, effects, eq-eqb, eqb-true, false, get_or, get_or_from_slice_get, have, idle, inl, inr, is_ended, le-ltb, length, length-map, lies-transactions, map, not, pow-suc, precedes, refl, slice_get, slice_get-map, slice_get_read, slice_get_some, slice_get_within, slice_index, suc, transactions, true, view, view_of, views_of, zero, ℕ, ◌<◌, ◌==◌, ◌^◌, ◌||◌, ◌∙◌, ◌∷◌, ◌≡◌, ◌≤◌}
 use Rattle.tmw_search.proofs.RankedOrders.{ActAs, ActsAs, NoneBeforeItself, ShowsTransaction, ShowsTransactions}
 use Rattle.std.specs.Option.{option_map}
 use Rattle.tmw_cuts.proofs.OneEventMore.{length-views_of}
@@ -7,7 +7,6 @@ use Rattle.tmw_cuts.proofs.Masks.{bit-le}
 use Rattle.tmw_cuts.proofs.Chosen.{get_or-chosen, length-chosen}
 use Rattle.tmw_cuts.proofs.Effects.{index-put}
 use Rattle.tmw_cuts.specs.Effects.{SumsUp}
-use Rattle.tmw_search.proofs.LayerSteps.{slice_get_some}
 use Rattle.tmw_cuts.specs.declared.txn.Txn as cuts
 
 before_of-lt : (ts : List Txn) (u : Txn) → before_of ts u < 2 ^ length ts

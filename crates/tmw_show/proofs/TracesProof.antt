@@ -6,7 +6,7 @@ use Rattle.std.proofs.lemmas.List.Elements.{All-contains, All-drop, All-from_rec
 use Rattle.std.proofs.lemmas.List.Folds.{list_all-append}
 use Rattle.tmw_trace.specs.Version.{is_start}
 use Rattle.tmw_defs.specs.declared.verdict.Verdict.TheVariants.{Violated}
-use Rattle.tmw_part.specs.Marks.{kept_of}
+use Rattle.tmw_kept.specs.KeptEvents.{kept_of}
 use Rattle.tmw_part.proofs.Fewer.{kept-all}
 use Rattle.tmw_show.proofs.Shows.{shown-numbered}
 use Rattle.tmw_show.proofs.StateHeaders.{header_of, headers_of, initials-headers_of, each-headers_of, headers_of-each, heads-header_of, text-headers_of}

@@ -5,7 +5,7 @@ use Rattle.std.specs.Prelude.{Bool, List, None, Option, Some, [], codes, false, 
 use Rattle.tmw_defs.specs.declared.verdict.Why.{Why}
 use Rattle.tmw_defs.specs.declared.verdict.Why.TheVariants.{Transactions, States}
 use Rattle.tmw_wellformed.specs.declared.malformed.Malformed.TheVariants.{Register, Busy, Idle, Mismatch}
-use Rattle.tmw_part.specs.NameInWindow.{names_of}
+use Rattle.tmw_kept.specs.NameInWindow.{names_of}
 use Rattle.tmw_show.specs.TransactionNames.{label_at}
 use Rattle.tmw_show.specs.ValueNames.{long_values, names_from, shown_kind}
 use Rattle.tmw_show.specs.declared.run_verdict.RunVerdict.{RunVerdict}

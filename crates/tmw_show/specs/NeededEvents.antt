@@ -1,8 +1,8 @@
 -- Which events of a window are shown: all, or those that contradict each other, where it is asked why the window is violated.
 use Rattle.tmw_show.specs.Shared.{Criterion, Event, FindsPart, Reason, Registers, Verdict, Violated, all_kept, decimal, kept_of, line, members}
 use Rattle.std.specs.Prelude.{Bool, List, None, Option, [], codes, false, if◌then◌else◌, length, nat_lt, true, ℕ, ◌++◌, ◌≡◌}
-use Rattle.tmw_part.specs.DrawnSteps.{drawn_of}
-use Rattle.tmw_part.specs.FindReason.{FindsReason}
+use Rattle.tmw_reason.specs.DrawnSteps.{drawn_of}
+use Rattle.tmw_reason.specs.FindReason.{FindsReason}
 use Rattle.tmw_window.specs.declared.shown_window.ShownWindow.{ShownWindow}
 use Rattle.tmw_show.specs.declared.needed_events.NeededEvents.{NeededEvents}
 use Rattle.tmw_show.specs.declared.shown_trace.ShownTrace.{ShownTrace}

@@ -2,16 +2,16 @@
 use Rattle.tmw_show.specs.Shared.{Event, Reason, State, ValueSource, decimal, flat_map, line, list_any}
 use Rattle.std.specs.Prelude.{Bool, List, None, Option, Some, [], codes, drop, false, if◌then◌else◌, length, min, nat_lt, not, slice_index, take, true, ℕ, ◌&&◌, ◌++◌, ◌+◌, ◌==◌, ◌∷◌}
 use Rattle.tmw_events.specs.declared.ix.Ix.{Ix}
-use Rattle.tmw_part.specs.Origins.{origin_of, stays}
-use Rattle.tmw_part.specs.declared.origin.Fate.{Fate}
-use Rattle.tmw_part.specs.declared.origin.Fate.TheVariants.{GivenUp, GivingUp, Unasked, Overwritten, Stays}
-use Rattle.tmw_part.specs.declared.reason_step.ReasonStep.TheVariants.{RealTime, From, TooLate, Overwritten, ReadFirst, ChangedFirst, Through}
-use Rattle.tmw_part.specs.declared.origin.Origin.{Origin}
-use Rattle.tmw_part.specs.declared.reason_case.Derivation.{Derivation}
-use Rattle.tmw_part.specs.declared.reason_case.ReasonCase.{ReasonCase}
-use Rattle.tmw_part.specs.declared.reason_step.Contradiction.{Contradiction}
-use Rattle.tmw_part.specs.declared.reason_step.Contradiction.TheVariants.{Cycle, NoSource, Unlike}
-use Rattle.tmw_part.specs.declared.reason_step.ReasonStep.{ReasonStep}
+use Rattle.tmw_reason.specs.Origins.{origin_of, stays}
+use Rattle.tmw_reason.specs.declared.origin.Fate.{Fate}
+use Rattle.tmw_reason.specs.declared.origin.Fate.TheVariants.{GivenUp, GivingUp, Unasked, Overwritten, Stays}
+use Rattle.tmw_reason.specs.declared.reason_step.ReasonStep.TheVariants.{RealTime, From, TooLate, Overwritten, ReadFirst, ChangedFirst, Through}
+use Rattle.tmw_reason.specs.declared.origin.Origin.{Origin}
+use Rattle.tmw_reason.specs.declared.reason_case.Derivation.{Derivation}
+use Rattle.tmw_reason.specs.declared.reason_case.ReasonCase.{ReasonCase}
+use Rattle.tmw_reason.specs.declared.reason_step.Contradiction.{Contradiction}
+use Rattle.tmw_reason.specs.declared.reason_step.Contradiction.TheVariants.{Cycle, NoSource, Unlike}
+use Rattle.tmw_reason.specs.declared.reason_step.ReasonStep.{ReasonStep}
 use Rattle.tmw_show.specs.declared.frame.Frame.{Frame}
 use Rattle.tmw_show.specs.declared.frame.Frame.TheVariants.{Line, Clause}
 use Rattle.tmw_show.specs.SentenceParts.{before_text, left_text, read_text, writer_text}

@@ -10,16 +10,16 @@ pub use Rattle.tmw_defs.specs.declared.verdict.Verdict.TheVariants.{Malformed, O
 pub use Rattle.tmw_events.specs.Text.{event_text, kind_text}
 pub use Rattle.tmw_events.specs.declared.event.Event.{Event}
 pub use Rattle.tmw_events.specs.declared.registers.Registers.{Registers}
+pub use Rattle.tmw_kept.specs.KeptEvents.{all_kept, kept_of}
+pub use Rattle.tmw_kept.specs.declared.name_in_window.Name.{Name}
 pub use Rattle.tmw_lines.specs.LineFeeds.{line}
 pub use Rattle.tmw_monitor.specs.Fits.{rules_for}
 pub use Rattle.tmw_monitor.specs.declared.broken_rule.BrokenRule.{BrokenRule}
 pub use Rattle.tmw_options.specs.declared.form.Form.TheVariants.{Drawing, Page, Traces}
 pub use Rattle.tmw_options.specs.declared.show_options.ShowOptions.{ShowOptions}
 pub use Rattle.tmw_part.specs.FindPart.{FindsPart, IsMinimalPart}
-pub use Rattle.tmw_part.specs.Marks.{all_kept, kept_of}
-pub use Rattle.tmw_part.specs.declared.name_in_window.Name.{Name}
-pub use Rattle.tmw_part.specs.declared.reason_case.Reason.{Reason}
-pub use Rattle.tmw_part.specs.declared.reason_step.ValueSource.{ValueSource}
+pub use Rattle.tmw_reason.specs.declared.reason_case.Reason.{Reason}
+pub use Rattle.tmw_reason.specs.declared.reason_step.ValueSource.{ValueSource}
 pub use Rattle.tmw_report.specs.CommandRun.{AnswersTextFault, failures_after_answer}
 pub use Rattle.tmw_report.specs.Lines.{fault_line, report_by, verdict_status}
 pub use Rattle.tmw_report.specs.Quote.{RemarksFault, RemarksTrace}

@@ -19,8 +19,8 @@ use crate::value_names::long_values;
 use crate::window_text::push_window;
 use std::alloc::{AllocError, Global};
 use tmw_defs::Criterion;
+use tmw_kept::kept_of;
 use tmw_options::Form;
-use tmw_part::kept_of;
 use tmw_report::report_by;
 
 /// Makes the text of what is shown by this criterion, in this form, of a trace before which so many events of the run

@@ -1,4 +1,4 @@
-use tmw_part::Name;
+use tmw_kept::Name;
 
 /// What a drawing calls transactions and long values.
 #[derive(Clone, Copy)]

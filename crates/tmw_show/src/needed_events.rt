@@ -3,7 +3,9 @@ ghost use Rattle.tmw_show.specs.NeededEvents.{marks_of, needed_text, part_words}
 
 use std::alloc::{AllocError, Global};
 use tmw_events::Event;
-use tmw_part::{MOST_EVENTS, Reason, kept_of};
+use tmw_kept::kept_of;
+use tmw_part::MOST_EVENTS;
+use tmw_reason::Reason;
 
 /// Which events of a window are shown.
 #[derive(Drop)]

@@ -8,7 +8,7 @@ use crate::value_names::Value;
 use std::alloc::{AllocError, Global};
 use tmw_cuts::State;
 use tmw_events::Ix;
-use tmw_part::{Contradiction, Fate, Origin, find_origin};
+use tmw_reason::{Contradiction, Fate, Origin, find_origin};
 use tmw_window::ShownWindow;
 
 /// What became of what a transaction put there.

@@ -5,7 +5,7 @@ ghost use Rattle.tmw_show.specs.SentenceParts.{before_text, left_text, read_text
 use crate::transaction_names::TransactionName;
 use crate::value_names::Value;
 use std::fmt;
-use tmw_part::ValueSource;
+use tmw_reason::ValueSource;
 
 /// Prints who read which value from which register. These values have names.
 #[derive(Clone, Copy)]

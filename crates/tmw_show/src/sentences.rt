@@ -10,7 +10,7 @@ use crate::sentence_parts::{Before, Left, Read, Writer};
 use crate::transaction_names::TransactionName;
 use crate::value_names::Value;
 use std::alloc::{AllocError, Global};
-use tmw_part::{Contradiction, Derivation, Reason, ReasonCase, ReasonStep, ValueSource};
+use tmw_reason::{Contradiction, Derivation, Reason, ReasonCase, ReasonStep, ValueSource};
 use tmw_window::ShownWindow;
 
 /// Adds the sentences of the reason why a window is violated before which so many events stand. If it has several cases,

@@ -5,7 +5,8 @@ use crate::needed_events::NeededEvents;
 use std::alloc::{AllocError, Global};
 use tmw_defs::{Criterion, Verdict};
 use tmw_events::Registers;
-use tmw_part::{find_part, find_reason};
+use tmw_part::find_part;
+use tmw_reason::find_reason;
 use tmw_window::ShownWindow;
 
 /// What is shown of a trace whose run has so many registers.

@@ -3,7 +3,7 @@ ghost use Rattle.tmw_show.specs.TransactionNames.{begun_at, label_at, name_text}
 
 use std::alloc::AllocError;
 use std::fmt;
-use tmw_part::Name;
+use tmw_kept::Name;
 
 /// Prints the name of the transaction at this place among those of the window.
 #[derive(Clone, Copy)]

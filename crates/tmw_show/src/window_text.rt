@@ -10,7 +10,7 @@ use crate::value_names::{long_values, push_names, push_shown};
 use itoa::Buffer;
 use std::alloc::AllocError;
 use tmw_events::Event;
-use tmw_part::{kept_of, names_of};
+use tmw_kept::{kept_of, names_of};
 
 /// The heads of eight columns.
 const ALL_HEADS: &[u8] =

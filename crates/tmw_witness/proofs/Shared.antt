@@ -8,6 +8,7 @@ pub use Rattle.std.proofs.lemmas.Option.{slice_get_within}
 pub use Rattle.std.specs.Int.{bit_at}
 pub use Rattle.std.specs.List.{Contains}
 pub use Rattle.std.specs.Prelude.{slice_get, slice_set}
+pub use Rattle.tmw_cuts.proofs.FirstMembers.{slice_get_some}
 pub use Rattle.tmw_cuts.proofs.Moves.{asked_on, ends_at}
 pub use Rattle.tmw_cuts.proofs.NextViews.{next_view, ops_of, place_of, views_after}
 pub use Rattle.tmw_cuts.proofs.OneEventMore.{found-begun, found-moved, length-views_of, live-next, moves}
@@ -20,7 +21,7 @@ pub use Rattle.tmw_defs.specs.Opaque.{State, after, after_writes, may_hold, prec
 pub use Rattle.tmw_defs.specs.Outcomes.{Ends, Leads}
 pub use Rattle.tmw_events.specs.declared.event.Kind.TheVariants.{C}
 pub use Rattle.tmw_search.proofs.Bits.{bit_cases, bit_within, masks, same_place}
-pub use Rattle.tmw_search.proofs.LayerSteps.{leads-first, shown_bit, slice_get_some}
+pub use Rattle.tmw_search.proofs.LayerSteps.{leads-first, shown_bit}
 pub use Rattle.tmw_search.proofs.WindowViews.{shown_at, shows-views_of}
 pub use Rattle.tmw_search.specs.Layers.{MayCome, chosen}
 pub use Rattle.tmw_search.specs.NodeOrders.{In}

@@ -1,4 +1,5 @@
-use Rattle.tmw_part.proofs.Shared.{All-more, IsNeededIn, arith, cases_Bool, false, inl, inr, sym, take_all, true, ◌∙◌, ◌≡◌}
+use Rattle.tmw_part.proofs.Shared.{IsNeededIn, arith, cases_Bool, false, inl, inr, sym, take_all, true, ◌∙◌, ◌≡◌}
+use Rattle.std.proofs.lemmas.List.Elements.{All-more}
 use Rattle.tmw_part.proofs.part_search.take_out.Goals.{in-Some, in_default}
 use Rattle.tmw_part.proofs.part_search.take_out.Goals as goal
 

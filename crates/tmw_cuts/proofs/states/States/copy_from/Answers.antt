@@ -1,7 +1,5 @@
 -- The other's states rise, and so does no state.
-use Rattle.tmw_cuts.proofs.Shared.{IsStrictlySortedBy, List, State, [], cond_both, nat_cmp}
-use Rattle.std.specs.Cmp.Lexicographic.{slice_cmp}
-use Rattle.std.specs.Prelude.{is_ok}
+use Rattle.tmw_cuts.proofs.Shared.{IsStrictlySortedBy, List, State, [], cond_both, is_ok, nat_cmp, slice_cmp}
 use Rattle.tmw_cuts.proofs.states.States.copy_from.Goals as goal
 
 abbrev none : List State

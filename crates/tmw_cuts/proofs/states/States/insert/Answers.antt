@@ -1,6 +1,5 @@
 -- The state goes to its place in the order, where the set does not have it.
-use Rattle.tmw_cuts.proofs.Shared.{IsStrictlySortedBy, [], cond_both, exact_bytes, nat_cmp, nat_list_cmp_total}
-use Rattle.std.specs.Cmp.Lexicographic.{slice_cmp}
+use Rattle.tmw_cuts.proofs.Shared.{IsStrictlySortedBy, [], cond_both, exact_bytes, nat_cmp, nat_list_cmp_total, slice_cmp}
 use Rattle.tmw_cuts.proofs.StrictOrder.{Contains-insert, IsStrictlySortedBy-push, place_by_search, found_is_member}
 use Rattle.tmw_cuts.proofs.states.States.insert.Goals as goal
 

@@ -1,0 +1,2 @@
+mod AddEvent
+mod Shared

@@ -1,5 +1,0 @@
-use Rattle.tmw_part.proofs.Shared.{All, IsMade}
-use Rattle.tmw_part.proofs.derivation_search.cases.Given as goal
-
-abbrev pub invariant-loop-step : goal.invariant-loop-step
-invariant-loop-step l = All (IsMade l.judged l.candidates) l.found.items

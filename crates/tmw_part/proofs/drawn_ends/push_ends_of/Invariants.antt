@@ -1,6 +1,0 @@
-use Rattle.tmw_part.proofs.Shared.{ends_at, flat_map, take, ◌++◌, ◌≡◌}
-use Rattle.tmw_part.proofs.drawn_ends.push_ends_of.Given as goal
-
-abbrev pub invariant-loop-register : goal.invariant-loop-register
-invariant-loop-register l =
-    l.ends.items ≡ l.initial.ends.items ++ flat_map (ends_at l.one) (take l.register-index l.register-items)

@@ -1,9 +1,0 @@
-use Rattle.tmw_part.proofs.EventsProof.{reason_tells}
-use Rattle.tmw_part.proofs.StepsProof.{reason_law}
-use Rattle.tmw_part.proofs.reason.law_reason.Goals as goal
-
-pub returns-clause-steps : goal.returns-clause-steps
-returns-clause-steps c = reason_law
-
-pub returns-clause-events : goal.returns-clause-events
-returns-clause-events c = reason_tells

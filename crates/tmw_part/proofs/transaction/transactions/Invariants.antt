@@ -1,5 +1,0 @@
-use Rattle.tmw_part.proofs.Shared.{drop, transactions, transactions_from, ◌≡◌}
-use Rattle.tmw_part.proofs.transaction.transactions.Given as goal
-
-abbrev pub invariant-loop-place : goal.invariant-loop-place
-invariant-loop-place l = transactions_from l.place l.list.items (drop l.place l.events) ≡ transactions l.events

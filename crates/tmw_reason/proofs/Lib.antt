@@ -1,0 +1,12 @@
+mod CasesProof
+mod ClosureSteps
+mod DerivationsProof
+mod EventsProof
+mod ListFacts
+mod OrderFacts
+mod OrderValues
+mod OriginsProof
+mod PlacesProof
+mod Shared
+mod StatesAt
+mod StepsProof
