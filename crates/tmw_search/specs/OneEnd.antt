@@ -1,8 +1,7 @@
 -- When transactions that have ended leave the same state in all their legal serial orders: each register has one writer, or there are
 -- no blind writes to it, so that each writer reads the version before its own and the versions form one chain.
-use Rattle.tmw_search.specs.Shared.{View, count_by, list_all}
+use Rattle.tmw_search.specs.Shared.{View, count_by, is_committed, list_all}
 use Rattle.std.specs.Prelude.{Bool, IsTrue, List, not, ℕ, ◌&&◌, ◌≤◌, ◌⊎◌}
-use Rattle.tmw_defs.specs.Counts.{is_committed}
 use Rattle.tmw_defs.specs.declared.op.Op.{Op}
 use Rattle.tmw_defs.specs.declared.status.Status.{Status}
 use Rattle.tmw_cuts.specs.RegisterUse.{writes, needs}

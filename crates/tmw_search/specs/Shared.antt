@@ -8,6 +8,7 @@ pub use Rattle.tmw_cuts.specs.Members.{HasRoom, members, room_of}
 pub use Rattle.tmw_cuts.specs.StandsFor.{StandsFor, count_of, views_of}
 pub use Rattle.tmw_cuts.specs.Views.{View, effect_of, view}
 pub use Rattle.tmw_cuts.specs.declared.effect.Effect.{Effect}
+pub use Rattle.tmw_defs.specs.Counts.{is_committed}
 pub use Rattle.tmw_defs.specs.Criteria.{EndsBy}
 pub use Rattle.tmw_defs.specs.History.{Txn, transactions}
 pub use Rattle.tmw_defs.specs.Opaque.{State, after_writes, may_hold, precedes, reads_hold}
