@@ -1,6 +1,5 @@
 -- An event that is taken at once leaves the history fine: where it leads to no cut, and where the only transaction ends with it.
-use Rattle.tmw_monitor.proofs.Shared.{Begin, Closes, Contains, Criterion, End, EndsOf, Event, ExplainsWith, HistoryDigest, IsNext, IsTrue, Ix, Keeps, Kind, List, Move, None, Outcome, Registers, Rules, StandsFor, State, States, StaysOpen, TellsWrong, Txn, Witness, Witnesses, [], ap, arith, asks, contains_here, drop, ends-by, false, grows, inl, inr, is_cut, is_end, is_quiet_by, is_well_formed, length, members, refl, state_of, subst, sym, transactions, true, uncut-next, views_of, ℕ, ◌++◌, ◌+◌, ◌<◌, ◌∙◌, ◌∷◌, ◌≡◌, ◌≤◌, ◌⊎◌}
-use Rattle.tmw_search.proofs.OneEnd.{alone-end}
+use Rattle.tmw_monitor.proofs.Shared.{Begin, Closes, Contains, Criterion, End, EndsOf, Event, ExplainsWith, HistoryDigest, IsNext, IsTrue, Ix, Keeps, Kind, List, Move, None, Outcome, Registers, Rules, StandsFor, State, States, StaysOpen, TellsWrong, Txn, Witness, Witnesses, [], alone-end, ap, arith, asks, contains_here, drop, ends-by, false, grows, inl, inr, is_cut, is_end, is_quiet_by, is_well_formed, length, members, refl, state_of, subst, sym, transactions, true, uncut-next, views_of, ℕ, ◌++◌, ◌+◌, ◌<◌, ◌∙◌, ◌∷◌, ◌≡◌, ◌≤◌, ◌⊎◌}
 use Rattle.tmw_search.proofs.WindowViews.{shows-views_of}
 use Rattle.tmw_witness.proofs.Path.{witness-ends}
 use Rattle.tmw_monitor.proofs.OpenWindow.{formed_whole, narrow-push}

@@ -1,5 +1,5 @@
 -- An event at a cut, by both criteria.
-use Rattle.tmw_monitor.proofs.Shared.{BothMonitor, Contains, End, Event, FitsBoth, Follows, HistoryDigest, IsNext, IsTrue, Ix, Keeps, List, NoOutcome, Opacity, Outcome, OutcomeCheck, Registers, Rules, StandsFor, States, Strict, Tells, TellsEnds, TellsWrong, TooMany, Window, Witnesses, [], ap, append-nil, by, drop, formed-next, grows, inl, inr, is_cut, is_quiet_by, is_well_formed, length, members, refl, subst, transactions, true, views_of, wrong_of, ℕ, ◌++◌, ◌+◌, ◌∙◌, ◌∷◌, ◌≡◌, ◌≤◌}
+use Rattle.tmw_monitor.proofs.Shared.{BothMonitor, Contains, End, Event, FitsBoth, Follows, HistoryDigest, IsNext, IsTrue, Ix, Keeps, List, NoOutcome, Opacity, Outcome, OutcomeCheck, Registers, Rules, StandsFor, States, Strict, TellsEnds, TellsWrong, TooMany, Window, Witnesses, [], ap, append-nil, by, drop, formed-next, grows, inl, inr, is_cut, is_well_formed, length, members, refl, subst, transactions, true, views_of, wrong_of, ℕ, ◌++◌, ◌+◌, ◌∙◌, ◌∷◌, ◌≡◌, ◌≤◌}
 use Rattle.tmw_monitor.proofs.BothKeep.{both-next, keeps-one, keeps-strictly}
 use Rattle.tmw_monitor.proofs.CutEnds.{closes}
 use Rattle.tmw_monitor.proofs.BothOpen.{Weighs, next-told}

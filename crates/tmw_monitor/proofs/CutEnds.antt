@@ -1,5 +1,5 @@
 -- The end states of a window at a cut.
-use Rattle.tmw_monitor.proofs.Shared.{Bool, Contains, Criterion, Ends, EndsBy, EndsOf, Event, HistoryDigest, IfSome, IsTrue, List, NoOutcome, None, Option, Outcome, OutcomeCheck, Some, StandsFor, State, States, Tells, TellsEnds, TooMany, Witness, Witnesses, [], arith, ends-by, inl, inr, is_cut, members, refl, subst, sym, transactions, views_of, ℕ, ◌∙◌, ◌∷◌, ◌≡◌, ◌≤◌}
+use Rattle.tmw_monitor.proofs.Shared.{Bool, Contains, Criterion, Ends, EndsBy, EndsOf, Event, HistoryDigest, IfSome, IsTrue, List, NoOutcome, None, Option, Outcome, OutcomeCheck, Some, StandsFor, State, States, Tells, TellsEnds, TooMany, Witness, Witnesses, [], arith, ends-by, inl, inr, is_cut, members, refl, subst, sym, transactions, views_of, ℕ, ◌∙◌, ◌∷◌, ◌≡◌}
 use Rattle.std.specs.Borrow.{Bor}
 use Rattle.std.specs.Option.{option_map}
 

@@ -2,7 +2,6 @@ mod AtOnce
 mod BothCut
 mod BothKeep
 mod BothOpen
-mod Committed
 mod CutEnds
 mod FeedOpen
 pub mod Final
@@ -10,6 +9,7 @@ mod FirstBroken
 mod Fresh
 mod NextVerdict
 mod OnlyOpen
+mod OpaqueEnds
 mod OpenWindow
 mod Shared
 mod SoFar

@@ -1,11 +1,8 @@
 -- What is found of the events since a history's last cut, from the set of its outcomes there.
-use Rattle.tmw_monitor.specs.Shared.{Contains, Criterion, Event, IsNext, StandsFor, State, Verdict, Witnesses, is_cut, list_all, members, views_of}
+use Rattle.tmw_monitor.specs.Shared.{Contains, Criterion, EndsOf, Event, HasMoreThan, IsNext, StandsFor, State, Verdict, Witnesses, is_cut, members, views_of}
 use Rattle.std.specs.Prelude.{Bool, IsFalse, IsTrue, List, None, Option, Some, [], length, ℕ, ◌++◌, ◌↔◌, ◌∷◌, ◌≡◌, ◌≤◌, ◌⊎◌}
 use Rattle.tmw_defs.specs.declared.verdict.Verdict.TheVariants.{Violated, Undecided}
 use Rattle.tmw_defs.specs.declared.verdict.Why.TheVariants.{States}
-use Rattle.tmw_cuts.specs.declared.txn.Txn.{Txn}
-use Rattle.tmw_defs.specs.Counts.{is_committed}
-use Rattle.tmw_search.specs.EndStates.{EndsOf, HasMoreThan}
 use Rattle.tmw_cuts.specs.declared.turn.Move.{Move}
 use Rattle.tmw_monitor.specs.declared.history_digest.HistoryDigest.{HistoryDigest}
 use Rattle.tmw_monitor.specs.declared.outcome_check.OutcomeCheck.{OutcomeCheck}
@@ -46,10 +43,6 @@ TellsEnds criterion old cap events new Outcome =
     × (end : State) × Contains (members new) end
 TellsEnds criterion old cap events new NoOutcome = ((end : State) → EndsOf criterion old events end → ⊥) × (members new ≡ [])
 TellsEnds criterion old cap events new TooMany = HasMoreThan cap (EndsOf criterion old events)
-
--- All of these transactions have committed.
-abbrev pub have_committed : List Txn → Bool
-have_committed items = list_all (λ item. is_committed item.status) items
 
 -- Of the events that stand in the window and the next one, which is this to its thread: what each finding tells of them all, from the
 -- outcomes before them.

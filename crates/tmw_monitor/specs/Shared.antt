@@ -1,5 +1,5 @@
 -- What the definitions and contracts of this crate take from the libraries and from the crates below.
-pub use Rattle.std.specs.List.{Contains, list_all}
+pub use Rattle.std.specs.List.{Contains}
 pub use Rattle.tmw_cuts.specs.Members.{HasRoom, members}
 pub use Rattle.tmw_cuts.specs.StandsFor.{Follows, IsNext, StandsFor, begun_by, count_of, turn_at, views, views_of}
 pub use Rattle.tmw_cuts.specs.declared.turn.Move.TheVariants.{Answer, Begin, End}
@@ -13,4 +13,5 @@ pub use Rattle.tmw_defs.specs.declared.criterion.Criterion.{Criterion}
 pub use Rattle.tmw_defs.specs.declared.criterion.Criterion.TheVariants.{Opacity, Strict}
 pub use Rattle.tmw_defs.specs.declared.verdict.Verdict.{Verdict}
 pub use Rattle.tmw_events.specs.declared.event.Event.{Event}
+pub use Rattle.tmw_search.specs.EndStates.{EndsOf, HasMoreThan}
 pub use Rattle.tmw_witness.specs.Witness.{Witnesses}

@@ -1,16 +1,13 @@
-ghost use Rattle.tmw_monitor.specs.Shared.{Event, HasRoom, Opacity, StandsFor, Strict, Witnesses, is_cut, members, views_of};
+ghost use Rattle.tmw_monitor.specs.Shared.{Criterion, EndsOf, Event, HasRoom, Opacity, StandsFor, State, Strict, Witnesses, is_cut, members, views_of};
 ghost use Rattle.std.specs.Prelude.{Bool, IsFalse, IsTrue, List, [], length, ℕ, ◌≡◌, ◌≤◌};
-ghost use Rattle.tmw_defs.specs.Opaque.{State};
-ghost use Rattle.tmw_defs.specs.declared.criterion.Criterion.{Criterion};
 ghost use Rattle.tmw_monitor.specs.declared.outcome_check.OutcomeCheck.TheVariants.{Outcome};
-ghost use Rattle.tmw_monitor.specs.OutcomeCheck.{Tells, TellsEnds, have_committed};
-ghost use Rattle.tmw_search.specs.EndStates.{EndsOf};
+ghost use Rattle.tmw_monitor.specs.OutcomeCheck.{Tells, TellsEnds};
 
 use crate::history_digest::HistoryDigest;
 use crate::outcome_check::OutcomeCheck;
-use tmw_cuts::{States, Txn};
-use tmw_defs::{Criterion, Status};
-use tmw_search::{EndSet, replace_by_forced, replace_by_outcomes};
+use tmw_cuts::States;
+use tmw_defs::Criterion;
+use tmw_search::{EndSet, ends_alike, replace_by_forced, replace_by_outcomes};
 use tmw_witness::Witness;
 
 /// Weighs the events of a window at no cut, from the outcomes at its beginning. A serial order is looked for if none is known,
@@ -115,20 +112,11 @@ pub fn close_strictly(
     OutcomeCheck::Outcome
 }
 
-/// Tells whether all of these have committed. Both criteria then ask the same of them.
-fn have_committed(items: &[Txn]) -> bool
-    ensures { result ≡ have_committed items.now }
-{
-    items
-        .iter()
-        .all(|item| matches!(item.status, Status::Committed))
-}
-
-/// Returns `true` only if opacity has all these outcomes, which strict serializability has at a cut: if all have committed, or if there is
-/// one alone and opacity has one.
+/// Returns `true` only if opacity has all these outcomes, which strict serializability has at a cut: if there is one alone and opacity has
+/// one, or if what has not committed can come first.
 fn has_all(kept: &HistoryDigest, outcomes: &States) -> bool
     ensures { IsTrue result → (cap : ℕ) (events : List Event) → StandsFor kept.now.window events
-        → Witnesses (members kept.now.states) (views_of events) kept.now.witness
+        → IsTrue (is_cut events) → Witnesses (members kept.now.states) (views_of events) kept.now.witness
         → TellsEnds Strict kept.now.states cap events outcomes.now Outcome
         → (end : State) → EndsOf Strict kept.now.states events end
         → EndsOf Opacity kept.now.states events end }
@@ -136,7 +124,7 @@ fn has_all(kept: &HistoryDigest, outcomes: &States) -> bool
     if kept.witness.is_known() && outcomes.len() == 1 {
         return true;
     }
-    have_committed(kept.window.transactions())
+    ends_alike(&kept.states, &kept.window)
 }
 
 /// Weighs by opacity the events of a window at a cut, where this was found of them by strict serializability, with these outcomes. If

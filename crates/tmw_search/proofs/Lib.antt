@@ -15,6 +15,7 @@ pub mod RankedOrders
 mod Ranks
 mod ReadSteps
 mod RootNode
+mod SameEnds
 mod SearchAnswers
 mod Shared
 pub mod WindowViews

@@ -1,6 +1,6 @@
 -- An end state that is known is the only one, where the end states are forced: what each writer of a register finds and leaves there
 -- sums up to the same over each legal serial order. Masks tell of a window that they are.
-use Rattle.tmw_search.proofs.Shared.{AreForced, AreHeld, Bool, Contains, Criterion, EndsOf, Event, IsForced, IsMaskOf, IsTrue, Leads, LeadsBy, List, Op, Opacity, Placed, Replaces, Some, StandsFor, State, States, Status, Strict, Txn, View, Window, [], after, after-final, after_writes, and_from, and_left, and_parts, and_right, ap, arith, bit_and, bit_at, bit_at-lt, bit_at-zero, bit_at_above, bit_at_and, bit_at_not, bit_at_or, bit_not, bit_or, cases_Bool, cases_lt, cond, contains_cases, contains_here, contains_none, count_by, count_by-le-length, end_state, eqb-true, ext_get_or, false, final, final-kept, get_or-set_other, get_or-set_same, get_or_from_slice_get, if◌then◌else◌, index-set, inl, inr, is_blind_writer, is_committed, is_cut, is_ended, is_over, is_writer, length, length-end, length-set, list_all, list_all-remove, map, may_be, may_hold, members, not, not-false, not-true, not_from_false, operations, precedes, reads_hold, refl, remove, slice_get, slice_get_within, slice_index, slice_set, status_of, subst, suc, sum_by, sum_by-cons, sum_by_more, sym, take, take_all, transactions, true, view_of, views, w8, zero, ℕ, ◌%◌, ◌+◌, ◌<◌, ◌==◌, ◌^◌, ◌↔◌, ◌∙◌, ◌∷◌, ◌≡◌, ◌≤◌, ◌⊎◌}
+use Rattle.tmw_search.proofs.Shared.{AreForced, AreHeld, Bool, Contains, Criterion, EndsOf, Event, IsForced, IsMaskOf, IsTrue, Leads, LeadsBy, List, Op, Opacity, Placed, Replaces, Some, StandsFor, State, States, Status, Strict, Txn, View, Window, [], after, after-final, and_from, and_left, and_parts, and_right, ap, arith, bit_and, bit_at, bit_at-lt, bit_at-zero, bit_at_above, bit_at_and, bit_at_not, bit_at_or, bit_not, bit_or, cases_Bool, cases_lt, cond, contains_cases, contains_here, contains_none, count_by, count_by-le-length, end_state, eqb-true, ext_get_or, false, final, final-kept, get_or_from_slice_get, if◌then◌else◌, index-set, inl, inr, is_blind_writer, is_committed, is_cut, is_ended, is_over, is_writer, length, length-end, length-set, list_all, list_all-remove, map, may_be, may_hold, members, not, not-false, not-true, not_from_false, operations, precedes, reads_hold, refl, remove, slice_get, slice_get_within, slice_index, slice_set, status_of, subst, suc, sum_by, sum_by-cons, sum_by_more, sym, take, take_all, transactions, true, view_of, views, w8, zero, ℕ, ◌%◌, ◌+◌, ◌<◌, ◌==◌, ◌^◌, ◌↔◌, ◌∙◌, ◌∷◌, ◌≡◌, ◌≤◌, ◌⊎◌}
 use Rattle.tmw_cuts.specs.RegisterUse.{needs}
 use Rattle.std.proofs.lemmas.List.Folds.{list_all-map, list_all_more}
 use Rattle.std.proofs.lemmas.Bool.Decides.{nat_tests}

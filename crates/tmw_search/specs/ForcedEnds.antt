@@ -1,7 +1,6 @@
 -- What the reads of committed and aborted transactions need of the start of a serial order, and the ends of the starts that meet it.
-use Rattle.tmw_search.specs.Shared.{Contains, Criterion, Effect, EndsBy, Event, Opacity, State, transactions, view, views_of}
+use Rattle.tmw_search.specs.Shared.{Contains, Criterion, Effect, EndsBy, Event, Opacity, State, is_cut, transactions, view, views_of}
 use Rattle.std.specs.Prelude.{IsTrue, List, length, map, slice_index, ℕ, ◌<◌, ◌↔◌, ◌≡◌, ◌≤◌, ◌⊎◌}
-use Rattle.tmw_defs.specs.Cuts.{is_cut}
 use Rattle.tmw_search.specs.NodeOrders.{In, Needs, Writes, left_at, need_at}
 use Rattle.tmw_search.specs.declared.forced_ends.StartNeeds.{StartNeeds}
 use Rattle.tmw_cuts.specs.declared.txn.Txn as cuts

@@ -10,6 +10,7 @@ pub use Rattle.tmw_cuts.specs.Views.{View, effect_of, view}
 pub use Rattle.tmw_cuts.specs.declared.effect.Effect.{Effect}
 pub use Rattle.tmw_defs.specs.Counts.{is_committed}
 pub use Rattle.tmw_defs.specs.Criteria.{EndsBy}
+pub use Rattle.tmw_defs.specs.Cuts.{is_cut}
 pub use Rattle.tmw_defs.specs.History.{Txn, transactions}
 pub use Rattle.tmw_defs.specs.Opaque.{State, after_writes, may_hold, precedes, reads_hold}
 pub use Rattle.tmw_defs.specs.Outcomes.{Ends, Only}

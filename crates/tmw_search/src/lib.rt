@@ -23,6 +23,8 @@ mod read_consequences;
 #[tactic(auto, using(crate::proofs::Bits::masks))]
 mod root;
 #[tactic(auto, using(crate::proofs::Bits::masks))]
+mod same_ends;
+#[tactic(auto, using(crate::proofs::Bits::masks))]
 mod search;
 mod serial_order;
 mod settle_sources;
@@ -37,5 +39,6 @@ pub use find_serial_order::find_order;
 pub use forced_ends::replace_by_forced;
 pub use layer_steps::{is_next, may_hold};
 pub use layers::layer;
+pub use same_ends::ends_alike;
 pub use serial_order::{SerialOrder, SerialStep};
 pub use window_outcomes::{outcomes, possible, replace_by_outcomes};

@@ -1,6 +1,6 @@
 -- What was found strictly is found by opacity where that has all of it, or is searched.
 use Rattle.tmw_monitor.proofs.Shared.{Opacity, arith, length, members, ◌∙◌, ◌≤◌}
-use Rattle.tmw_monitor.proofs.Committed.{opaque-fine, opaque-none}
+use Rattle.tmw_monitor.proofs.OpaqueEnds.{opaque-fine, opaque-none}
 use Rattle.tmw_monitor.proofs.CutEnds.{closes}
 use Rattle.tmw_monitor.proofs.search_or_close.close_opaquely.Goals as goal
 
@@ -16,7 +16,7 @@ returns-then-has_all-clause-tells c quiet events stands cut was ends =
     let low = c.requires.cap in
     let room = old.room in
     rw c.in-Outcome.is (closes Opacity old.states c.args.outcomes.now c.args.cap quiet events _ cut
-    (opaque-fine old.states c.args.outcomes.now c.args.cap events (c.has_all.ensures c.if-has_all.true c.args.cap events stands was found) found)
+    (opaque-fine old.states c.args.outcomes.now c.args.cap events (c.has_all.ensures c.if-has_all.true c.args.cap events stands cut was found) found)
     (c.begin_window.ensures.states ∙ c.copy_from.ensures.members (omega (arith, few, low, room))) (c.begin_window.ensures.stands events stands cut)
     c.begin_window.ensures.witness)
 

@@ -1,5 +1,6 @@
 -- What the event is to its thread is told, and the order explains it.
-use Rattle.tmw_monitor.proofs.Shared.{Answer, Ask, Event, IsNext, Ix, K, Kind, N, R, StaysFine, V, W, Window, [], asks-kept, drop, moves, operation, refl, subst, sym, ℕ, ◌∙◌, ◌∷◌, ◌≡◌}
+use Rattle.tmw_monitor.proofs.Shared.{Answer, Ask, Event, IsNext, Ix, Kind, StaysFine, Window, [], asks-kept, drop, moves, operation, refl, subst, sym, ℕ, ◌∙◌, ◌∷◌, ◌≡◌}
+use Rattle.tmw_events.specs.declared.event.Kind.TheVariants.{K, N, R, V, W}
 use Rattle.tmw_defs.specs.declared.op.Op.TheVariants.{Add}
 use Rattle.tmw_monitor.proofs.AtOnce.{explained-fine}
 use Rattle.tmw_monitor.proofs.take_at_once.take_at_once.Goals as goal
