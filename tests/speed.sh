@@ -23,13 +23,13 @@ export GLIBC_TUNABLES=glibc.cpu.hwcaps=-AVX2,-AVX_Fast_Unaligned_Load,-ERMS,-AVX
 words=('' '--criterion strict' '--criterion both' '--first' '--summary')
 limits='
 serial    82.3 82.3 86.4 88.5 108.9
-calm      163.5 163.2 200.6 169.7 190.1
-wide      144.2 142.0 192.0 150.4 169.7
-long      79.5 79.5 84.4 85.7 93.3
-blind     291.2 291.2 313.7 297.4 322.9
-bench     89.6 89.5 98.2 95.8 112.7
-outcomes  525.4 491.5 940.2 531.6 548.6
-doomed    - 131.9 - - -
+calm      152.3 152.7 170.2 158.5 178.9
+wide      138.5 137.5 157.2 144.7 164.0
+long      79.5 79.5 83.5 85.6 93.2
+blind     294.3 294.3 319.7 300.5 326.0
+bench     89.2 89.1 92.8 95.4 112.3
+outcomes  332.3 332.2 336.0 338.5 355.5
+doomed    - 131.4 - - -
 '
 
 mode=check
