@@ -15,7 +15,8 @@ fn can_be_first(item: &Txn, states: &[State]) -> bool
     item.before == 0 && states.iter().all(|state| item.fits(state))
 }
 
-/// Tells whether each of the transactions that has not committed can come first, from each of the starts.
+/// Looks whether each of the transactions that has not committed can come first, from each of the starts. Returns `true` at a cut only if
+/// each end state by strict serializability is one by opacity.
 fn are_free(items: &[Txn], starts: &[State]) -> bool
     requires { length items.now ≤ 8 }
     ensures { IsTrue result → (events : List Event) → map view items.now ≡ views_of events
@@ -32,7 +33,7 @@ fn are_free(items: &[Txn], starts: &[State]) -> bool
     true
 }
 
-/// Tells whether each transaction of the window that has not committed can come first in a serial order, from each of the states. Returns
+/// Looks whether each transaction of the window that has not committed can come first in a serial order, from each of the states. Returns
 /// `true` at a cut only if each end state by strict serializability is one by opacity.
 pub fn ends_alike(states: &States, window: &Window) -> bool
     ensures { IsTrue result → (events : List Event) → StandsFor window.now events
