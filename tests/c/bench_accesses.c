@@ -298,6 +298,10 @@ static void check_forwarded(void)
             __tsan_write1(place);
         CHECK(halves[0] == i);
     }
+    words[0] = UINT64_C(1) << 32;
+    how.draws = NOT_DRAWN;
+    __tsan_atomic32_store(&halves[0], 3, __ATOMIC_RELAXED);
+    CHECK(__tsan_atomic64_load(&words[0], __ATOMIC_RELAXED) == (UINT64_C(1) << 32) + 3);
 }
 
 int main(void)
