@@ -41,7 +41,7 @@ ends 'the pages' 0 env TMWATCH_LIB="$library" "$cargo" doc --offline --locked
 ends 'a program on the bench' 0 env TMWATCH_LIB="$library" "$cargo" run --offline --locked --release --example lock -- --schedule steps \
     --rounds 500
 has_told 'a program on the bench: no rescue' '"rescues":0,"rounds":500,'
-ends 'a program on the bench: each wait is seen' 1 sh -c 'nm -D "$1" | grep __real_' sh "$folder/target/release/examples/lock"
+ends 'a program on the bench: each wait is seen' 1 sh -c 'nm -D "$1" | grep __real_sched_yield' sh "$folder/target/release/examples/lock"
 # (each pause is a step)
 ends 'a program of one thread' 0 env TMWATCH_LIB="$library" "$cargo" run --offline --locked --release --example lock -- --schedule steps --rounds 20 \
     --threads 1 --aborts 50
