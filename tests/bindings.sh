@@ -22,10 +22,18 @@ library=$(cd "$built/lib" && pwd)
 export CARGO_TARGET_DIR=$folder/target RUSTFLAGS=-Dwarnings RUSTDOCFLAGS=-Dwarnings
 cd "$top/bindings/rust"
 
-ends 'a library that is not there' 101 env TMWATCH_LIB="$folder/none" "$cargo" build --offline --locked
-has_told 'a library that is not there: what is told' 'set TMWATCH_LIB to FOLDER/lib'
 ends 'the tests' 0 env TMWATCH_LIB="$library" "$cargo" test --offline --locked
 grep '^test ' "$folder/output" || true
+# (what was built before is no longer right)
+ends 'a library that is not there' 101 env TMWATCH_LIB="$folder/none" "$cargo" build --offline --locked
+has_told 'a library that is not there: what is told' 'libtmwatch_bench.a and .* set TMWATCH_LIB to FOLDER/lib'
+# (archives alone)
+mkdir "$folder/copied" && cp "$library"/*.a "$folder/copied"
+for _ in first then; do
+    ends 'a library that has changed' 0 env TMWATCH_LIB="$folder/copied" "$cargo" test --offline --locked --no-run --test leaks
+    has_told 'a library that has changed: it is built' Compiling
+    sleep 1 && touch "$folder/copied"
+done
 ends 'the tests, optimized' 0 env TMWATCH_LIB="$library" "$cargo" test --offline --locked --release
 ends 'the tests, each access a step' 0 env TMWATCH_LIB="$library" "$cargo" test --offline --locked --release --features steps
 ends 'the pages, each access a step' 0 env TMWATCH_LIB="$library" "$cargo" doc --offline --locked --features steps
@@ -33,6 +41,7 @@ ends 'the pages' 0 env TMWATCH_LIB="$library" "$cargo" doc --offline --locked
 ends 'a program on the bench' 0 env TMWATCH_LIB="$library" "$cargo" run --offline --locked --release --example lock -- --schedule steps \
     --rounds 500
 has_told 'a program on the bench: no rescue' '"rescues":0,"rounds":500,'
+ends 'a program on the bench: each wait is seen' 1 sh -c 'nm -D "$1" | grep __real_sched_yield' sh "$folder/target/release/examples/lock"
 # (each pause is a step)
 ends 'a program of one thread' 0 env TMWATCH_LIB="$library" "$cargo" run --offline --locked --release --example lock -- --schedule steps --rounds 20 \
     --threads 1 --aborts 50
@@ -78,6 +87,7 @@ else
 fi
 if command -v pkg-config >/dev/null; then
     ends 'by the package' 0 env -u TMWATCH_LIB PKG_CONFIG_PATH="$library/pkgconfig" "$cargo" build --offline --locked
+    ends 'a package that is not there' 101 env -u TMWATCH_LIB PKG_CONFIG_PATH="$folder" PKG_CONFIG_LIBDIR="$folder" "$cargo" build --offline --locked
 fi
 if "$cargo" fmt --version >/dev/null 2>&1; then
     ends 'the form' 0 "$cargo" fmt --check

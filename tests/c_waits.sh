@@ -95,7 +95,17 @@ ends 'locks that are not wrapped: the legs' 0 sh -c '"$@" --rounds 9000 --regist
     sh "$folder/unwrapped"
 cp "$folder/output" "$folder/told"
 ends 'locks that are not wrapped: no leg of other orders' 1 grep -q -- --orders "$folder/told"
+# A lock that is not wrapped, by how the program names it, and which one is told; then one that is wrapped.
+named() {
+    ends "a lock that is named by $1 compiles" 0 gcc -O2 -pthread "-DNAMED=$1" -o "$folder/named" "$top/tests/c/bench_unwrapped.c" "${wraps[@]}" "${bench[@]}"
+    count "a lock that is named by $1" "$2" "$("$folder/named")"
+}
+named 0 none
+for names in 1 2 3; do
+    named $names pthread_mutex_lock
+done
 wraps=("$waits" "$blocks")
+named 7 none
 
 # Whether the first rounds of a leg have stale loads or delayed stores: a fence that is missing is found by twenty seeds, but in none of these.
 first_rounds() {

@@ -201,6 +201,8 @@ fails text "thread 3, call \"R 2\": \"hello from the store\" is no answer; $ours
 fails blank "thread 3, call \"R 2\": \"\" is no answer; $ours" '{"fault":"program"}' "${one[@]}"
 fails register "thread 3, call \"R 2\": \"9 C\" is no answer; $ours" '{"fault":"program"}' "${one[@]}"
 fails kind 'thread 3, call "R 2": "3 K" is no answer to it: "3 V NUMBER" is, or "3 A"' '{"fault":"program"}' "${one[@]}"
+WHEN=28 runs 'kind, of a commit' 4 --schedule steps "${one[@]}" kind
+says 'kind, of a commit' 'thread 3, call "T": "3 K" is no answer to it: "3 C" is, or "3 A"'
 fails huge 'thread 3, call "R 2": "3 V 18446744073709551616": the number has more than 64 bits' '{"fault":"program"}' "${one[@]}"
 fails negative 'thread 3, call "R 2": "3 V -1" is no answer to it: "3 V NUMBER" is, or "3 A"' '{"fault":"program"}' "${one[@]}"
 fails control 'thread 3, call "R 2": "3 \x01" is no answer to it: "3 V NUMBER" is, or "3 A"' '{"fault":"program"}' "${one[@]}"

@@ -22,10 +22,11 @@ TAKES = dict.fromkeys(["schedule", "orders", "races"], "WORD") | {"trace": "FILE
 # Numbers beyond a range that --help doesn't give, each with its further words; and the greatest ones within.
 REFUSED = [
     ["--rounds", "0"], ["--event", "1"], ["--attempts", "3"], ["--round", "20001"], ["--round", "1", "--schedule", "rounds"],
-    ["--round", "1", "--schedule", "permits"], ["--attempts", "2", "--threads", "5"],
+    ["--round", "1", "--schedule", "permits"], ["--attempts", "2", "--threads", "5"], ["--attempts", "2", "--crashes"],
 ]  # fmt: skip
 TAKEN = [["--attempts", "2"], ["--attempts", "1", "--threads", "8"], ["--attempts", str(2**64 - 1), "--schedule", "permits"],
-         ["--seed", "0"], ["--seed", str(2**64 - 1)], ["--event", "1", "--round", "1"], ["--event", "7", "--round", "20000"]]
+         ["--seed", "0"], ["--seed", str(2**64 - 1)], ["--event", "1", "--round", "1"], ["--event", "7", "--round", "20000"],
+         ["--attempts", "2", "--threads", "3", "--crashes"]]
 UNREAD = ["-1", "+1", "", "1x", "x", str(2**64), "0x1"]
 USAGE = '{"fault":"usage"}\n'
 

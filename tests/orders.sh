@@ -42,10 +42,11 @@ noticing=(litmus plain 'exact 300' 'random 20000')
 if has addr2line 'what is told'; then
     noticing=(told "${noticing[@]}")
     ends 'what is told, whole' 0 "$folder/models/told"
-    # (an addr2line that complains)
-    printf '#!/bin/sh\necho complains >&2\nexec %s "$@"\n' "$(command -v addr2line)" >"$folder/models/addr2line"
+    # (an addr2line that complains, and is told by its environment what it stands for)
+    printf '#!/bin/sh\necho complains >&2\nexec "$REAL" "$@"\n' >"$folder/models/addr2line"
     chmod +x "$folder/models/addr2line"
-    ends 'what addr2line complains of is not told' 0 sh -c '"$@" 2>&1 >/dev/null | { ! grep .; }' sh env "PATH=$folder/models:$PATH" "$folder/models/told"
+    ends 'what addr2line complains of is not told' 0 sh -c '"$@" 2>&1 >/dev/null | { ! grep .; }' sh env "PATH=$folder/models:$PATH" \
+        "REAL=$(command -v addr2line)" "$folder/models/told"
 fi
 sed -i 's/MOST_SEQUENTIAL = [0-9]*/MOST_SEQUENTIAL = 2/' "$folder/bench-c/instrumented/orders/simulation.c"
 ends 'the tests of a model that tells few operations apart compile' 0 compile_model "$folder/models" "${strict[@]}"

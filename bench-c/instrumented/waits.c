@@ -307,22 +307,22 @@ long __wrap_syscall(long number, long first, long what, long third, long fourth,
     return 0;
 }
 
-/* The dynamic symbols of the program, or of the library that has the bench in it. */
+/* What links the program, or the library that has the bench in it, as it is loaded. (This file's own symbols are weak.) */
 extern ElfW(Dyn) _DYNAMIC[] __attribute__((weak));
 
 const char *tmwatch_step_unwrapped(void)
 {
     static const char locks[] = "@(pthread_@(mutex_|spin_|rwlock_|cond_|once|barrier_)|mtx_|cnd_|call_once|sem_t|__cxa_guard_)*";
-    const void *at[DT_NUM] = {NULL};
+    static const unsigned char tables[][2] = {{DT_RELA, DT_RELASZ}, {DT_JMPREL, DT_PLTRELSZ}};
+    ElfW(Addr) at[DT_NUM] = {0};
     for (const ElfW(Dyn) *it = _DYNAMIC; it && it->d_tag != DT_NULL; it++)
-        at[it->d_tag == DT_GNU_HASH ? DT_HASH : it->d_tag < DT_NUM ? it->d_tag : DT_NULL] = (const void *)it->d_un.d_ptr;
-    const ElfW(Sym) *symbols = at[DT_SYMTAB];
-    const uint32_t *hash = at[DT_HASH];
-    /* (those that are looked for elsewhere come before the first of the hash; this file's own are weak) */
-    for (uint32_t i = 1; symbols && hash && !__real_pthread_mutex_lock && i < hash[1]; i++) {
-        const char *name = (const char *)at[DT_STRTAB] + symbols[i].st_name;
-        if (symbols[i].st_info >> 4 == STB_GLOBAL && symbols[i].st_shndx == SHN_UNDEF && fnmatch(locks, name, FNM_EXTMATCH) == 0)
-            return name;
-    }
+        at[it->d_tag < DT_NUM ? it->d_tag : DT_NULL] = it->d_un.d_ptr;
+    for (unsigned i = 0; i < 2 && !__real_pthread_mutex_lock; i++)
+        for (const ElfW(Rela) *it = (const void *)at[tables[i][0]], *end = it + at[tables[i][1]] / sizeof *it; it < end; it++) {
+            const ElfW(Sym) *symbol = (const ElfW(Sym) *)at[DT_SYMTAB] + ELF64_R_SYM(it->r_info);
+            const char *name = (const char *)at[DT_STRTAB] + symbol->st_name;
+            if (symbol->st_info >> 4 == STB_GLOBAL && symbol->st_shndx == SHN_UNDEF && fnmatch(locks, name, FNM_EXTMATCH) == 0)
+                return name;
+        }
     return NULL;
 }

@@ -204,7 +204,7 @@ static void tell_plain(void)
 }
 
 /* A store that is delayed is out once it is drawn, at one step in four; or if it is the oldest of nine; or before one that isn't delayed, the
-   strongest fence, or an access of 16 bytes. */
+   strongest fence, a read-modify-write, or an access of 16 bytes. */
 static void check_delayed(void)
 {
     static uint64_t words[9];
@@ -235,6 +235,15 @@ static void check_delayed(void)
     __tsan_atomic64_store(&words[0], 10, __ATOMIC_RELEASE);
     __tsan_atomic128_load((wide *)place, __ATOMIC_RELAXED);
     CHECK(words[0] == 10);
+    for (uint64_t i = 11; i < 13; i++) {
+        how.draws = NOT_DRAWN;
+        __tsan_atomic64_store(&words[0], i, __ATOMIC_RELEASE);
+        if (i == 11)
+            __tsan_atomic64_fetch_add(&words[1], 1, __ATOMIC_RELAXED);
+        else
+            __tsan_atomic64_compare_exchange_val(&words[1], 0, 0, __ATOMIC_RELAXED, __ATOMIC_RELAXED);
+        CHECK(words[0] == i);
+    }
 }
 
 /* Whether a store there is delayed. */
@@ -298,6 +307,10 @@ static void check_forwarded(void)
             __tsan_write1(place);
         CHECK(halves[0] == i);
     }
+    words[0] = UINT64_C(1) << 32;
+    how.draws = NOT_DRAWN;
+    __tsan_atomic32_store(&halves[0], 3, __ATOMIC_RELAXED);
+    CHECK(__tsan_atomic64_load(&words[0], __ATOMIC_RELAXED) == (UINT64_C(1) << 32) + 3);
 }
 
 int main(void)

@@ -144,7 +144,7 @@ fn a_right_memory_is_opaque_so_far() {
             bench_retrying(&Versioned::new(true, start), &plan).unwrap(),
             bench_retrying(&OneLock { words: Mutex::new(start), refuses: AtomicBool::new(true) }, &plan).unwrap(),
         ] {
-            assert_eq!(benched.told.verdict, Verdict::OpaqueSoFar);
+            assert_eq!((benched.told.verdict, benched.rescues), (Verdict::OpaqueSoFar, 0));
             assert_eq!(benched.rounds, 2000);
             let trace = benched.trace.unwrap();
             assert!([" R ", " W ", " N ", " X\n", " A\n"].iter().all(|event| trace.contains(event)));
