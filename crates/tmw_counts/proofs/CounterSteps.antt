@@ -219,7 +219,11 @@ counted-push registers h e note others asked live old counts low so taken step =
       cuts =
           let more = cuts-push h e in
           let cut = ap one_if (zero_is live (is_cut (h ++ e ∷ [])) taken.cut) in
-          omega (arith, step.cuts, was.cuts, more, cut, count-length is_cut (prefixes h), prefixes-few h, low, one_if-le (live == 0));
+          let grows = λ (b : Bool). if b then held (old.counts.cuts + 1) else old.counts.cuts in
+          elim (cases_Bool (live == 0)) [
+            | inl is ↦ omega (arith, step.cuts ∙ ap grows is, ap one_if is, was.cuts, more, cut, count-length is_cut (prefixes h), prefixes-few h, low)
+            | inr apart ↦ omega (arith, step.cuts ∙ ap grows apart, ap one_if apart, was.cuts, more, cut)
+          ];
       widest = λ most.
           let next = widest-push old.counts.widest so.cut h e so.last was.widest most in
           let grows = λ (b : Bool). if b then max old.counts.widest (counts.transactions - old.before) else old.counts.widest in

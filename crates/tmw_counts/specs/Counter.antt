@@ -48,7 +48,7 @@ meets begins others apart = if begins && others then 1 + one_if apart else 0
 pub record AreCounted (note : Note) (others asked : Bool) (live : ℕ) (old : Counter) (counts : Counts) : Type 0 where
   pub aborted : counts.aborted ≡ held (old.counts.aborted + one_if (aborts note.ends))
   pub committed : counts.committed ≡ held (old.counts.committed + one_if (commits note.ends))
-  pub cuts : counts.cuts ≡ held (old.counts.cuts + one_if (live == 0))
+  pub cuts : counts.cuts ≡ (if live == 0 then held (old.counts.cuts + 1) else old.counts.cuts)
   pub live_now : counts.live ≡ live
   pub overlapping : counts.overlapping ≡ held (old.counts.overlapping + meets note.begins others old.apart)
   pub all : counts.transactions ≡ held (old.counts.transactions + one_if note.begins)

@@ -1,4 +1,4 @@
-ghost use Rattle.std.specs.Prelude.{◌≡◌, ◌+◌, ◌<◌, ◌-◌, ◌^◌, ℕ, true, false, Some, None, List, [], ◌∷◌, ◌++◌, length, IfOk, IfErr, OnErr};
+ghost use Rattle.std.specs.Prelude.{◌≡◌, ◌+◌, ◌<◌, ◌-◌, ◌^◌, ℕ, true, false, Some, None, List, [], ◌∷◌, ◌++◌, length, IfOk, IfErr, OnErr, max};
 ghost use Rattle.tmw_counts.specs.Counter.{CountsSo, IsStep, aborts, commits, held, meets, one_if};
 ghost use Rattle.tmw_counts.specs.Summary.{IsSummary};
 ghost use Rattle.tmw_events.specs.declared.event.Event.{Event};
@@ -93,23 +93,22 @@ impl Counter {
         let met = self.met(note.begins, others);
         self.counts.aborted = add_if(self.counts.aborted, aborts(note.ends));
         self.counts.committed = add_if(self.counts.committed, commits(note.ends));
-        self.counts.cuts = add_if(self.counts.cuts, live == 0);
         self.counts.live = u64::from(live);
         self.counts.overlapping = self.counts.overlapping.saturating_add(met);
         self.counts.transactions = add_if(self.counts.transactions, note.begins);
         self.counts.unasked = add_if(self.counts.unasked, aborts(note.ends) && !asked);
         if note.begins {
             let open = self.counts.transactions.saturating_sub(self.before);
-            self.counts.widest = self.counts.widest.max(open);
+            raise(&mut self.counts.widest, open);
         }
         if live == 0 {
+            self.counts.cuts = add_if(self.counts.cuts, true);
             self.before = self.counts.transactions;
+            self.apart = false;
         }
-        self.apart = if note.begins {
-            !others
-        } else {
-            self.apart && live > 0
-        };
+        if note.begins {
+            self.apart = !others;
+        }
     }
 
     /// Counts the first event of a transaction, as `count` does. It is called.
@@ -157,7 +156,17 @@ impl Counter {
 fn add_if(count: u64, more: bool) -> u64
     ensures { result ≡ held (count + one_if more) }
 {
-    count.saturating_add(u64::from(more))
+    if more { count.saturating_add(1) } else { count }
+}
+
+/// Makes the count this one, if that is more.
+#[inline(always)]
+fn raise(count: &mut u64, other: u64)
+    ensures { count.new ≡ max count.old other }
+{
+    if *count < other {
+        *count = other;
+    }
 }
 
 #[inline(always)]

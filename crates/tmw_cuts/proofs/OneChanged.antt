@@ -9,7 +9,7 @@ change-at f [] i d new within is = absurd (omega arith)
 change-at f (t ∷ ts) zero d new within is = ap (λ s. s ∷ map view ts) is
 change-at f (t ∷ ts) (suc i) d new within is = ap (λ ss. view t ∷ ss) (change-at f ts i d new (omega arith) is)
 
-change-past : {A : Type 0} (f : A → A) (xs : List A) (i : ℕ) → length xs ≤ i → change i f xs ≡ xs
+pub change-past : {A : Type 0} (f : A → A) (xs : List A) (i : ℕ) → length xs ≤ i → change i f xs ≡ xs
 change-past f (x ∷ xs) (suc i) past = ap (λ ys. x ∷ ys) (change-past f xs i (omega arith))
 change-past f _ i past = grind arith
 

@@ -1,5 +1,5 @@
 -- Lists that rise strictly in a total order: what a binary search finds in one, and what one element more makes of it.
-use Rattle.tmw_cuts.proofs.Shared.{AllByRecursion, CmpEqualImpliesEq, Contains, Err, IsBinarySearchResult, IsNonDecreasingBy, IsPartitionPoint, IsSearchInRange, IsStrictlySortedBy, IsTrue, List, Ok, Result, [], ap, arith, cases_lt, drop, get_or, inl, inr, insert, is_ok, length, refl, suc, sym, take, take-append-drop, tied_itself, zero, ℕ, ◌++◌, ◌+◌, ◌<◌, ◌↔◌, ◌∙◌, ◌∷◌, ◌≡◌, ◌≤◌, ◌⊎◌}
+use Rattle.tmw_cuts.proofs.Shared.{AllByRecursion, CmpEqualImpliesEq, Contains, Err, IsBinarySearchResult, IsNonDecreasingBy, IsPartitionPoint, IsSearchInRange, IsStrictlySortedBy, IsTrue, List, Ok, Result, [], ap, arith, cases_lt, drop, get_or, get_or_default, inl, inr, insert, is_ok, length, refl, suc, sym, take, take-append-drop, tied_itself, zero, ℕ, ◌++◌, ◌+◌, ◌<◌, ◌↔◌, ◌∙◌, ◌∷◌, ◌≡◌, ◌≤◌, ◌⊎◌}
 use Rattle.std.proofs.lemmas.List.Edits.{insert_end}
 use Rattle.std.proofs.lemmas.List.Elements.{Contains-append_cases, Contains-append_left, Contains-append_right}
 use Rattle.std.specs.declared.cmp.Ordering.{Ordering}
@@ -90,12 +90,17 @@ module _ {K : Type 0} {R : K → K → Ordering} (o : IsTotalOrder R) where
       let rest = above_all d (z ∷ zs) x rising.1 (λ i is. last (suc i) (omega arith)) in
       (o.trans y z x rising.0.0 rest.0, rest)
 
+  pub above-each : (d : K) (xs : List K) (x : K) → IsStrictlySortedBy R xs → ((i : ℕ) → i + 1 ≡ length xs → R (get_or xs i d) x ≡ Less)
+      → (y : K) → Contains xs y → R y x ≡ Less
+  above-each d xs x rising last y (k, within, is) =
+      rw is at (all_at (λ z. R z x ≡ Less) xs k y (above_all d xs x rising last) within)
+
   -- and leaves it rising at its end
-  pub IsStrictlySortedBy-push : (d : K) (xs : List K) (x : K) → IsStrictlySortedBy R xs
-      → ((i : ℕ) → i + 1 ≡ length xs → R (get_or xs i d) x ≡ Less) → IsStrictlySortedBy R (xs ++ x ∷ [])
-  IsStrictlySortedBy-push d xs x rising last =
+  pub IsStrictlySortedBy-push : (xs : List K) (x : K) → IsStrictlySortedBy R xs → ((y : K) → Contains xs y → R y x ≡ Less)
+      → IsStrictlySortedBy R (xs ++ x ∷ [])
+  IsStrictlySortedBy-push xs x rising above =
       rw (← insert_end xs x) (IsStrictlySortedBy-insert xs (length xs) x rising (
-        λ k e low high. all_at (λ y. R y x ≡ Less) xs k e (above_all d xs x rising last) high,
+        λ k e low high. above (get_or xs k e) (k, high, get_or_default xs k (get_or xs k e) e high),
         λ k e low high. absurd (omega (arith, low, high)),
       ))
 

@@ -1,9 +1,8 @@
 ghost use Rattle.tmw_cuts.specs.Shared.{Contains, zeros};
-ghost use Rattle.std.specs.Prelude.{IfOk, IsTrue, OnErr, OnOk, [], get_or, length, slice_get, ℕ, ◌+◌, ◌<◌, ◌↔◌, ◌∷◌, ◌≡◌, ◌≤◌};
+ghost use Rattle.std.specs.Prelude.{IfOk, IsFalse, IsTrue, OnErr, OnOk, [], length, slice_get, ◌<◌, ◌↔◌, ◌∷◌, ◌≡◌, ◌≤◌};
 ghost use Rattle.std.specs.List.Sorted.{IsStrictlySortedBy};
 ghost use Rattle.std.specs.Cmp.Lexicographic.{slice_cmp};
 ghost use Rattle.std.specs.Ordering.{nat_cmp};
-ghost use Rattle.std.specs.declared.cmp.Ordering.TheVariants.{Less};
 ghost use Rattle.std.proofs.lemmas.Map.Keys.{IsStrictlySortedBy-prop};
 
 use std::alloc::{AllocError, Global};
@@ -25,7 +24,7 @@ pub struct States {
 }
 
 impl States {
-    ghost use Rattle.tmw_cuts.specs.Members.{members, AddsMember, HasRoom, room_of};
+    ghost use Rattle.tmw_cuts.specs.Members.{members, AddsMember, AreBelow, HasRoom, room_of};
 
     /// Makes the set of no state.
     pub fn empty(alloc: Global) -> States
@@ -103,14 +102,25 @@ impl States {
     /// Whether each state of the set comes before this one.
     #[inline(always)]
     fn are_below(&self, state: &State) -> bool
-        ensures { IsTrue result → (i : ℕ) → i + 1 ≡ length (members self.now)
-            → slice_cmp nat_cmp (get_or (members self.now) i []) state.now ≡ Less }
+        ensures { IsTrue result ↔ AreBelow (members self.now) state.now }
     {
         let items = self.states();
         if items.is_empty() {
             return true;
         }
         matches!(items[items.len() - 1].cmp(state), Ordering::Less)
+    }
+
+    /// Adds the state if each state of the set comes before it and there is memory. Returns whether it was added.
+    #[inline(always)]
+    pub fn push(&mut self, state: &State) -> bool
+        ensures added { IsTrue result → AddsMember (members self.old) (members self.new) state.now }
+        ensures left { IsFalse result → members self.new ≡ members self.old }
+        ensures all { length (members self.old) < room_of self.old → AreBelow (members self.old) state.now
+            → IsTrue result }
+        ensures room { room_of self.old ≤ room_of self.new }
+    {
+        self.are_below(state) && self.items.push(*state).is_ok()
     }
 
     /// Adds the state, unless the set has it. A failed allocation changes nothing.
@@ -120,11 +130,6 @@ impl States {
         ensures full { OnErr result (room_of self.old ≤ length (members self.old)) }
         ensures room { room_of self.old ≤ room_of self.new }
     {
-        // Ends are mostly found in rising order.
-        if self.are_below(&state) {
-            self.items.push(state)?;
-            return Ok(());
-        }
         if let Err(place) = self.items.binary_search(&state) {
             self.items.insert(place, state)?;
         }

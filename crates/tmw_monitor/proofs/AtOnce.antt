@@ -1,5 +1,7 @@
 -- An event that is taken at once leaves the history fine: where it leads to no cut, and where the only transaction ends with it.
-use Rattle.tmw_monitor.proofs.Shared.{Begin, Closes, Contains, Criterion, End, EndsOf, Event, ExplainsWith, HistoryDigest, IsNext, IsTrue, Ix, Keeps, Kind, List, Move, None, Outcome, Registers, Rules, StandsFor, State, States, StaysOpen, TellsWrong, Txn, Witness, Witnesses, [], alone-end, ap, arith, asks, contains_here, drop, ends-by, false, grows, inl, inr, is_cut, is_end, is_quiet_by, is_well_formed, length, members, refl, state_of, subst, sym, transactions, true, uncut-next, views_of, ℕ, ◌++◌, ◌+◌, ◌<◌, ◌∙◌, ◌∷◌, ◌≡◌, ◌≤◌, ◌⊎◌}
+use Rattle.tmw_monitor.proofs.Shared.{Begin, Closes, Contains, Criterion, End, EndsOf, Event, ExplainsWith, HistoryDigest, IsNext, IsTrue, Ix, Keeps, Kind, List, Move, None, Outcome, Registers, Rules, StandsFor, State, States, StaysOpen, TellsWrong, Txn, Witness, Witnesses, [], ap, arith, asks, contains_here, drop, ends-by, false, grows, inl, inr, is_cut, is_end, is_quiet_by, is_well_formed, length, members, refl, state_of, subst, sym, transactions, true, uncut-next, views_of, ℕ, ◌++◌, ◌+◌, ◌<◌, ◌∙◌, ◌∷◌, ◌≡◌, ◌⊎◌}
+use Rattle.tmw_search.specs.OneEnd.{AreForced}
+use Rattle.tmw_search.proofs.OneEnd.{forced-alone}
 use Rattle.tmw_search.proofs.WindowViews.{shows-views_of}
 use Rattle.tmw_witness.proofs.Path.{witness-ends}
 use Rattle.tmw_monitor.proofs.OpenWindow.{formed_whole, narrow-push}
@@ -38,15 +40,15 @@ open-fine rules h e old new keeps move next stands same uncut room ends states w
     } in
     follows-told rules h e old keeps (length h + 1) rules.states quiet new Outcome refl refl formed number narrow refl (inl stays)
 
--- the only transaction since the last cut, where there was one outcome, has ended
+-- the transactions since the last cut, where there was one outcome, have ended, and they force one end
 pub last-fine : (rules : Rules) (h : List Event) (e : Event) (old new : HistoryDigest) (keeps : Keeps rules h old) (p : Ix) (end : State)
     → IsNext old.window e (End p) → IsTrue (is_well_formed rules.registers (drop keeps.cut h ++ e ∷ []))
     → is_cut (drop keeps.cut h ++ e ∷ []) ≡ true → new.window.registers ≡ old.window.registers → 0 < rules.states
-    → length (transactions (drop keeps.cut h)) ≡ 1 → length (members old.states) ≡ 1
+    → AreForced (views_of (drop keeps.cut h ++ e ∷ [])) → length (members old.states) ≡ 1
     → EndsOf rules.criterion old.states (drop keeps.cut h ++ e ∷ []) end
     → members new.states ≡ end ∷ [] → StandsFor new.window [] → Witnesses (members new.states) [] new.witness
     → TellsWrong rules (h ++ e ∷ []) new None
-last-fine rules h e old new keeps p end next formed_rest at_cut same some one only_start ends states stands witness =
+last-fine rules h e old new keeps p end next formed_rest at_cut same some forced only_start ends states stands witness =
     let S = Contains (members old.states) in
     let rest = drop keeps.cut h in
     let all = rest ++ e ∷ [] in
@@ -54,8 +56,7 @@ last-fine rules h e old new keeps p end next formed_rest at_cut same some one on
     let formed = formed_whole rules S keeps.cut h e keeps.sums_up formed_rest in
     let more = grows rest e old.window (End p) keeps.stands next in
     let narrow = narrow-push rules S keeps.cut h e (End p) keeps.sums_up more (λ begins. absurd (cc)) in
-    let few : length (transactions all) ≤ 1 = omega (arith, more, one) in
-    let only = alone-end rules.criterion old.states all end few at_cut only_start ends in
+    let only = forced-alone rules.criterion old.states all end forced at_cut only_start ends in
     let quiet = is_quiet_by rules.criterion (transactions rest) e.thread.number e.kind in
     let closes : Closes rules.criterion old.states rules.states all new = record {
       cut = at_cut;

@@ -32,7 +32,7 @@ pub use Rattle.tmw_events.specs.declared.event.Event.{Event}
 pub use Rattle.tmw_events.specs.declared.event.Kind.{Kind}
 pub use Rattle.tmw_events.specs.declared.ix.Ix.{Ix}
 pub use Rattle.tmw_events.specs.declared.registers.Registers.{Registers}
-pub use Rattle.tmw_search.proofs.OneEnd.{alone-end, one_member}
+pub use Rattle.tmw_search.proofs.OneEnd.{one_member}
 pub use Rattle.tmw_search.specs.EndStates.{EndsOf, HasMoreThan}
 pub use Rattle.tmw_wellformed.specs.Faults.{Refuses, asks}
 pub use Rattle.tmw_witness.proofs.OneEventMore.{asks-kept, begun-pushed, completed-within, no_commit}

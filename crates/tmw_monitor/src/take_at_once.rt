@@ -11,10 +11,11 @@ use crate::history_digest::HistoryDigest;
 use tmw_cuts::Move;
 use tmw_defs::Op;
 use tmw_events::{Event, Ix, Kind};
+use tmw_search::is_forced_with;
 
 /// Takes the next event if it begins a transaction for which the window has room, or if the serial order that is kept explains it: by no
-/// criterion is anything wrong with it then. At a cut it has to end the only transaction, from the only outcome before. Else it returns
-/// `false`, and what is kept is of the history without it. It is inlined into the reading of each kind of line.
+/// criterion is anything wrong with it then. At a cut there has to be one outcome before, from which the transactions force one end. Else
+/// it returns `false`, and what is kept is of the history without it. It is inlined into the reading of each kind of line.
 #[inline(always)]
 pub fn take_at_once(kept: &mut HistoryDigest, bounds: &Bounds, event: Event) -> bool
     ensures taken { IsTrue result → (criterion : Criterion)
@@ -95,8 +96,8 @@ fn add_at_once(
     answer_at_once(kept, event, place, Op::Add(register, added, answer))
 }
 
-/// Takes at once an event that ends a transaction, if the serial order that is kept explains it. Where it ends the only one, from the
-/// only outcome before it, the order leads to the only outcome.
+/// Takes at once an event that ends a transaction, if the serial order that is kept explains it. At a cut, where one end is forced from the
+/// only outcome before, the order leads to the only outcome.
 #[inline(always)]
 fn end_at_once(kept: &mut HistoryDigest, event: Event, place: Ix) -> bool
     requires next { IsNext kept.old.window event (End place) }
@@ -112,10 +113,10 @@ fn end_at_once(kept: &mut HistoryDigest, event: Event, place: Ix) -> bool
         kept.window.end(event, place);
         return true;
     }
-    if kept.window.count() != 1 {
+    if kept.states.len() != 1 {
         return false;
     }
-    if kept.states.len() != 1 {
+    if !is_forced_with(kept.window.transactions(), place) {
         return false;
     }
     let Some(end) = kept.witness.known_end() else {

@@ -1,6 +1,6 @@
 -- From each start that meets what the reads need, committed and aborted transactions that force their end lead to the known end, with what
 -- the start holds where none writes.
-use Rattle.tmw_search.proofs.Shared.{Adds, AddsForced, AreAlike, AreForced, Completes, Contains, Criterion, Effect, EndsBy, Event, HaveEight, IfSome, In, IsOverlaid, IsRow, IsTrue, List, MatchOption, Meets, Needs, NeedsOfStart, None, Option, ShowWriters, ShowsNeeds, ShowsStatus, Some, State, Status, TakesNeeds, Txn, View, [], and_le_r, and_parts, ap, arith, bit_and, bit_at, bit_at_ones, bit_or, cases_lt, contains_none, effects, eq-eqb, get_or, get_or_default, has_asked, inl, inr, is_cut, is_ended, is_over, is_pending, length, length-map, list_all, list_all-remove, map, orderly, refl, slice_get, slice_get_some, slice_index, status_of, subst, suc, sym, transactions, true, view, views_of, zero, ℕ, ◌%◌, ◌*◌, ◌+◌, ◌-◌, ◌<◌, ◌^◌, ◌↔◌, ◌∙◌, ◌≡◌, ◌≤◌, ◌⊎◌}
+use Rattle.tmw_search.proofs.Shared.{Adds, AddsForced, AreAlike, AreForced, Completes, Contains, Criterion, Effect, EndsBy, Event, HaveEight, IfSome, In, IsOverlaid, IsRow, IsTrue, List, MatchOption, Meets, Needs, NeedsOfStart, None, Option, ShowWriters, ShowsNeeds, ShowsStatus, Some, State, Status, TakesNeeds, View, [], and_le_r, and_parts, ap, arith, bit_and, bit_at, bit_at_ones, bit_or, cases_lt, contains_none, effects, eq-eqb, get_or, get_or_default, has_asked, inl, inr, is_cut, is_ended, is_over, is_pending, length, length-map, list_all, list_all-remove, map, orderly, refl, slice_get, slice_get_some, slice_index, status_of, subst, suc, sym, transactions, true, view, views_of, zero, ℕ, ◌%◌, ◌*◌, ◌+◌, ◌-◌, ◌<◌, ◌^◌, ◌↔◌, ◌∙◌, ◌≡◌, ◌≤◌, ◌⊎◌}
 use Rattle.tmw_search.specs.declared.forced_ends.StartNeeds.{StartNeeds}
 use Rattle.tmw_search.proofs.AllCompletions.{RankedEnd, leads-of, start-same}
 use Rattle.tmw_search.proofs.Bits.{bit_cases, masks}

@@ -1,23 +1,22 @@
 -- Which of a register's writers is its last, one other after another.
-use Rattle.tmw_search.proofs.Shared.{Adds, Bool, ComeBefore, ComesLast, Effect, EndWith, EndsAt, Has, HasNone, In, IsEndOf, IsFound, IsLast, IsLegal, IsNode, IsOrder, IsPutLast, IsRead, IsTrue, Joins, LeftByOne, List, Narrows, Node, State, Writes, ap, arith, bit_and, bit_at, bit_at-lt, bit_at-zero, bit_at_and, bit_at_clear_other, bit_at_clear_same, bit_at_not, bit_not, bit_or, ext_get_or, get_or-map, get_or-set_other, get_or-set_same, inl, inr, left_at, length, length-map, length-set, map, or_of_8, ordered, refl, slice_index, slice_set, subst, sym, true, w8, ℕ, ◌%◌, ◌*◌, ◌-◌, ◌<◌, ◌^◌, ◌↔◌, ◌∙◌, ◌≡◌}
+use Rattle.tmw_search.proofs.Shared.{Adds, Bool, ComeBefore, ComesLast, Effect, EndWith, EndsAt, Has, HasNone, In, IsEndOf, IsFound, IsLast, IsLegal, IsNode, IsOrder, IsPutLast, IsRead, IsTrue, Joins, LeftByOne, List, Narrows, Node, State, Writes, ap, arith, bit_and, bit_at, bit_at-lt, bit_at-zero, bit_at_and, bit_at_clear_other, bit_at_clear_same, bit_at_not, bit_not, bit_or, cases_lt, ext_get_or, get_or-map, get_or-set_other, get_or-set_same, inl, inr, left_at, length, length-map, length-set, map, or_of_8, ordered, refl, slice_index, slice_set, subst, sym, true, w8, ℕ, ◌%◌, ◌*◌, ◌+◌, ◌<◌, ◌^◌, ◌↔◌, ◌∙◌, ◌≡◌}
 use Rattle.tmw_search.proofs.Bits.{masks, or_either, same_place, bit_cases, IsLess, or-left, or-right}
 use Rattle.tmw_search.proofs.AddMembers.{ByOne, adds-to, adds-empty}
 use Rattle.tmw_search.proofs.Nodes.{found-clear, legal-chosen, legal-less, legal-with, node-ordered}
 use Rattle.tmw_search.proofs.Ranks.{one-end}
+use Rattle.std.specs.Int.Bits.{or_zero_r}
 use Rattle.tmw_search.proofs.Consequences.{narrows-then, same-narrows, joined, joins-each, joined-order, joined-narrows}
 
--- those that come before one that isn't left
-pub record FindsBefore (reach : List ℕ) (these left before : ℕ) : Type 0 where
+-- those that come before one below the place
+pub record FindsBefore (reach : List ℕ) (these place before : ℕ) : Type 0 where
   pub only : (i : ℕ) → i < 8 → bit_at before i ≡ 1
       → (j : ℕ) × (j < 8) × (bit_at these j ≡ 1) × (bit_at (slice_index reach j) i ≡ 1) × (i ≡ j → ⊥)
-  pub all : (i j : ℕ) → i < 8 → j < 8 → bit_at these j ≡ 1 → bit_at left j ≡ 0 → bit_at (slice_index reach j) i ≡ 1 → (i ≡ j → ⊥)
-      → bit_at before i ≡ 1
-  pub among : (j : ℕ) → bit_at left j ≡ 1 → bit_at these j ≡ 1
+  pub all : (i j : ℕ) → i < 8 → j < place → bit_at these j ≡ 1 → bit_at (slice_index reach j) i ≡ 1 → (i ≡ j → ⊥) → bit_at before i ≡ 1
 
-pub finds-more : (reach : List ℕ) (these left before place : ℕ) → place < 8 → bit_at left place ≡ 1 → FindsBefore reach these left before
-    → FindsBefore reach these (left - 1 * 2 ^ place % 2 ^ 8)
+pub finds-more : (reach : List ℕ) (these before place : ℕ) → place < 8 → bit_at these place ≡ 1 → FindsBefore reach these place before
+    → FindsBefore reach these (place + 1)
     (bit_or before (bit_and (slice_index reach place) (bit_not w8 (1 * 2 ^ place % 2 ^ 8))))
-finds-more reach these left before place within one f =
+finds-more reach these before place within one f =
     let own = bit_and (slice_index reach place) (bit_not w8 (1 * 2 ^ place % 2 ^ 8)) in
     record {
       only = λ i within_i is. elim (or_either before own i is) [
@@ -25,11 +24,21 @@ finds-more reach these left before place within one f =
         | inr here ↦
             let apart : i ≡ place → ⊥ = λ same.
             absurd (omega (arith, here, ap (bit_at own) same, bit_at_clear_same w8 (slice_index reach place) place within)) in
-            (place, within, f.among place one, sym (bit_at_clear_other w8 (slice_index reach place) place within i within_i apart) ∙ here, apart)
+            (place, within, one, sym (bit_at_clear_other w8 (slice_index reach place) place within i within_i apart) ∙ here, apart)
       ];
       all = grind (arith, masks);
-      among = grind (arith, masks);
     }
+
+-- one that is none of these changes nothing
+pub finds-none : (reach : List ℕ) (these before place : ℕ) → (bit_at these place ≡ 1 → ⊥) → FindsBefore reach these place before
+    → FindsBefore reach these (place + 1) (bit_or before 0)
+finds-none reach these before place not f = record {
+  only = λ i within is. f.only i within (rw (or_zero_r before) at is);
+  all = λ i j within below among has apart. rw (or_zero_r before) (elim (cases_lt j place) [
+    | inl less ↦ f.all i j within less among has apart
+    | inr above ↦ (let at : j ≡ place = omega (arith, above, below) in absurd (not (rw at at among)))
+  ]);
+}
 
 -- The one that comes before no other writer is put behind all of them, and all that come before them.
 module _ {i writers before : ℕ} {old new : List ℕ} (within_i : i < 8) (o : IsOrder old) (comes : ComeBefore old writers before)

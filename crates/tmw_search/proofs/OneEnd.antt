@@ -1,7 +1,14 @@
 -- An end state that is known is the only one, where the end states are forced: what each writer of a register finds and leaves there
 -- sums up to the same over each legal serial order. Masks tell of a window that they are.
-use Rattle.tmw_search.proofs.Shared.{AreForced, AreHeld, Bool, Contains, Criterion, EndsOf, Event, IsForced, IsMaskOf, IsTrue, Leads, LeadsBy, List, Op, Opacity, Placed, Replaces, Some, StandsFor, State, States, Status, Strict, Txn, View, Window, [], after, after-final, and_from, and_left, and_parts, and_right, ap, arith, bit_and, bit_at, bit_at-lt, bit_at-zero, bit_at_above, bit_at_and, bit_at_not, bit_at_or, bit_not, bit_or, cases_Bool, cases_lt, cond, contains_cases, contains_here, contains_none, count_by, count_by-le-length, end_state, eqb-true, ext_get_or, false, final, final-kept, get_or_from_slice_get, if◌then◌else◌, index-set, inl, inr, is_blind_writer, is_committed, is_cut, is_ended, is_over, is_writer, length, length-end, length-set, list_all, list_all-remove, map, may_be, may_hold, members, not, not-false, not-true, not_from_false, operations, precedes, reads_hold, refl, remove, slice_get, slice_get_within, slice_index, slice_set, status_of, subst, suc, sum_by, sum_by-cons, sum_by_more, sym, take, take_all, transactions, true, view_of, views, w8, zero, ℕ, ◌%◌, ◌+◌, ◌<◌, ◌==◌, ◌^◌, ◌↔◌, ◌∙◌, ◌∷◌, ◌≡◌, ◌≤◌, ◌⊎◌}
+use Rattle.tmw_search.proofs.Shared.{AreForced, AreHeld, Bool, Contains, Criterion, EndsOf, Event, IsForced, IsMaskOf, IsTrue, Leads, LeadsBy, List, Op, Opacity, Placed, Replaces, Some, StandsFor, State, States, Status, Strict, Txn, View, Window, [], after, after-final, and_from, and_left, and_parts, and_right, ap, arith, bit_and, bit_at, bit_at-lt, bit_at-zero, bit_at_above, bit_at_and, bit_at_not, bit_at_or, bit_not, bit_or, cases_Bool, cases_lt, cond, contains_cases, contains_here, contains_none, count_by, count_by-le-length, end_state, eqb-true, ext_get_or, false, final, final-kept, get_or_from_slice_get, if◌then◌else◌, index-set, inl, inr, is_blind_writer, is_committed, is_cut, is_ended, is_over, is_writer, length, length-end, length-set, list_all, list_all-remove, map, may_be, may_hold, members, not, not-false, not-true, not_from_false, operations, precedes, reads_hold, refl, remove, slice_get, slice_get_within, slice_index, slice_set, status_of, subst, suc, sum_by, sum_by-cons, sum_by_more, sym, take, take_all, transactions, true, view_of, views, views_of, w8, zero, ℕ, ◌%◌, ◌+◌, ◌<◌, ◌==◌, ◌^◌, ◌↔◌, ◌∙◌, ◌∷◌, ◌≡◌, ◌≤◌, ◌⊎◌}
+use Rattle.std.proofs.Common.{append-nil}
 use Rattle.tmw_cuts.specs.RegisterUse.{needs}
+use Rattle.tmw_cuts.specs.Turns.{change}
+use Rattle.tmw_cuts.specs.Views.{with_status}
+use Rattle.tmw_search.specs.OneEnd.{AreForcedWith}
+use Rattle.tmw_events.specs.declared.event.Kind.{Kind}
+use Rattle.tmw_cuts.proofs.NextViews.{next_view}
+use Rattle.tmw_defs.specs.declared.status.Status.TheVariants.{Committed}
 use Rattle.std.proofs.lemmas.List.Folds.{list_all-map, list_all_more}
 use Rattle.std.proofs.lemmas.Bool.Decides.{nat_tests}
 use Rattle.tmw_defs.specs.declared.op.Op.TheVariants.{Read, Write, Add}
@@ -203,22 +210,52 @@ only-end criterion old new window xs cap end shown one is some cut forced = λ e
     let only_one = shown-forced ts ts (subst (λ (v : List View). AreForced v) (shown ∙ stands.shows) forced) in
     rw is (omega (arith, some), forced-only criterion old events end only_one (sym (cut events stands)) one known)
 
--- one transaction alone has one end state from each state
-pub alone-end : (criterion : Criterion) (old : States) (events : List Event) (end : State) → length (transactions events) ≤ 1
+-- one that is known is the only one where they are
+pub forced-alone : (criterion : Criterion) (old : States) (events : List Event) (end : State) → AreForced (views_of events)
     → is_cut events ≡ true → length (members old) ≡ 1 → EndsOf criterion old events end
     → (s : State) → Contains (end ∷ []) s ↔ EndsOf criterion old events s
-alone-end criterion old events end few cut one known = forced-only criterion old events end (few-forced (transactions events) few) cut one known
-  where
-    few-forced : (ts : List Txn) → length ts ≤ 1 → IsForced (λ t. status_of t.text) (λ t. operations t.text) ts
-    few-forced ts few r =
-        let most = count_by-le-length (λ (t : Txn). is_writer r (status_of t.text) (operations t.text)) ts in
-        inl (omega (arith, few, most))
+forced-alone criterion old events end forced cut one known =
+    forced-only criterion old events end (shown-forced (transactions events) (transactions events) forced) cut one known
 
 abbrev shows_writer : ℕ → View → Bool
 shows_writer r x = is_writer r x.status x.ops
 
 abbrev shows_no_blind : ℕ → View → Bool
 shows_no_blind r x = not (is_blind_writer r x.status x.ops)
+
+-- one transaction alone is forced
+pub few-forced : (xs : List View) → length xs ≤ 1 → AreForced xs
+few-forced xs few r = let most = count_by-le-length (shows_writer r) xs in inl (omega (arith, few, most))
+
+-- one that has ended writes no more than as a committed one
+module _ (r : ℕ) (k : Kind) where
+  ends-less : (x : View) → cond (shows_writer r (next_view k [] x)) 1 0 ≤ cond (shows_writer r (with_status Committed x)) 1 0
+  ends-less x = grind (arith, append-nil x.ops)
+
+  blind-less : (x : View) → IsTrue (shows_no_blind r (with_status Committed x)) → IsTrue (shows_no_blind r (next_view k [] x))
+  blind-less x none = grind (arith, append-nil x.ops)
+
+  count-less : (xs : List View) (p : ℕ) → count_by (shows_writer r) (change p (next_view k []) xs)
+      ≤ count_by (shows_writer r) (change p (with_status Committed) xs)
+  count-less [] p = omega arith
+  count-less (x ∷ xs) zero =
+      let here : View → ℕ = λ y. cond (shows_writer r y) 1 0 in
+      omega (arith, sum_by-cons here (next_view k [] x) xs, sum_by-cons here (with_status Committed x) xs, ends-less x)
+  count-less (x ∷ xs) (suc p) =
+      let here : View → ℕ = λ y. cond (shows_writer r y) 1 0 in
+      omega (arith, sum_by-cons here x (change p (next_view k []) xs), sum_by-cons here x (change p (with_status Committed) xs), count-less xs p)
+
+  none-less : (xs : List View) (p : ℕ) → IsTrue (list_all (shows_no_blind r) (change p (with_status Committed) xs))
+      → IsTrue (list_all (shows_no_blind r) (change p (next_view k []) xs))
+  none-less [] p none = none
+  none-less (x ∷ xs) zero none = (let both = and_parts _ _ none in and_from _ _ (blind-less x both.0) both.1)
+  none-less (x ∷ xs) (suc p) none = (let both = and_parts _ _ none in and_from _ _ both.0 (none-less xs p both.1))
+
+pub forced-next : (xs : List View) (p : ℕ) (k : Kind) → AreForcedWith p xs → AreForced (change p (next_view k []) xs)
+forced-next xs p k forced r = elim (forced r) [
+  | inl few ↦ (let less = count-less r k xs p in inl (omega (arith, few, less)))
+  | inr none ↦ inr (none-less r k xs p none)
+]
 
 -- What a register has no bit of: in the first mask, it has no writer; in the second, it has at most one; in the third, no blind one.
 pub record TellWriters (once twice blind : ℕ) (xs : List View) : Type 0 where

@@ -8,6 +8,12 @@ use Rattle.tmw_cuts.proofs.Chosen.{get_or-chosen, length-chosen}
 use Rattle.tmw_cuts.proofs.Effects.{index-put}
 use Rattle.tmw_cuts.specs.Effects.{SumsUp}
 use Rattle.tmw_cuts.specs.declared.txn.Txn as cuts
+use Rattle.tmw_cuts.specs.Turns.{change}
+use Rattle.tmw_search.proofs.Shared.{if◌then◌else◌, ne_eqb, sym, ◌==◌}
+use Rattle.tmw_cuts.specs.Views.{with_status}
+use Rattle.tmw_cuts.proofs.OneChanged.{slice_get-change_here, slice_get-change_other}
+use Rattle.tmw_defs.specs.declared.status.Status.TheVariants.{Committed}
+use Rattle.tmw_search.proofs.Bits.{same_place}
 
 before_of-lt : (ts : List Txn) (u : Txn) → before_of ts u < 2 ^ length ts
 before_of-lt [] u = omega arith
@@ -38,6 +44,20 @@ none_before_itself events i t at = and_right (is_ended t.text) _ (le-ltb t.last 
 pub shown_at : (items : List cuts.Txn) (place : ℕ) (item : cuts.Txn) → place < length items → item ≡ get_or items place item
     → slice_get (map view items) place ≡ Some (view item)
 shown_at = grind (arith, slice_get-map, slice_get_read)
+
+-- and where one is taken as committed
+pub shown-with : (items : List cuts.Txn) (p place : ℕ) (item : cuts.Txn) → place < length items → item ≡ get_or items place item
+    → slice_get (change p (with_status Committed) (map view items)) place
+    ≡ Some (record (view item) { status = if place == p then Committed else item.status })
+shown-with items p place item within at =
+    let xs = map view items in
+    let was = shown_at items place item within at in
+    elim (same_place place p) [
+      | inl same ↦
+          rw (eq-eqb place p same) (ap (slice_get (change p (with_status Committed) xs)) same
+          ∙ slice_get-change_here (with_status Committed) xs p (view item) (sym (ap (slice_get xs) same) ∙ was))
+      | inr apart ↦ rw (ne_eqb place p apart) (slice_get-change_other (with_status Committed) xs p place apart ∙ was)
+    ]
 
 have_at : (ds : List Bool) (vs : List ℕ) (s : State) (i : ℕ) → i < length ds → i < length vs → i < length s → IsTrue (have ds vs s)
     → get_or ds i false ≡ true → slice_index s i ≡ slice_index vs i

@@ -2,7 +2,7 @@
 -- and where the search begins.
 -- Transactions are told by their places, below 8; `mat` at j is the mask of those that precede j (with or without j itself). Rankings are
 -- those of specs/Precedence.antt: all eight places have different ranks, and a bit i of mat at j says rank i ≤ rank j.
-use Rattle.tmw_search.specs.Shared.{Contains, Criterion, Effect, EndsBy, Event, Only, Opacity, State, Strict, Txn, View, bit_at, effect_of, is_committed, transactions, view, views_of}
+use Rattle.tmw_search.specs.Shared.{Contains, Criterion, Effect, EndsBy, Event, Only, Opacity, State, Strict, View, bit_at, effect_of, is_committed, transactions, view, views_of}
 use Rattle.std.specs.Prelude.{Bool, IsTrue, List, Some, bit_or, get_or, length, map, slice_get, slice_index, ℕ, ◌-◌, ◌<◌, ◌==◌, ◌^◌, ◌↔◌, ◌≡◌, ◌≤◌, ◌⊎◌}
 use Rattle.tmw_search.specs.Precedence.{IsRanking, IsRead, source_at}
 use Rattle.tmw_search.specs.declared.source_choices.ReadSource.TheVariants.{Open}

@@ -5,6 +5,9 @@ use Rattle.std.specs.Prelude.{Bool, IsTrue, List, not, ℕ, ◌&&◌, ◌≤◌,
 use Rattle.tmw_defs.specs.declared.op.Op.{Op}
 use Rattle.tmw_defs.specs.declared.status.Status.{Status}
 use Rattle.tmw_cuts.specs.RegisterUse.{writes, needs}
+use Rattle.tmw_cuts.specs.Turns.{change}
+use Rattle.tmw_cuts.specs.Views.{with_status}
+use Rattle.tmw_defs.specs.declared.status.Status.TheVariants.{Committed}
 
 -- It has committed and writes the register.
 abbrev pub is_writer : ℕ → Status → List Op → Bool
@@ -21,3 +24,7 @@ IsForced status ops xs = (r : ℕ) → (count_by (λ x. is_writer r (status x) (
 
 abbrev pub AreForced : List View → Type 0
 AreForced xs = IsForced (λ x. x.status) (λ x. x.ops) xs
+
+-- They are with the one at the place as committed, if there is one.
+abbrev pub AreForcedWith : ℕ → List View → Type 0
+AreForcedWith place xs = AreForced (change place (with_status Committed) xs)

@@ -53,12 +53,17 @@ impl EndSet {
             return false;
         }
         let slot = (number % 64) as usize;
+        let place = (self.ends.len() % 256) as u8;
+        if self.ends.push(end) {
+            self.guesses[slot] = place;
+            return self.are_few();
+        }
         if let Some(held) = self.ends.get(self.guesses[slot] as usize) {
             if held == *end {
                 return true;
             }
         }
-        self.guesses[slot] = (self.ends.len() % 256) as u8;
+        self.guesses[slot] = place;
         let _room = self.ends.insert(*end);
         self.are_few()
     }

@@ -20,11 +20,10 @@ fn before_of(reach: &Masks, these: u8) -> u8
     ensures fits { these < 256 }
 {
     let mut before = 0u8;
-    let mut left = these;
-    while left != 0 {
-        let place = lowest(left);
-        left -= 1 << place;
-        before |= reach[place] & !(1 << place);
+    // Each place is asked, since no processor foresees which they are.
+    for place in 0..8usize {
+        let others = reach[place] & !(1 << place);
+        before |= if these >> place & 1 == 1 { others } else { 0 };
     }
     before
 }

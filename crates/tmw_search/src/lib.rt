@@ -39,6 +39,7 @@ pub use find_serial_order::find_order;
 pub use forced_ends::replace_by_forced;
 pub use layer_steps::{is_next, may_hold};
 pub use layers::layer;
+pub use one_end::is_forced_with;
 pub use same_ends::ends_alike;
 pub use serial_order::{SerialOrder, SerialStep};
 pub use window_outcomes::{outcomes, possible, replace_by_outcomes};

@@ -8,10 +8,10 @@ pub fn differ(one: &State, other: &State, mask: u8) -> bool
     ensures { IsFalse result ↔ ((r : ℕ) → r < 8 → In mask r
         → slice_index one.now r ≡ slice_index other.now r) }
 {
+    let mut differ = false;
+    // Each register is asked, since no processor foresees which one differs.
     for r in 0..8usize {
-        if mask >> r & 1 == 1 && one[r] != other[r] {
-            return true;
-        }
+        differ |= (one[r] != other[r]) & (mask >> r & 1 == 1);
     }
-    false
+    differ
 }

@@ -35,6 +35,15 @@ turns-still events p x at lives = record {
       absurd (let k : true ≡ false = sym (completed-before events p x z at i there one) ∙ lives in cc);
 }
 
+-- what is shown with an event of the transaction at the move's place
+pub views-turned : (events : List Event) (e : Event) (w : Window) (move : Move) (p : Ix) → StandsFor w events → IsNext w e move
+    → place_of move ≡ Some p → views_of (events ++ e ∷ []) ≡ change p.number (next_view e.kind (ops_of move)) (views_of events)
+views-turned events e w move p stands next at =
+    let vs = views_of events in
+    let told = found-moved events e w move p stands next at in
+    views_of-push events e ∙ ap (λ g. views_after g e.kind (completed_mask vs) vs) told.1
+    ∙ ap (λ ops. change p.number (next_view e.kind ops) vs) told.2
+
 -- the transaction at the move's place turns: it becomes what it is with the event
 pub turns-next : (events : List Event) (e : Event) (w : Window) (move : Move) (p : Ix) (x : View) → StandsFor w events → IsNext w e move
     → place_of move ≡ Some p → slice_get (views_of events) p.number ≡ Some x
@@ -43,9 +52,7 @@ turns-next events e w move p x stands next at was =
     let vs = views_of events in
     let told = found-moved events e w move p stands next at in
     let f = next_view e.kind (ops_of move) in
-    let pushed : views_of (events ++ e ∷ []) ≡ change p.number f vs
-    = views_of-push events e ∙ ap (λ g. views_after g e.kind (completed_mask vs) vs) told.1
-    ∙ ap (λ ops. change p.number (next_view e.kind ops) vs) told.2 in
+    let pushed = views-turned events e w move p stands next at in
     let lives : is_over x.status ≡ false
     = found_lives e.thread.number (transactions events) (transactions events) _ x told.1 was in
     let none_before : PrecedesNone vs p.number = λ i z there one.

@@ -1,6 +1,9 @@
--- An end that the order explains leaves the history fine; where it ends the only transaction, the order leads to the only outcome.
-use Rattle.tmw_monitor.proofs.Shared.{End, [], arith, contains_here, drop, formed-next, inr, members, refl, state_of, sym, ◌++◌, ◌∙◌, ◌∷◌, ◌≡◌}
+-- An end that the order explains leaves the history fine; at a cut, where one end is forced, the order leads to the only outcome.
+use Rattle.tmw_monitor.proofs.Shared.{End, [], arith, contains_here, drop, formed-next, inr, members, refl, state_of, sym, true, views_of, ◌++◌, ◌∙◌, ◌∷◌, ◌≡◌}
 use Rattle.tmw_monitor.proofs.AtOnce.{explained, keeps-order, open-fine, last-fine}
+use Rattle.tmw_search.specs.OneEnd.{AreForced}
+use Rattle.tmw_search.proofs.OneEnd.{forced-next}
+use Rattle.tmw_witness.proofs.OneEventMore.{views-turned}
 use Rattle.tmw_monitor.proofs.take_at_once.end_at_once.Goals as goal
 
 pub returns-then-not-explains_end-clause-left : goal.returns-then-not-explains_end-clause-left
@@ -8,8 +11,8 @@ returns-then-not-explains_end-clause-left c = λ none rules history keeps.
     keeps-order rules history c.args.kept.now _ keeps refl refl
     (c.hold_pending.ensures.stands (members c.args.kept.now.states) (drop keeps.cut history) keeps.stands c.requires.next keeps.witness)
 
-pub returns-then-count-ne1-clause-left : goal.returns-then-count-ne1-clause-left
-returns-then-count-ne1-clause-left c = λ none rules history keeps.
+pub returns-then-not-is_forced_with-clause-left : goal.returns-then-not-is_forced_with-clause-left
+returns-then-not-is_forced_with-clause-left c = λ none rules history keeps.
     keeps-order rules history c.args.kept.now _ keeps refl refl
     (c.hold_pending.ensures.stands (members c.args.kept.now.states) (drop keeps.cut history) keeps.stands c.requires.next keeps.witness)
 
@@ -44,11 +47,16 @@ returns-clause-taken c took criterion bounds rules history by window states keep
     let shown = c.in-Some.ensures.shown in
     let only : members c.put_only.new.self ≡ state_of w w.top ∷ [] = rw (← shown.2) c.put_only.ensures.members in
     let positive = bounds.some_states in
+    let with : c.is_forced_with.result ≡ true = grind (arith, c.if-not-is_forced_with.false) in
+    let forced : AreForced (views_of (rest ++ e ∷ [])) =
+    rw (views-turned rest e old.window (End c.args.place) c.args.place keeps.stands next refl)
+    (forced-next (views_of rest) c.args.place.number e.kind
+    (rw (c.transactions.ensures.stands rest keeps.stands) at (c.is_forced_with.ensures with))) in
     let at_cut = sym (c.is_cut_with.ensures rest e keeps.stands next) ∙ c.if-not-is_cut_with.false in
     last-fine rules history e old _ keeps c.args.place (state_of w w.top) next
     (rw keeps.number at (formed-next rest e old.window (End c.args.place) keeps.stands next))
     at_cut (c.clear.ensures.registers ∙ c.end-2.ensures.registers)
-    (omega (arith, positive, states)) (sym (c.count.ensures.stands rest keeps.stands) ∙ c.if-count-ne1.false)
+    (omega (arith, positive, states)) forced
     (sym c.len.ensures ∙ c.if-len-ne1.false)
     (explained rules.criterion old.states (rest ++ e ∷ []) w (c.explains_end.ensures.known fits) witness) only
     (c.clear.ensures.stands (rest ++ e ∷ []) (c.end-2.ensures.stands rest keeps.stands next) at_cut)

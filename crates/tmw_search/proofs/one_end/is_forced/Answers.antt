@@ -1,13 +1,13 @@
-use Rattle.tmw_search.proofs.Shared.{arith, length-map, map, view}
-use Rattle.tmw_search.proofs.OneEnd.{tell-none, tell-next, tell-all}
-use Rattle.tmw_search.proofs.WindowViews.{shown_at}
+-- No transaction is at a place past all.
+use Rattle.tmw_search.proofs.Shared.{AreForced, List, View, arith, length, length-map, map, subst, view}
+use Rattle.tmw_cuts.proofs.OneChanged.{change-past}
+use Rattle.tmw_cuts.specs.Views.{with_status}
+use Rattle.tmw_defs.specs.declared.status.Status.TheVariants.{Committed}
 use Rattle.tmw_search.proofs.one_end.is_forced.Goals as goal
 
-pub loop-item-init : goal.loop-item-init
-loop-item-init c = tell-none (map view c.args.items.now)
-
-pub loop-item-preserved : goal.loop-item-preserved
-loop-item-preserved = grind (arith, tell-next, shown_at)
-
 pub returns : goal.returns
-returns = grind (arith, tell-all, length-map)
+returns c forced =
+    let xs = map view c.args.items.now in
+    subst (λ (ys : List View). AreForced ys)
+    (change-past (with_status Committed) xs (length c.args.items.now) (omega (arith, length-map c.args.items.now view)))
+    (c.are_forced.ensures forced)

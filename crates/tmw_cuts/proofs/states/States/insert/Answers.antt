@@ -1,16 +1,10 @@
 -- The state goes to its place in the order, where the set does not have it.
-use Rattle.tmw_cuts.proofs.Shared.{IsStrictlySortedBy, [], cond_both, exact_bytes, nat_cmp, nat_list_cmp_total, slice_cmp}
-use Rattle.tmw_cuts.proofs.StrictOrder.{Contains-insert, IsStrictlySortedBy-push, place_by_search, found_is_member}
+use Rattle.tmw_cuts.proofs.Shared.{IsStrictlySortedBy, cond_both, exact_bytes, nat_cmp, nat_list_cmp_total, slice_cmp}
+use Rattle.tmw_cuts.proofs.StrictOrder.{Contains-insert, place_by_search, found_is_member}
 use Rattle.tmw_cuts.proofs.states.States.insert.Goals as goal
 
 pub invariant_of-self : goal.invariant_of-self
 invariant_of-self c =
-    let pushed = IsStrictlySortedBy-push nat_list_cmp_total [] c.args.self.now.items.items c.args.state c.args.self.now.rising
-    (c.are_below.ensures c.if-are_below.true) in
-    record { rising = rw c.push.ensures.items (cond_both _ _ _ (IsStrictlySortedBy (slice_cmp nat_cmp)) (λ _. pushed) (λ _. c.args.self.now.rising)) }
-
-pub invariant_of-self-in-Err : goal.invariant_of-self-in-Err
-invariant_of-self-in-Err c =
     let placed = place_by_search nat_list_cmp_total c.args.self.now.items.items _ c.args.state c.in-Err.place
     c.deref.ensures.value c.args.self.now.rising c.in-Err.ensures.position in
     record { rising = rw c.insert.ensures.items (cond_both _ _ _ (IsStrictlySortedBy (slice_cmp nat_cmp)) (λ _. placed) (λ _. c.args.self.now.rising)) }

@@ -1,5 +1,5 @@
--- The end is one of them already, or is inserted, for which there is room.
-use Rattle.tmw_search.proofs.Shared.{arith, get_or_from_slice_get, inl, members, rules, slice_get_within, sym, ◌∙◌, ◌≡◌}
+-- The end goes to the end of the set, is one of it already, or is inserted, for which there is room.
+use Rattle.tmw_search.proofs.Shared.{Adds, AddsMember, List, State, ap, arith, get_or_from_slice_get, inl, length, members, rules, slice_get_within, subst, sym, true, ◌∙◌, ◌≡◌}
 use Rattle.tmw_search.proofs.AddMembers.{adds-any, adds-one, ok-of}
 use Rattle.tmw_search.proofs.Branches.{never-true}
 use Rattle.tmw_search.proofs.end_set.EndSet.add.Goals as goal
@@ -11,20 +11,26 @@ returns-then-not-are_few-clause-adds c = record {
   all = λ all. absurd (never-true all);
 }
 
+pub returns-then-push-clause-adds : goal.returns-then-push-clause-adds
+returns-then-push-clause-adds c = adds-any (adds-one (c.push.ensures.added c.if-push.true))
+
 pub returns-then-eq-clause-adds : goal.returns-then-eq-clause-adds
 returns-then-eq-clause-adds c =
     let ends = members c.args.self.now.ends in
+    let same = c.push.ensures.left c.if-push.false in
     let is : c.in-Some.held ≡ c.args.end.now = search (c.if-eq.ensures, rules) in
-    let at = sym c.get.ensures ∙ c.in-Some.is in
-    record {
+    let at = rw same at (sym c.get.ensures ∙ c.in-Some.is) in
+    subst (λ (xs : List State). Adds true ends xs (λ e. e ≡ c.args.end.now)) (sym same) (record {
       only = λ s has. inl has;
       kept = λ s has. has;
       all = λ all s same.
           (_, slice_get_within ends _ c.in-Some.held at, get_or_from_slice_get ends _ c.in-Some.held s at ∙ is ∙ sym same);
-    }
+    })
 
 pub returns-clause-adds : goal.returns-clause-adds
 returns-clause-adds c =
     let few = c.are_few.ensures.few c.if-not-are_few.false in
-    adds-any (adds-one (ok-of c.insert-room.result c.insert-room.ensures.ok c.insert-room.ensures.full
-    (λ full. absurd (omega (arith, full, few, c.args.self.now.most)))))
+    let same = c.push.ensures.left c.if-push.false in
+    let adds = ok-of c.insert-room.result c.insert-room.ensures.ok c.insert-room.ensures.full
+    (λ full. absurd (omega (arith, full, few, c.args.self.now.most, c.push.ensures.room, ap (length {A = State}) same))) in
+    adds-any (adds-one (subst (λ (xs : List State). AddsMember xs (members c.insert-room.new.self) c.args.end.now) same adds))
