@@ -7,12 +7,12 @@ use Rattle.tmw_defs.specs.declared.criterion.Criterion.TheVariants.{Opacity}
 use Rattle.tmw_show.specs.NeededEvents.{IsNeededOf}
 use Rattle.tmw_command.specs.RunBench.{AnswersHunt, IsHuntedFrom, IsNoBenchFrom, IsRightFault, fault_of}
 use Rattle.tmw_command.specs.declared.bench.hunt_run.HuntRun.{HuntRun}
-use Rattle.tmw_bench.specs.declared.fault.BenchFault.{BenchFault}
+use Rattle.tmw_workers.specs.declared.fault.BenchFault.{BenchFault}
 use Rattle.tmw_bench.specs.declared.hunt_result.HuntResult.{HuntResult}
 use Rattle.tmw_options.specs.declared.bench_settings.Settings.{Settings}
 use Rattle.tmw_command.proofs.DriveAnswers.{text_over}
 use Rattle.tmw_workloads.specs.Workload.{is_workload}
-use Rattle.tmw_bench.specs.declared.fault.BenchFault.TheVariants.{Memory as LacksMemory, Registers as LacksRegisters, Ring as HasNoRing, Spawn as LacksThreads}
+use Rattle.tmw_workers.specs.declared.fault.BenchFault.TheVariants.{Memory as LacksMemory, Registers as LacksRegisters, Ring as HasNoRing, Spawn as LacksThreads}
 use Rattle.tmw_events.specs.declared.registers.Registers.{Registers as Width}
 
 module _ (has : ℕ) (Ended : Type 0) (settings : Settings) (bytes : List ℕ) where

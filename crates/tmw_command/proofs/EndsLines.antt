@@ -3,8 +3,8 @@ use Rattle.tmw_command.proofs.Shared.{List, [], ap, append_assoc, ap₂, codes, 
 use Rattle.serde_json.specs.Data.{Data}
 use Rattle.serde_json.specs.Written.{compact_text, has_float, items_have_float, items_text}
 use Rattle.serde_json.proofs.OnLiterals.{serde_json_on_literals}
-use Rattle.tmw_drive.specs.declared.ending.Ending.{Ending}
-use Rattle.tmw_drive.specs.declared.ending.Ending.TheVariants.{Done, Left, Stopped}
+use Rattle.tmw_workers.specs.declared.ending.Ending.{Ending}
+use Rattle.tmw_workers.specs.declared.ending.Ending.TheVariants.{Done, Left, Stopped}
 use Rattle.tmw_ring.specs.declared.refused.Refused.TheVariants.{Full, Spent}
 use Rattle.tmw_command.specs.Ends.{end_text, ends_line, more_ends}
 

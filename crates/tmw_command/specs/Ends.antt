@@ -1,7 +1,7 @@
 -- The line that tells how each thread has ended: compact JSON, with its line feed.
 use Rattle.tmw_command.specs.Shared.{Ending}
 use Rattle.std.specs.Prelude.{List, [], codes, ℕ, ◌++◌, ◌∷◌}
-use Rattle.tmw_drive.specs.declared.ending.Ending.TheVariants.{Done, Left, Stopped}
+use Rattle.tmw_workers.specs.declared.ending.Ending.TheVariants.{Done, Left, Stopped}
 use Rattle.tmw_ring.specs.declared.refused.Refused.TheVariants.{Full, Spent}
 
 -- the word for an end: for a thread that was stopped the one for its refusal

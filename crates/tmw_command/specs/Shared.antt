@@ -8,7 +8,7 @@ pub use Rattle.tmw_counts.specs.CountedPart.{is_open, part_by}
 pub use Rattle.tmw_counts.specs.declared.summary.Summary.{Summary}
 pub use Rattle.tmw_defs.specs.Opaque.{zeros}
 pub use Rattle.tmw_defs.specs.declared.criterion.Criterion.TheVariants.{Opacity}
-pub use Rattle.tmw_drive.specs.declared.ending.Ending.{Ending}
+pub use Rattle.tmw_workers.specs.declared.ending.Ending.{Ending}
 pub use Rattle.tmw_events.specs.declared.registers.Registers.{Registers}
 pub use Rattle.tmw_report.specs.CommandRun.{IsCommandRun, failures_after_answer}
 pub use Rattle.tmw_report.specs.Lines.{fault_line, report_text, verdict_status}
