@@ -6,7 +6,7 @@ use Rattle.tmw_defs.specs.declared.verdict.Verdict.TheVariants.{Malformed}
 use Rattle.tmw_counts.specs.Summary.{IsSummary}
 use Rattle.tmw_drive.specs.Drive.{IsDriven}
 use Rattle.tmw_monitor.specs.Fits.{rules_of}
-use Rattle.tmw_monitor.specs.declared.bounds.Bounds.{Bounds}
+use Rattle.tmw_options.specs.declared.bounds.Bounds.{Bounds}
 use Rattle.tmw_command.specs.DriveRun.{IsHeaderOf, driven_text, driven_status}
 use Rattle.tmw_command.specs.ReadSource.{IsTextFault, IsTextOver}
 use Rattle.tmw_command.specs.declared.drive.drive_run.DriveRun.{DriveRun}

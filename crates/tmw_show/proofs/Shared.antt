@@ -16,7 +16,7 @@ pub use Rattle.tmw_events.specs.Text.{FitsKind}
 pub use Rattle.tmw_events.specs.declared.event.Event.{Event}
 pub use Rattle.tmw_events.specs.declared.registers.Registers.{Registers}
 pub use Rattle.tmw_monitor.specs.Fits.{rules_for}
-pub use Rattle.tmw_monitor.specs.declared.bounds.Bounds.{Bounds}
+pub use Rattle.tmw_options.specs.declared.bounds.Bounds.{Bounds}
 pub use Rattle.tmw_options.specs.declared.show_options.ShowOptions.{ShowOptions}
 pub use Rattle.tmw_part.specs.FindPart.{FindsPart, IsMinimalPart, IsSearched}
 pub use Rattle.tmw_report.specs.declared.fault.Fault.TheVariants.{Memory}

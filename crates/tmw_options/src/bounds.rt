@@ -1,5 +1,5 @@
 ghost use Rattle.std.specs.Prelude.{IfErr, IfOk, ◌<◌, ◌≡◌, ◌≤◌};
-ghost use Rattle.tmw_monitor.specs.BadBounds.{IsBad};
+ghost use Rattle.tmw_options.specs.BadBounds.{IsBad};
 
 use thiserror::Error;
 
