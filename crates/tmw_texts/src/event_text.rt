@@ -1,4 +1,4 @@
-ghost use Rattle.tmw_show.specs.Shared.{event_text, held_bytes, kind_text};
+ghost use Rattle.tmw_texts.specs.Shared.{event_text, held_bytes, kind_text};
 ghost use Rattle.std.specs.Prelude.{IfOk, OnOk, ◌++◌, ◌≡◌};
 
 use std::alloc::{AllocError, Global};

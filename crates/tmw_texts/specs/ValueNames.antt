@@ -1,5 +1,5 @@
 -- Short names for long values: v1, v2 .. in the order in which they appear among the events that are shown.
-use Rattle.tmw_show.specs.Shared.{Event, decimal, kind_text, list_any}
+use Rattle.tmw_texts.specs.Shared.{Event, decimal, kind_text, list_any}
 use Rattle.std.specs.Prelude.{Bool, List, None, Option, Some, [], codes, if◌then◌else◌, nat_lt, position, ℕ, ◌++◌, ◌+◌, ◌==◌, ◌||◌, ◌∷◌}
 use Rattle.tmw_events.specs.declared.event.Kind.{Kind}
 use Rattle.tmw_events.specs.declared.event.Kind.TheVariants.{N, V, W}

@@ -1,5 +1,5 @@
 -- The texts of the traces of a window: one for each state from which it begins.
-use Rattle.tmw_show.specs.Shared.{Event, Registers, State, event_text, flat_map, line, values_text}
+use Rattle.tmw_texts.specs.Shared.{Event, Registers, State, event_text, flat_map, line, values_text}
 use Rattle.std.specs.Prelude.{List, codes, take, ℕ, ◌++◌, ◌+◌, ◌∷◌}
 
 -- the header of a trace of so many registers that begins with this state, without its line feed

@@ -1,6 +1,6 @@
-ghost use Rattle.tmw_show.specs.Shared.{held_bytes, line};
+ghost use Rattle.tmw_texts.specs.Shared.{held_bytes, line};
 ghost use Rattle.std.specs.Prelude.{IfOk, OnOk, ◌++◌, ◌≡◌};
-ghost use Rattle.tmw_show.specs.TracesText.{events_text, start_text, traces_text};
+ghost use Rattle.tmw_texts.specs.TracesText.{events_text, start_text, traces_text};
 
 use crate::item_text::{ItemText, push_each};
 use crate::numbers::push_values;

@@ -1,6 +1,6 @@
-ghost use Rattle.tmw_show.specs.Shared.{decimal, values_text};
+ghost use Rattle.tmw_texts.specs.Shared.{decimal, values_text};
 ghost use Rattle.std.specs.Prelude.{OnOk, ◌++◌, ◌∷◌, ◌≡◌};
-ghost use Rattle.tmw_show.specs.Drawing.{blanks};
+ghost use Rattle.tmw_texts.specs.ItemTexts.{blanks};
 
 use crate::item_text::{ItemText, push_each};
 use std::alloc::AllocError;

@@ -1,5 +1,6 @@
-use Rattle.tmw_show.proofs.Shared.{length, names_from, ◌++◌, ◌+◌, ◌≡◌}
-use Rattle.tmw_show.proofs.value_names.push_names.Given as goal
+use Rattle.std.proofs.Common.{length, ◌++◌, ◌+◌, ◌≡◌}
+use Rattle.tmw_texts.specs.ValueNames.{names_from}
+use Rattle.tmw_texts.proofs.value_names.push_names.Given as goal
 
 abbrev pub invariant-loop-rest : goal.invariant-loop-rest
 invariant-loop-rest l =

@@ -1,5 +1,5 @@
 ghost use Rattle.std.specs.Prelude.{IfOk, OnOk, Some, position, ◌++◌, ◌==◌, ◌≡◌};
-ghost use Rattle.tmw_show.specs.ValueNames.{has_name, long_values, name_line, names_from, shown_kind, stored_text, value_text, with_kind, with_value};
+ghost use Rattle.tmw_texts.specs.ValueNames.{has_name, long_values, name_line, names_from, shown_kind, stored_text, value_text, with_kind, with_value};
 
 use crate::event_text::push_kind;
 use std::alloc::{AllocError, Global};

@@ -1,5 +1,6 @@
 -- The names of a window's transactions: T1, T2 .. in the order of their first events.
-use Rattle.tmw_show.specs.Shared.{Name, decimal}
+use Rattle.tmw_texts.specs.Shared.{decimal}
+use Rattle.tmw_kept.specs.declared.name_in_window.Name.{Name}
 use Rattle.std.specs.Prelude.{List, None, Option, Some, codes, find, option_map, ℕ, ◌++◌, ◌+◌, ◌==◌}
 
 -- of the transaction at this place among those of the window, from 0

@@ -1,6 +1,6 @@
-ghost use Rattle.tmw_show.specs.Shared.{flat_map};
+ghost use Rattle.tmw_texts.specs.Shared.{flat_map};
 ghost use Rattle.std.specs.Prelude.{List, OnOk, ℕ, ◌++◌, ◌≡◌};
-ghost use Rattle.tmw_show.specs.Page.{list_json};
+ghost use Rattle.tmw_texts.specs.ItemTexts.{list_json};
 
 use std::alloc::AllocError;
 

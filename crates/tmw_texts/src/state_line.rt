@@ -1,5 +1,5 @@
-ghost use Rattle.tmw_show.specs.Shared.{line};
-ghost use Rattle.tmw_show.specs.Drawing.{state_text};
+ghost use Rattle.tmw_texts.specs.Shared.{line};
+ghost use Rattle.tmw_texts.specs.ItemTexts.{state_text};
 
 use crate::item_text::ItemText;
 use crate::numbers::push_values;

@@ -1,6 +1,8 @@
 -- One blank more.
-use Rattle.tmw_show.proofs.Shared.{[], ap, append_assoc, blanks, replicate-append-replicate, rules, ◌++◌, ◌∙◌, ◌∷◌, ◌≡◌}
-use Rattle.tmw_show.proofs.numbers.push_blanks.Goals as goal
+use Rattle.std.proofs.Common.{[], ap, append_assoc, rules, ◌++◌, ◌∙◌, ◌∷◌, ◌≡◌}
+use Rattle.tmw_texts.specs.ItemTexts.{blanks}
+use Rattle.std.proofs.lemmas.List.{replicate-append-replicate}
+use Rattle.tmw_texts.proofs.numbers.push_blanks.Goals as goal
 
 pub loop-place-preserved : goal.loop-place-preserved
 loop-place-preserved c =

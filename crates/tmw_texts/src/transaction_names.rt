@@ -1,5 +1,5 @@
 ghost use Rattle.std.specs.Prelude.{OnOk, Some, ◌++◌, ◌≡◌};
-ghost use Rattle.tmw_show.specs.TransactionNames.{begun_at, label_at, name_text};
+ghost use Rattle.tmw_texts.specs.TransactionNames.{begun_at, label_at, name_text};
 
 use std::alloc::AllocError;
 use std::fmt;
