@@ -1,19 +1,24 @@
 #!/usr/bin/env python3
-"""Runs the gate and tells what its parts take: processor minutes by kind, and seconds by crate.
+"""Runs the gate and tells what its parts take: processor minutes by kind, seconds by crate, and the longest chain of proofs.
 
     measure/gate.py [FOLDER]
 
 It runs `rt ci`, from nothing, in FOLDER, a clone of the repository (without words: here), and samples its processes twice a second. Output: a
 line for each crate with the seconds of its proof, its tests, the checks that its wrong bodies begin with, and these, by their
-number; the wrong bodies that took over 20 seconds; then the minutes of each kind. The gate's own output goes to FOLDER/gate.log.
+number; the wrong bodies that took over 20 seconds; then the minutes of each kind. Last, of the proofs that ./build makes: the longest
+chain, in which each crate waits for the one before it, and the minutes by the clock of all on four quiet processors. These are simulated,
+from the seconds above and crates.txt: one processor a proof, the longest chain first. The gate's own output goes to FOLDER/gate.log.
 The exit status is the gate's. Processor time is what the system counts: other work on the machine makes it longer.
 """
+import functools
 import os
 import subprocess
 import sys
 import time
+from collections import Counter
 
 KINDS = ["proof", "tests", "begin", "edits", "rest"]
+PROCESSORS = 4
 TICK = os.sysconf("SC_CLK_TCK")
 
 
@@ -68,6 +73,34 @@ def tell(found):
     print("over 20 seconds:", ", ".join(f"{crate} {seconds:.0f}" for seconds, crate in sorted(slow, reverse=True)) or "none")
     minutes = {kind: sum(seconds for (_, it), (seconds, _) in sums.items() if it == kind) / 60 for kind in KINDS}
     print("minutes of processor time:", ", ".join(f"{kind} {it:.0f}" for kind, it in minutes.items()), f"in all {sum(minutes.values()):.0f}")
+    tell_chain(Counter({crate: seconds for (crate, kind), (seconds, _) in sums.items() if kind == "proof"}))
+
+
+def tell_chain(seconds):
+    """Writes the longest chain of the proofs that ./build makes, and the minutes that all take side by side."""
+    with open("crates.txt", encoding="utf-8") as it:
+        lines = [line.partition("#")[0].split() for line in it]
+    words_of = {words[0].rstrip(":"): words[1:] for words in lines if words}
+    built = {"tmwatch", "tmw_c"}
+    while more := {it for crate in built for it in words_of[crate] if it in words_of} - built:
+        built |= more
+    below = {crate: built.intersection(words_of[crate]) for crate in built}
+
+    @functools.cache
+    def chain(crate):
+        longest, names = max((chain(it) for it in built if crate in below[it]), default=(0, ()))
+        return seconds[crate] + longest, (crate, *names)
+
+    now, ends, left = 0.0, {}, sorted(built, key=chain, reverse=True)
+    while left:
+        running = {it for it, end in ends.items() if end > now}
+        for crate in [it for it in left if below[it] <= ends.keys() - running][: PROCESSORS - len(running)]:
+            left.remove(crate)
+            ends[crate] = now + seconds[crate]
+        now = min((it for it in ends.values() if it > now), default=now)
+    total, names = max(map(chain, built))
+    print(f"longest chain {total / 60:.1f} minutes:", " > ".join(f"{it} {seconds[it]:.0f}" for it in names))
+    print(f"proofs by the clock, simulated: {max(ends.values()) / 60:.1f} minutes")
 
 
 def main():

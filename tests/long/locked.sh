@@ -12,21 +12,21 @@ set -eu
 . "$(dirname "${BASH_SOURCE[0]}")/../common.sh"
 cp "$top/crates.txt" "$top/HANDLES" "$folder/"
 tar c -C "$top" --exclude=must-fail crates | tar x -C "$folder"
-bench=$folder/crates/tmw_bench/src
 
 # Replaces a line of a file, which has to stand there once.
 replace() {
-    [ "$(grep -cFx "$2" "$bench/$1")" -eq 1 ]
-    awk -v old="$2" -v new="$3" '$0 == old { $0 = new } { print }' "$bench/$1" >"$folder/replaced"
-    cp "$folder/replaced" "$bench/$1"
+    local file=$folder/crates/$1
+    [ "$(grep -cFx "$2" "$file")" -eq 1 ]
+    awk -v old="$2" -v new="$3" '$0 == old { $0 = new } { print }' "$file" >"$folder/replaced"
+    cp "$folder/replaced" "$file"
 }
 
-replace orders.rt 'use std::sync::atomic::{AtomicBool, Ordering};' 'use std::sync::Mutex; use std::sync::atomic::{AtomicBool, Ordering};'
-replace orders.rt '    over: AtomicBool,' '    over: AtomicBool, pub lock: Mutex<()>,'
-replace orders.rt '            over: AtomicBool::new(false),' '            over: AtomicBool::new(false), lock: Mutex::new(()),'
-replace worker.rt '        let stop = work(' '        let held = stage.orders.lock.lock(rt); let stop = work('
-replace worker.rt '        if let Some(_) = stop {' '        drop(held); if let Some(_) = stop {'
-replace line.rt '        let pumped = pump.pump(ring, TURN)?;' \
+replace tmw_workers/src/orders.rt 'use std::sync::atomic::{AtomicBool, Ordering};' 'use std::sync::Mutex; use std::sync::atomic::{AtomicBool, Ordering};'
+replace tmw_workers/src/orders.rt '    over: AtomicBool,' '    over: AtomicBool, pub lock: Mutex<()>,'
+replace tmw_workers/src/orders.rt '            over: AtomicBool::new(false),' '            over: AtomicBool::new(false), lock: Mutex::new(()),'
+replace tmw_workers/src/worker.rt '        let stop = work::<DirectCalls>(' '        let held = stage.orders.lock.lock(rt); let stop = work::<DirectCalls>('
+replace tmw_workers/src/worker.rt '        if let Some(_) = stop {' '        drop(held); if let Some(_) = stop {'
+replace tmw_bench/src/hear_all.rt '        let pumped = pump.pump(ring, TURN)?;' \
     '        let held = orders.lock.lock(rt); let pumped = pump.pump(ring, TURN)?; drop(held);'
 
 # The one test fails by what it asserts. The other waits in vain, and may pass the kit's limit of a minute.

@@ -36,4 +36,4 @@ pub use Rattle.tmw_args.specs.CommandOrder.{bounds_in, bounds_of, count_in, flag
 pub use Rattle.tmw_args.specs.declared.refusal.Refusal.{Refusal}
 pub use Rattle.tmw_args.specs.declared.refusal.Refusal.TheVariants.{Help, Memory, Usage, Version}
 pub use Rattle.tmw_options.specs.declared.bench_settings.Settings.{Settings}
-pub use Rattle.tmw_monitor.specs.declared.bounds.Bounds.{Bounds}
+pub use Rattle.tmw_options.specs.declared.bounds.Bounds.{Bounds}

@@ -8,7 +8,7 @@ use Rattle.clap.specs.declared.error.kind.ErrorKind.{ErrorKind}
 use Rattle.clap.specs.declared.error.kind.ErrorKind.TheVariants.{DisplayHelp, DisplayVersion}
 use Rattle.tmw_defs.specs.declared.criterion.Asked.{Asked}
 use Rattle.tmw_defs.specs.declared.criterion.Criterion.{Criterion}
-use Rattle.tmw_monitor.specs.declared.bounds.Bounds.{Bounds}
+use Rattle.tmw_options.specs.declared.bounds.Bounds.{Bounds}
 use Rattle.tmw_options.specs.declared.bench_settings.Settings.{Settings}
 use Rattle.tmw_options.specs.declared.form.Form.{Form}
 use Rattle.tmw_options.specs.declared.form.Form.TheVariants.{Drawing, Traces, Page}

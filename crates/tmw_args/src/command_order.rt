@@ -1,8 +1,7 @@
 use crate::bench_options::BenchOptions;
 use crate::run_options::RunOptions;
 use crate::which_memory::Which;
-use tmw_monitor::Bounds;
-use tmw_options::{JudgeOptions, ShowOptions};
+use tmw_options::{Bounds, JudgeOptions, ShowOptions};
 
 /// What the command line asks the program to do.
 #[derive(Clone, Copy, PartialEq, Eq, Debug)]

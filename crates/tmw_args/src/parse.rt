@@ -16,8 +16,7 @@ use clap::{ArgMatches, Command, Error};
 use std::alloc::{AllocError, Global};
 use std::convert::AsStr;
 use tmw_defs::{Asked, Criterion};
-use tmw_monitor::Bounds;
-use tmw_options::{Form, JudgeOptions, Settings, ShowOptions};
+use tmw_options::{Bounds, Form, JudgeOptions, Settings, ShowOptions};
 
 /// The most cells of a ring.
 const MOST_CELLS: u64 = 4096;

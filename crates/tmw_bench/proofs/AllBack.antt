@@ -1,8 +1,9 @@
 -- All workers have come back.
-use Rattle.tmw_bench.proofs.Shared.{Answer, AreClosed, AreNewLines, AreNewWorkers, AreOpened, ArePairs, Call, Consumer, Front, HasLedTo, HasPlayedLast, HasPlayedOn, IsAfter, IsClosed, IsPair, IsPairOf, IsPromised, Kind, Line, List, None, Option, Producer, ReaderIs, ReaderOf, Refused, RingIs, RoundEnd, Rules, SameConsumer, SameProducer, Some, SomeStop, SomeToldStop, Worker, WriterIs, WriterOf, [], ap, arith, drop, get_or, get_or-map, length, length-map, length_push, map, received, script_at, sent, subst, sym, take, take-append-le, take_all, ℕ, ◌++◌, ◌+◌, ◌<◌, ◌∙◌, ◌∷◌, ◌≡◌}
+use Rattle.tmw_bench.proofs.Shared.{Answer, AreClosed, AreNewLines, AreNewWorkers, AreOpened, ArePairs, Back, Call, Front, HasLedTo, HasPlayedLast, HasPlayedOn, IsAfter, IsClosed, IsPair, IsPairOf, IsPromised, Kind, Line, List, None, Option, ReaderIs, ReaderOf, Refused, RingIs, RoundEnd, Rules, SameConsumer, SameProducer, Some, SomeStop, SomeToldStop, Worker, WriterIs, WriterOf, [], ap, arith, drop, get_or, get_or-map, length, length-map, length_push, map, received, script_at, sent, subst, sym, take, take-append-le, take_all, ℕ, ◌++◌, ◌+◌, ◌<◌, ◌∙◌, ◌∷◌, ◌≡◌}
+use Rattle.rtrb.specs.declared.consumer.Consumer.{Consumer}
+use Rattle.rtrb.specs.declared.producer.Producer.{Producer}
 use Rattle.tmw_events.specs.declared.ix.Ix.{Ix}
 use Rattle.tmw_bench.proofs.WorkerBack.{last-same, played-closed}
-use Rattle.tmw_bench.proofs.Starts.{Back}
 use Rattle.tmw_ring.specs.NewRing.{AreNewWriters}
 
 pair-then : {T A P : Type 0} (p_old p_new : Producer T A P) (c_old c_new : Consumer T A P) → IsPair p_old c_old → SameProducer p_old p_new

@@ -1,8 +1,7 @@
 -- From a settled ring, whose writers have claimed whole rounds and a last one, to the log of these rounds.
-use Rattle.tmw_bench.proofs.Shared.{All-drop, All-take, AllOpaque, AllStand, Answer, AreEndings, Call, Ending, EndsRound, EndsWork, Event, FindsFrom, HasPlayed, HasPlayedLast, HaveAllPlayedLast, IsInRounds, IsLogOfAll, IsSettled, Kind, List, None, Option, ReaderIs, Refused, Rules, WriterIs, arith, cases_lt, drop, ending_of, get_or, inl, inr, kinds_of, last_bound, length, length-take-le, made_from, no_kinds, rules, script_at, subst, sym, take, take-append-drop, true, ℕ, ◌++◌, ◌<◌, ◌∙◌, ◌≡◌, ◌≤◌}
+use Rattle.tmw_bench.proofs.Shared.{All-drop, All-take, AllOpaque, AllStand, Answer, AreEndings, Call, Ending, EndsRound, Event, HasPlayed, HasPlayedLast, HaveAllPlayedLast, IsInRounds, IsLogOfAll, IsSettled, Kind, List, None, Option, ReaderIs, Refused, Rules, WriterIs, all_opaque-take, arith, cases_lt, drop, earlier_played, ending_of, get_or, inl, inr, kinds_of, last_bound, last_bound-within, length, length-take-le, made_from, no_kinds, rules, script_at, subst, sym, take, take-append-drop, true, ℕ, ◌++◌, ◌<◌, ◌∙◌, ◌≡◌, ◌≤◌}
+use Rattle.tmw_workers.specs.Work.{EndsWork, FindsFrom}
 use Rattle.tmw_bench.proofs.PlacesUpTo.{cutting}
-use Rattle.tmw_bench.proofs.OpaqueRounds.{all_opaque-take, last_bound-within}
-use Rattle.tmw_bench.proofs.RoundPlaces.{earlier_played}
 use Rattle.tmw_bench.proofs.WholeRounds.{are_whole_rounds}
 
 -- the log of a settled ring

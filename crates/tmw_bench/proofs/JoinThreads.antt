@@ -1,9 +1,10 @@
 -- The workers have come back from their threads, each as its thread has promised.
-use Rattle.tmw_bench.proofs.Shared.{Answer, AreOpened, Call, Front, HasLed, HasLedTo, HasPlayedOn, IsPromised, Kind, Line, List, Playing, RingIs, Rules, Vec, Worker, WriterIs, arith, calls_of, drop, get_or, length, script_at, subst, sym, take, ℕ, ◌++◌, ◌+◌, ◌<◌, ◌≡◌}
+use Rattle.tmw_bench.proofs.Shared.{Answer, AreOpened, Back, Call, Front, Handle, HasLed, HasLedTo, HasPlayedOn, IsPromised, Kind, Line, List, RingIs, Rules, Vec, Worker, WriterIs, arith, drop, get_or, length, script_at, subst, sym, take, ℕ, ◌++◌, ◌+◌, ◌<◌, ◌≡◌}
+use Rattle.tmw_workers.specs.declared.threads.Playing.{Playing}
+use Rattle.tmw_workers.specs.Player.{calls_of}
 use Rattle.std.specs.Vec.{vec_len}
 use Rattle.std.specs.PromisedHandle.{KeepsEach}
 use Rattle.tmw_bench.proofs.AllBack.{promised_at, written_back}
-use Rattle.tmw_bench.proofs.Starts.{Back, Handle}
 use Rattle.std.specs.declared.thread.Promise as Promise
 
 -- A worker for each writer was given to a thread, and the threads were joined.

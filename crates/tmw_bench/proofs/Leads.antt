@@ -1,11 +1,8 @@
 -- What the leader has heard and told, from one worker to the next.
-use Rattle.tmw_bench.proofs.Shared.{All, All-append, All-nil, All-take, AllOpaque, AreNewLines, Fits, Front, HasGoneOn, HasHeard, HasJudged, HasLedTo, HasToldStop, HaveHeardUpTo, HaveToldUpTo, IsVerdict, Line, List, None, OpaqueSoFar, Option, Refused, RoundEnd, Rules, SameConsumer, SameProducer, Some, SomeToldStop, [], ap, append_assoc, arith, cases_lt, get_or, get_or-set_other, get_or-set_same, inl, inr, judged-none, length, length-append, length-set, length_push, received, rules, sent, set, subst, sym, take, take-append-le, take_all, ℕ, ◌++◌, ◌+◌, ◌<◌, ◌∙◌, ◌∷◌, ◌≡◌, ◌≢◌}
+use Rattle.tmw_bench.proofs.Shared.{All, All-append, All-cons, All-nil, All-take, AllOpaque, AllToldEnd, AreNewLines, Fits, Front, HasGoneOn, HasHeard, HasJudged, HasLedTo, HasToldEnd, HasToldStop, HaveHeardUpTo, HaveToldUpTo, IsVerdict, Line, List, None, OpaqueSoFar, Option, Refused, RoundEnd, Rules, SameConsumer, SameProducer, Some, SomeToldStop, [], all_opaque-append, all_opaque-round, ap, append_assoc, arith, cases_lt, get_or, get_or-set_other, get_or-set_same, inl, inr, judged-none, length, length-append, length-set, length_push, received, rules, sent, set, subst, sym, take, take-append-le, take_all, ℕ, ◌++◌, ◌+◌, ◌<◌, ◌∙◌, ◌∷◌, ◌≡◌, ◌≢◌}
 use Rattle.std.specs.Option.{IsSome}
 use Rattle.std.proofs.Math.Nat.{ne_of_lt}
-use Rattle.std.proofs.lemmas.List.Elements.{All-cons}
-use Rattle.tmw_bench.specs.Lead.{AllToldEnd, HasToldEnd}
-use Rattle.tmw_bench.proofs.OpaqueRounds.{all_opaque-append, all_opaque-round}
-use Rattle.tmw_bench.proofs.Between.{up-then, down-then}
+use Rattle.tmw_workers.proofs.Between.{up-then, down-then}
 use Rattle.tmw_pump.specs.declared.keep.Keep.{Ghosts}
 use Rattle.tmw_pump.specs.declared.pump.Pump.{Pump}
 

@@ -1,8 +1,10 @@
 -- A log of rounds is never malformed: each thread's events begin a run of its script, repeated.
-use Rattle.tmw_bench.proofs.Shared.{All, Answer, AreWholeRounds, Call, Ending, EndsRound, Event, Headline, IsBeginning, IsFirst, IsInRounds, IsMalformed, IsTrue, IsWholeRun, Kind, List, Malformed, Rules, Verdict, WriterIs, [], ap, append-nil, append_assoc, are_transactions, arith, both_ways, cases_lt, get_or, get_or_past, inl, inr, is_well_formed, kinds_of, kinds_of-append, length, no_kinds, refl, rules, script_at, subst, suc, sym, take, whole_run-append, zero, ℕ, ◌<◌, ◌∙◌, ◌≡◌, ◌≢◌}
+use Rattle.tmw_bench.proofs.Shared.{All, Answer, AreWholeRounds, Call, Ending, EndsRound, Event, Headline, IsBeginning, IsFirst, IsInRounds, IsMalformed, IsTrue, IsWholeRun, Kind, List, Malformed, Rules, Verdict, WriterIs, [], ap, append-nil, append_assoc, are_transactions, arith, both_ways, cases_lt, get_or, get_or_past, inl, inr, kinds_of, kinds_of-append, length, no_kinds, refl, rules, script_at, subst, suc, sym, take, zero, ℕ, ◌<◌, ◌∙◌, ◌≡◌, ◌≢◌}
+use Rattle.tmw_defs.specs.History.{is_well_formed}
+use Rattle.tmw_runs.proofs.LongerRuns.{whole_run-append}
 use Rattle.tmw_bench.proofs.InRounds.{some_writer}
-use Rattle.tmw_bench.proofs.RunsAgain.{repeated, are_transactions-repeated, beginning-append, repeated-nil}
-use Rattle.tmw_drive.specs.declared.ending.Ending.TheVariants.{Done}
+use Rattle.tmw_workers.proofs.RunsAgain.{repeated, are_transactions-repeated, beginning-append, repeated-nil}
+use Rattle.tmw_workers.specs.declared.ending.Ending.TheVariants.{Done}
 use Rattle.tmw_runs.proofs.NeverMalformed.{formed_law}
 
 -- a thread's events of whole rounds are a whole run of its script, repeated

@@ -1,7 +1,10 @@
 -- A writer's places are cut by a length of the log: those before it are the places of the log up to there, and the others' kinds
 -- are those of its thread from there on.
-use Rattle.tmw_bench.proofs.Shared.{All, All-head, All-tail, Event, List, Made, [], ap, arith, drop, kinds_made, kinds_made-made_from, kinds_of, length, length-take-le, made_from, refl, subst, sym, take, take-append-drop, ℕ, ◌++◌, ◌+◌, ◌<◌, ◌∙◌, ◌∷◌, ◌≡◌, ◌≤◌}
-use Rattle.tmw_bench.proofs.MadeFrom.{earlier_made, later_made, made_from-append}
+use Rattle.tmw_bench.proofs.Shared.{All, All-head, All-tail, Event, List, [], ap, arith, drop, kinds_of, length, length-take-le, made_from, refl, subst, sym, take, take-append-drop, ℕ, ◌++◌, ◌+◌, ◌<◌, ◌∙◌, ◌∷◌, ◌≡◌, ◌≤◌}
+use Rattle.tmw_ring.specs.declared.seat_part.Made.{Made}
+use Rattle.tmw_ring.specs.WriterKinds.{kinds_made}
+use Rattle.tmw_pump.proofs.KindsMade.{kinds_made-made_from}
+use Rattle.tmw_workers.proofs.MadeFrom.{earlier_made, later_made, made_from-append}
 
 -- the items of one list, cut in two by the same bound, are cut at one place
 same_parts : (bound : ℕ) (old fresh front back : List Made) → old ++ fresh ≡ front ++ back

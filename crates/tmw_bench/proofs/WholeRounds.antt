@@ -1,8 +1,6 @@
 -- From writers that have claimed whole rounds to the log of these rounds.
-use Rattle.tmw_bench.proofs.Shared.{All, All-drop, All-take, AllOpaque, AllStand, Answer, AreWholeRounds, Call, Event, HasPlayed, IsWholeRound, IsWholeRun, Kind, List, Rules, [], arith, cases_lt, drop, inl, inr, kinds_of, last_bound, length, length-take-le, made_from, nil_from_length, no_kinds, rules, script_at, subst, sym, take, take-append-drop, true, ℕ, ◌<◌, ◌∷◌, ◌≡◌, ◌≤◌}
+use Rattle.tmw_bench.proofs.Shared.{All, All-drop, All-take, AllOpaque, AllStand, Answer, AreWholeRounds, Call, Event, HasPlayed, IsWholeRound, IsWholeRun, Kind, List, Rules, [], all_opaque-take, arith, cases_lt, drop, earlier_played, inl, inr, kinds_of, last_bound, last_bound-within, length, length-take-le, made_from, nil_from_length, no_kinds, opaque_at_last, rules, script_at, subst, sym, take, take-append-drop, true, ℕ, ◌<◌, ◌∷◌, ◌≡◌, ◌≤◌}
 use Rattle.tmw_bench.proofs.PlacesUpTo.{cutting}
-use Rattle.tmw_bench.proofs.OpaqueRounds.{all_opaque-take, last_bound-within, opaque_at_last}
-use Rattle.tmw_bench.proofs.RoundPlaces.{earlier_played}
 
 -- What a thread has done in a log whose last round begins at this length.
 pub record RoundAt (gives : Call → Answer → Type 0) (script : List (List Kind)) (earlier : List ℕ) (thread : ℕ) (log : List Event) : Type 0 where

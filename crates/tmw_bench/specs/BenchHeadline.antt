@@ -1,8 +1,14 @@
 -- The headline of a bench: threads carry scripts out on a memory, round after round, all of it is recorded in one ring, and judged.
-use Rattle.tmw_bench.specs.Shared.{AllStand, Answer, Answered, AreInOrder, Call, Done, Ending, Event, IsVerdict, IsWholeRun, Kind, Left, Malformed, OpaqueSoFar, Refused, Registers, RingIs, Rules, Settings, Stopped, WriterIs, WriterOf, rules_of, script_at, zeros}
+use Rattle.tmw_bench.specs.Shared.{Answer, AreInOrder, Call, IsVerdict, Kind, Malformed, OpaqueSoFar, Refused, Registers, RingIs, Rules, Settings, WriterIs, WriterOf, rules_of, script_at, zeros}
+use Rattle.tmw_runs.specs.AnswersStand.{AllStand}
+use Rattle.tmw_ring_defs.specs.declared.ring_step.Answered.{Answered}
+use Rattle.tmw_workers.specs.declared.ending.Ending.TheVariants.{Done, Left, Stopped}
+use Rattle.tmw_workers.specs.declared.ending.Ending.{Ending}
+use Rattle.tmw_events.specs.declared.event.Event.{Event}
+use Rattle.tmw_runs.specs.Runs.{IsWholeRun}
 use Rattle.std.specs.Prelude.{◌≡◌, ◌≢◌, ◌<◌, ◌≤◌, ◌+◌, ◌++◌, ◌⊎◌, ℕ, zero, suc, true, List, [], length, get_or, All}
 use Rattle.tmw_bench.specs.declared.bench_result.BenchResult.{BenchResult}
-use Rattle.tmw_bench.specs.declared.fault.BenchFault.{BenchFault}
+use Rattle.tmw_workers.specs.declared.fault.BenchFault.{BenchFault}
 use Rattle.tmw_bench.specs.declared.hunt_result.HuntResult.{HuntResult}
 use Rattle.tmw_counts.specs.CountedPart.{part_by}
 use Rattle.tmw_counts.specs.Summary.{IsSummary}
@@ -12,8 +18,8 @@ use Rattle.tmw_pump.specs.Headline.{Headline}
 use Rattle.tmw_ring_defs.specs.Runs.{Gone, IsRunTo, writer_actor}
 use Rattle.tmw_ring_defs.specs.RingSize.{HasNumbers, HasRoom, HasLimit, IsWrongSize}
 use Rattle.tmw_window.specs.ShownWindow.{IsShowing}
-use Rattle.tmw_bench.specs.Work.{tail_of, StopsBefore}
-use Rattle.tmw_bench.specs.declared.fault.BenchFault.TheVariants.{Registers as TooManyRegisters, Ring, Memory, Spawn}
+use Rattle.tmw_workers.specs.Work.{tail_of, StopsBefore}
+use Rattle.tmw_workers.specs.declared.fault.BenchFault.TheVariants.{Registers as TooManyRegisters, Ring, Memory, Spawn}
 
 -- A round to its end: each thread has recorded a whole run of its script, and each answer there is one that the memory gives.
 pub record IsWholeRound (gives : Call → Answer → Type 0) (scripts : List (List (List Kind))) (round : List Event) : Type 0 where

@@ -1,10 +1,10 @@
 -- What the leader of a bench has done, that tells its workers where each round has ended.
-use Rattle.tmw_bench.specs.Shared.{Fits, Front, Refused, Rules, SameConsumer, SameProducer, judged_of, monitor_of, received, sent}
+use Rattle.tmw_bench.specs.Shared.{AllOpaque, Fits, Front, Refused, Rules, judged_of, monitor_of}
+use Rattle.rtrb.specs.Ring.{SameConsumer, SameProducer, received, sent}
 use Rattle.std.specs.Prelude.{◌≡◌, ◌≤◌, ◌<◌, ◌+◌, ◌++◌, ℕ, List, [], ◌∷◌, Some, None, length, get_or, take, All}
-use Rattle.tmw_bench.specs.Rounds.{AllOpaque}
-use Rattle.tmw_bench.specs.Worker.{in_order}
-use Rattle.tmw_bench.specs.declared.round_end.RoundEnd.{RoundEnd}
-use Rattle.tmw_bench.specs.declared.line.Line.{Line}
+use Rattle.tmw_workers.specs.Worker.{in_order}
+use Rattle.tmw_workers.specs.declared.round_end.RoundEnd.{RoundEnd}
+use Rattle.tmw_workers.specs.declared.line.Line.{Line}
 
 -- The worker of this line has told this, next.
 pub record HasHeard (ended : RoundEnd) (old new : Line) : Type 0 where

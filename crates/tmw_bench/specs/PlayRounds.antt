@@ -1,9 +1,8 @@
 -- Rounds that workers play: what they need, and what they leave.
-use Rattle.tmw_bench.specs.Shared.{Answer, Call, Fits, Kind, PumpIs, ReaderOf, Refused, RingIs, Rules, WriterIs, judged_of, monitor_of, pump_front, reader_of, scripts_of}
+use Rattle.tmw_bench.specs.Shared.{Answer, AreTransactions, Call, Fits, GivesWithin, Kind, PumpIs, ReaderOf, Refused, RingIs, Rules, WriterIs, judged_of, monitor_of, pump_front, reader_of, scripts_of}
 use Rattle.std.specs.Prelude.{◌≡◌, ◌≤◌, ◌<◌, ℕ, [], List, Option, length}
 use Rattle.std.specs.Global.{Vec}
 use Rattle.tmw_bench.specs.RoundsBegun.{HaveBegun, IsOver}
-use Rattle.tmw_bench.specs.WorkerConditions.{AreTransactions, GivesWithin}
 use Rattle.tmw_ring.specs.NewRing.{AreNewWriters}
 
 -- The memory gives no answer but those that are wanted. The pump has judged nothing, and by some rules its monitor fits that. Its reader

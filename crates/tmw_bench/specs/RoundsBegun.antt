@@ -1,8 +1,6 @@
 -- How a bench stands after so many rounds were begun.
-use Rattle.tmw_bench.specs.Shared.{Answer, AreInOrder, Call, Fits, Front, Kind, OpaqueSoFar, ReaderIs, ReaderOf, Refused, RingIs, Rules, WriterIs, WriterOf, judged_of, monitor_of, verdict_on}
+use Rattle.tmw_bench.specs.Shared.{AllOpaque, Answer, AreInOrder, Call, Fits, Front, HaveAllPlayedLast, Kind, OpaqueSoFar, ReaderIs, ReaderOf, Refused, RingIs, Rules, SomeStop, WriterIs, WriterOf, judged_of, monitor_of, verdict_on}
 use Rattle.std.specs.Prelude.{◌≡◌, ◌≢◌, ◌+◌, ◌⊎◌, ℕ, List, Option, length, All}
-use Rattle.tmw_bench.specs.WorkerConditions.{SomeStop}
-use Rattle.tmw_bench.specs.Rounds.{AllOpaque, HaveAllPlayedLast}
 
 -- After a round: the reader and the writers of one ring are back, and what was recorded are whole rounds, which ended at these
 -- bounds, and one more, to its end or up to where threads were stopped. At each bound the verdict was opaque so far.

@@ -5,26 +5,21 @@ ghost use Rattle.tmw_bench.specs.BenchKeep.{IsCarriedOut};
 
 use crate::bench_keep::BenchKeep;
 use crate::bench_result::BenchResult;
-use crate::bench_stage::BenchStage;
-use crate::fault::BenchFault;
 use crate::hunt_result::HuntResult;
 use crate::hunt_window::Hunting;
-use crate::orders::Orders;
 use crate::play_rounds::{Left, play_rounds};
 use crate::progress::Progress;
-use crate::script_ends::ends_of;
-use crate::signals::Signals;
 use std::alloc::Global;
 use std::marker::Brand;
 use std::sync::Wait;
 use std::thread::Threads;
-use tmw_drive::{Ending, Outcome};
 use tmw_events::Event;
 use tmw_monitor::Monitor;
 use tmw_options::Settings;
 use tmw_pump::{Keep, Pump, Rest};
 use tmw_ring::{RingFault, ring};
 use tmw_tm::Tm;
+use tmw_workers::{BenchFault, BenchStage, Ending, Orders, Outcome, Signals, ends_of};
 use tmw_workloads::Workload;
 
 /// Runs the workload's scripts on the memory, each in a thread of its own, and judges what they record, from registers

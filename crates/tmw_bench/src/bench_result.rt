@@ -1,5 +1,5 @@
 use tmw_counts::Summary;
-use tmw_drive::Outcome;
+use tmw_workers::Outcome;
 
 /// What threads have made of a memory.
 #[derive(Debug, Drop)]

@@ -1,6 +1,6 @@
 use tmw_counts::Summary;
-use tmw_drive::Ending;
 use tmw_window::ShownWindow;
+use tmw_workers::Ending;
 
 /// What threads have made of the scripts of a workload, round after round, with no event kept but those of the last window.
 #[derive(Debug, Drop)]

@@ -4,11 +4,11 @@ ghost use Rattle.std.specs.Prelude.{◌≡◌, ◌+◌, ◌≤◌, length, IfOk,
 ghost use Rattle.tmw_bench.specs.BenchKeep.{HasGoneOn};
 
 use crate::bench_keep::BenchKeep;
-use crate::waits::pause;
 use std::alloc::AllocError;
 use std::sync::Wait;
 use tmw_pump::Pump;
 use tmw_ring::Ring;
+use tmw_workers::pause;
 
 /// The most events that one call of the pump judges.
 const TURN: u64 = 64;

@@ -5,14 +5,14 @@ ghost use Rattle.tmw_bench.specs.BenchKeep.{HasGoneOn};
 ghost use Rattle.tmw_bench.specs.Lead.{AreNewLines, HasLed, SomeToldStop};
 
 use crate::bench_keep::BenchKeep;
+use crate::hear_all::{hear_all, tell_all};
 use crate::judge_turns::judge_up_to;
-use crate::line::{Line, hear_all, tell_all};
-use crate::orders::Orders;
 use std::alloc::AllocError;
 use std::sync::Wait;
 use tmw_defs::Verdict;
 use tmw_pump::Pump;
 use tmw_ring::Ring;
+use tmw_workers::{Line, Orders};
 
 /// Leads the workers through round after round, and returns how many were begun: all, unless after one of them the
 /// verdict is not opaque so far or a worker was stopped.

@@ -1,17 +1,10 @@
 //! All rounds, by workers that live as long.
-ghost use Rattle.tmw_bench.specs.Shared.{StaysKept, pump_front, pump_in, pump_kept, scripts_of};
+ghost use Rattle.tmw_bench.specs.Shared.{IsOfThreads, StaysKept, pump_front, pump_in, pump_kept, scripts_of};
 ghost use Rattle.std.specs.Prelude.{IfOk, IfErr};
 ghost use Rattle.tmw_bench.specs.PlayRounds.{CanPlay, HasPlayed};
-ghost use Rattle.tmw_bench.specs.WorkerConditions.{IsOfThreads};
 
 use crate::bench_keep::BenchKeep;
-use crate::bench_stage::BenchStage;
-use crate::close_lines::close_all;
-use crate::fault::BenchFault;
 use crate::lead::lead;
-use crate::memory_answers::MemoryAnswers;
-use crate::open_lines::open_all;
-use crate::threads::start_all;
 use std::alloc::Global;
 use std::sync::Wait;
 use std::thread;
@@ -19,6 +12,7 @@ use std::thread::{Scope, Threads};
 use tmw_pump::{Keep, Pump};
 use tmw_ring::{Refused, Writer};
 use tmw_tm::Tm;
+use tmw_workers::{BenchFault, BenchStage, MemoryAnswers, close_all, open_all, start_all};
 
 /// What the last round has left: the pump, the writers, the refusals at which workers were stopped, and how many rounds were begun.
 #[derive(Drop)]

@@ -8,7 +8,7 @@ use Rattle.tmw_defs.specs.ThreadTransactions.{kinds_of}
 use Rattle.tmw_defs.specs.Verdict.{IsFirst, IsMalformed}
 use Rattle.tmw_events.specs.declared.event.Event.{Event}
 use Rattle.tmw_pump.proofs.KindsMade.{kinds_made-made_from}
-use Rattle.tmw_pump.specs.WriterKinds.{kinds_made}
+use Rattle.tmw_ring.specs.WriterKinds.{kinds_made}
 use Rattle.tmw_runs.proofs.Completions.{formed_by_turns}
 
 -- a thread that records nothing

@@ -4,7 +4,7 @@ use Rattle.std.specs.Prelude.{◌≡◌, ◌≢◌, ℕ, List, All}
 use Rattle.tmw_c.specs.Kinds.{AsksFor}
 use Rattle.tmw_defs.specs.Verdict.{Rules}
 use Rattle.tmw_events.specs.declared.event.Event.{Event}
-use Rattle.tmw_pump.specs.WriterKinds.{kinds_made}
+use Rattle.tmw_ring.specs.WriterKinds.{kinds_made}
 
 -- A letter, a register and a value ask for one kind at most.
 abbrev pub OneKindLaw : Type 0

@@ -1,5 +1,8 @@
 -- What answers a workload that was read answers the source that told its text.
-use Rattle.tmw_command.proofs.Shared.{Err, Fault, IsHunted, IsNoBench, IsTrue, IsWorkloadText, List, Memory, MemoryIs, Ok, Result, Workload, hunted_of, length, script_of, scripts_of, subst, sym, ℕ, ◌≡◌, ◌≤◌}
+use Rattle.tmw_command.proofs.Shared.{Err, IsHunted, IsNoBench, IsTrue, List, Memory, MemoryIs, Ok, Result, hunted_of, length, script_of, scripts_of, subst, sym, text_over, ℕ, ◌≡◌, ◌≤◌}
+use Rattle.tmw_report.specs.declared.fault.Fault.{Fault}
+use Rattle.tmw_workloads.specs.Json.{IsWorkloadText}
+use Rattle.tmw_workloads.specs.declared.workload.Workload.{Workload}
 use Rattle.std.specs.Prelude.{IfErr, IfOk}
 use Rattle.std.proofs.lemmas.List.{length-map}
 use Rattle.tmw_args.specs.declared.bench_options.BenchOptions.{BenchOptions}
@@ -7,12 +10,11 @@ use Rattle.tmw_defs.specs.declared.criterion.Criterion.TheVariants.{Opacity}
 use Rattle.tmw_show.specs.NeededEvents.{IsNeededOf}
 use Rattle.tmw_command.specs.RunBench.{AnswersHunt, IsHuntedFrom, IsNoBenchFrom, IsRightFault, fault_of}
 use Rattle.tmw_command.specs.declared.bench.hunt_run.HuntRun.{HuntRun}
-use Rattle.tmw_bench.specs.declared.fault.BenchFault.{BenchFault}
+use Rattle.tmw_workers.specs.declared.fault.BenchFault.{BenchFault}
 use Rattle.tmw_bench.specs.declared.hunt_result.HuntResult.{HuntResult}
 use Rattle.tmw_options.specs.declared.bench_settings.Settings.{Settings}
-use Rattle.tmw_command.proofs.DriveAnswers.{text_over}
 use Rattle.tmw_workloads.specs.Workload.{is_workload}
-use Rattle.tmw_bench.specs.declared.fault.BenchFault.TheVariants.{Memory as LacksMemory, Registers as LacksRegisters, Ring as HasNoRing, Spawn as LacksThreads}
+use Rattle.tmw_workers.specs.declared.fault.BenchFault.TheVariants.{Memory as LacksMemory, Registers as LacksRegisters, Ring as HasNoRing, Spawn as LacksThreads}
 use Rattle.tmw_events.specs.declared.registers.Registers.{Registers as Width}
 
 module _ (has : ℕ) (Ended : Type 0) (settings : Settings) (bytes : List ℕ) where

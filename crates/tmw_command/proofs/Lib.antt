@@ -1,5 +1,2 @@
 mod BenchAnswers
-mod DriveAnswers
-mod EndsLines
 mod Shared
-mod Zeros

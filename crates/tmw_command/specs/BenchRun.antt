@@ -1,14 +1,15 @@
 -- The text of what threads have made of a memory.
-use Rattle.tmw_command.specs.Shared.{BenchOptions, Ending, Opacity, Summary, is_open, report_text, shown_status, shown_text}
+use Rattle.tmw_command.specs.Shared.{BenchOptions, Opacity, asked_line, driven_line, driven_status, is_open, log_text, report_text, shown_status, shown_text}
+use Rattle.tmw_workers.specs.declared.ending.Ending.{Ending}
+use Rattle.tmw_counts.specs.declared.summary.Summary.{Summary}
 use Rattle.std.specs.Prelude.{Bool, List, [], cond, not, true, ℕ, ◌&&◌, ◌++◌, ◌||◌}
 use Rattle.tmw_bench.specs.declared.bench_result.BenchResult.{BenchResult}
 use Rattle.tmw_bench.specs.declared.hunt_result.HuntResult.{HuntResult}
 use Rattle.tmw_options.specs.declared.form.Form.{Form}
 use Rattle.tmw_options.specs.declared.form.Form.TheVariants.{Drawing, Traces}
-use Rattle.tmw_command.specs.Ends.{ends_line}
+use Rattle.tmw_drive_command.specs.Ends.{ends_line}
 use Rattle.tmw_command.specs.declared.bench.bench_run.BenchRun.{BenchRun}
 use Rattle.tmw_command.specs.declared.bench.hunt_run.HuntRun.{HuntRun}
-use Rattle.tmw_command.specs.DriveRun.{asked_line, driven_line, driven_status, log_text}
 
 -- The log's trace is asked for.
 abbrev pub asks_for_log : BenchOptions → Bool

@@ -1,16 +1,16 @@
 -- What `bench` promises: from the bytes that its source tells to what its sink takes and the exit status.
-use Rattle.tmw_command.specs.Shared.{BenchOptions, Fault, FromSource, IsNeededOf, IsRemarkedRun, MatchBool, MemoryIs, Opacity, Registers, RemarksRun, ToSink}
+use Rattle.tmw_command.specs.Shared.{BenchOptions, Fault, FromSource, IsHeaderOf, IsNeededOf, IsRemarkedRun, MatchBool, MemoryIs, Opacity, RemarksRun, ToSink}
+use Rattle.tmw_events.specs.declared.registers.Registers.{Registers}
 use Rattle.std.specs.Prelude.{Err, List, Ok, Result, length, ℕ, ◌≤◌}
 use Rattle.tmw_bench.specs.BenchHeadline.{IsBenched, IsHunted, IsNoBench}
-use Rattle.tmw_bench.specs.declared.fault.BenchFault.{BenchFault}
+use Rattle.tmw_workers.specs.declared.fault.BenchFault.{BenchFault}
 use Rattle.tmw_options.specs.declared.bench_settings.Settings.{Settings}
 use Rattle.tmw_ring_defs.specs.declared.ring_fault.RingFault.{RingFault}
 use Rattle.tmw_command.specs.BenchRun.{asks_for_log, bench_shows_nothing, bench_status, bench_text, benched_of, hunt_shows_nothing, hunt_status, hunt_text, hunted_of}
 use Rattle.tmw_command.specs.declared.bench.bench_run.BenchRun.{BenchRun}
 use Rattle.tmw_command.specs.declared.bench.hunt_run.HuntRun.{HuntRun}
-use Rattle.tmw_command.specs.DriveRun.{IsHeaderOf}
-use Rattle.tmw_command.specs.ReadSource.{IsTextFault, IsTextOver}
-use Rattle.tmw_bench.specs.declared.fault.BenchFault.TheVariants.{Memory as LacksMemory, Registers as LacksRegisters, Ring as HasNoRing, Spawn as LacksThreads}
+use Rattle.tmw_drive_command.specs.ReadSource.{IsTextFault, IsTextOver}
+use Rattle.tmw_workers.specs.declared.fault.BenchFault.TheVariants.{Memory as LacksMemory, Registers as LacksRegisters, Ring as HasNoRing, Spawn as LacksThreads}
 use Rattle.tmw_report.specs.declared.fault.Fault.TheVariants.{Memory, Registers as TooManyRegisters, Ring, Spawn}
 
 -- The bytes are the text of a workload over no more registers than the memory has, and this is what threads have made of it on the

@@ -5,7 +5,7 @@ use Rattle.std.specs.Prelude.{Err, List, Ok, Result, string_bytes, ℕ, ◌≡�
 use Rattle.clap.specs.Words.{Text}
 use Rattle.tmw_judge.specs.Answer.{JudgesWith}
 use Rattle.tmw_command.specs.RunBench.{BenchesBytes}
-use Rattle.tmw_command.specs.RunDrive.{DrivesBytes}
+use Rattle.tmw_drive_command.specs.RunDrive.{DrivesBytes}
 use Rattle.tmw_steps.specs.RunSteps.{RunsSteps}
 use Rattle.tmw_args.specs.ReadWords.{IsReading}
 use Rattle.tmw_command.specs.Version.{version_line}

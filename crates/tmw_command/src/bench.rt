@@ -5,10 +5,8 @@ mod bench_command;
 mod bench_run;
 mod bench_source;
 mod bench_text;
-mod ends_line;
 mod hunt_run;
 
 pub use bench_command::run_bench_cmd;
 pub use bench_run::BenchRun;
-pub use ends_line::ends_text;
 pub use hunt_run::HuntRun;

@@ -4,13 +4,13 @@ ghost use Rattle.std.specs.Result.{result_map_both};
 ghost use Rattle.tmw_command.specs.RunCommand.{AnswersRefusal, RunsCommand, RunsOrder, by_which, streams};
 
 use crate::bench::run_bench_cmd;
-use crate::drive::run_drive;
 use crate::memories::Memories;
 use std::alloc::Global;
 use std::sync::Wait;
 use std::thread::Threads;
 use tmw_args::{Order, Refusal, read_words};
 use tmw_bench::Progress;
+use tmw_drive_command::run_drive;
 use tmw_judge::run_judge_with;
 use tmw_report::{FAULT_STATUS, Fault, answer_fault};
 use tmw_show::run_show;

@@ -1,7 +1,6 @@
 -- All players, one of which does an entry of the order.
-use Rattle.tmw_drive.proofs.Shared.{AllNew, AllPlay, Answer, Call, DoesEntry, Event, IsTrue, Kind, List, OnOk, Player, Plays, Result, [], ap, are_transactions, arith, cases_eq, get_or, get_or-set_other, get_or-set_same, inl, inr, kinds_of, length, length-set, script_at, set, subst, sym, ℕ, ◌<◌, ◌∙◌, ◌≡◌}
+use Rattle.tmw_drive.proofs.Shared.{AllNew, AllPlay, Answer, Call, DoesEntry, Event, IsTrue, Kind, List, OnOk, Player, Plays, Result, [], ap, are_transactions, arith, cases_eq, get_or, get_or-set_other, get_or-set_same, inl, inr, kinds_of, length, length-set, plays-new, script_at, set, subst, sym, ℕ, ◌<◌, ◌∙◌, ◌≡◌}
 use Rattle.tmw_drive.proofs.Entries.{kinds_of-entry_other}
-use Rattle.tmw_drive.proofs.Players.{plays-new}
 use Rattle.tmw_events.specs.declared.ix.Ix.{Ix}
 
 -- what follows from two facts about an answered call

@@ -1,12 +1,25 @@
 -- What the players have recorded when the order is done.
-use Rattle.tmw_drive.proofs.Shared.{All, All-nil, AllEnd, AllPlay, AllStand, Answer, Call, Drives, Ending, EndsAs, Event, IsBeginning, IsDriven, IsTrue, IsVerdict, Kind, List, Player, Rules, [], append-nil, arith, cases_lt, get_or, get_or_past, inl, inr, is_workload, kinds_of, length, no_kinds, rules, script_at, so_far_all, subst, sym, true, ℕ, ◌<◌, ◌^◌, ◌∙◌, ◌≡◌, ◌≤◌}
+use Rattle.tmw_drive.proofs.Shared.{All, All-nil, AllEnd, AllPlay, Answer, Call, Drives, Ending, EndsAs, Event, IsDriven, IsEnding, IsTrue, IsVerdict, Kind, List, None, Option, Player, Plays, Rules, Some, [], append-nil, are_transactions-workload, arith, beginning-plays, cases_lt, get_or, get_or_past, inl, inr, kinds_of, left_of, length, length-order, next_of, no_kinds, not_whole-plays, refl, rules, script_at, subst, sym, true, whole-plays, within-order, ℕ, ◌<◌, ◌^◌, ◌∙◌, ◌≡◌, ◌≤◌}
+use Rattle.tmw_runs.specs.AnswersStand.{AllStand}
+use Rattle.tmw_runs.specs.Runs.{IsBeginning}
+use Rattle.tmw_workloads.specs.Workload.{is_workload}
+use Rattle.tmw_runs.proofs.Stands.{so_far_all}
 use Rattle.tmw_defs.specs.declared.verdict.Verdict.{Verdict}
 use Rattle.tmw_defs.specs.declared.verdict.Verdict.TheVariants.{Malformed}
 use Rattle.tmw_drive.proofs.Entries.{length-drives, own-drives}
-use Rattle.tmw_drive.proofs.Players.{ends_as-plays}
-use Rattle.tmw_drive.proofs.Workloads.{are_transactions-workload, length-order, within-order}
-use Rattle.tmw_drive.specs.declared.ending.Ending.TheVariants.{Done}
+use Rattle.tmw_workers.specs.declared.ending.Ending.TheVariants.{Done}
 use Rattle.tmw_runs.proofs.NeverMalformed.{formed_law, never_malformed}
+
+-- the ending of a player is that of its run
+ends_as-plays : (gives : Call → Answer → Type 0) (script : List (List Kind)) (player : Player) (kinds : List Kind) (ending : Ending)
+    → Plays gives script player kinds → IsEnding (next_of (left_of script player)) ending → EndsAs script kinds ending
+ends_as-plays gives script player kinds ending plays is = by_next (next_of (left_of script player)) refl is
+  where
+    by_next : (next : Option Kind) → next_of (left_of script player) ≡ next → IsEnding next ending → EndsAs script kinds ending
+    by_next None none is = subst (EndsAs script kinds) (sym is) (whole-plays gives script player kinds plays none)
+    by_next (Some call) some is =
+        subst (EndsAs script kinds) (sym is)
+        (beginning-plays gives script player kinds plays, not_whole-plays gives script player kinds call plays some)
 
 some_player : (players : List Player) (place : ℕ) → place < length players → Player
 some_player players place low = grind arith

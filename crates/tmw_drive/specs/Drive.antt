@@ -1,13 +1,9 @@
 -- One thread makes the calls of all scripts: what it records, and how far each script has come.
-use Rattle.tmw_drive.specs.Shared.{AllStand, Answer, Call, Event, Kind, kinds_of}
+use Rattle.tmw_drive.specs.Shared.{Answer, Call, Ending, Event, Kind, kinds_of, script_at}
+use Rattle.tmw_runs.specs.AnswersStand.{AllStand}
 use Rattle.std.specs.Prelude.{All, List, [], get_or, length, true, ℕ, ◌++◌, ◌<◌, ◌∷◌, ◌≡◌, ◌⊎◌}
-use Rattle.tmw_drive.specs.declared.ending.Ending.{Ending}
-use Rattle.tmw_drive.specs.declared.ending.Ending.TheVariants.{Done, Left, Stopped}
+use Rattle.tmw_workers.specs.declared.ending.Ending.TheVariants.{Done, Left, Stopped}
 use Rattle.tmw_runs.specs.Runs.{IsWholeRun, IsBeginning}
-
--- The script of this thread. A thread without a script has nothing to do.
-abbrev pub script_at : List (List (List Kind)) → ℕ → List (List Kind)
-script_at scripts thread = get_or scripts thread []
 
 -- Where the thread's run of its script is whole, its entry adds nothing to the log. Else the thread makes its next call, and the
 -- call and its answer come into the log side by side. No whole run is a proper beginning of another, so not both can be.

@@ -1,4 +1,3 @@
 pub mod Drive
-pub mod FreshTx
-pub mod Player
+pub mod Players
 mod Shared

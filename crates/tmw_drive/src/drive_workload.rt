@@ -7,14 +7,13 @@ ghost use Rattle.tmw_drive.specs.Drive.{IsDriven};
 ghost use Rattle.tmw_monitor.specs.Fits.{rules_of};
 ghost use Rattle.tmw_drive.specs.declared.fault.DriveFault.TheVariants.{Registers as TooManyRegisters};
 
-use crate::ending::Ending;
 use crate::fault::DriveFault;
-use crate::outcome::Outcome;
 use crate::play::{ends_of, new_players, play};
 use std::alloc::{AllocError, Global};
 use tmw_events::Event;
 use tmw_monitor::{Bounds, judge};
 use tmw_tm::Tm;
+use tmw_workers::{Ending, Outcome};
 use tmw_workloads::Workload;
 
 /// Makes the calls of the workload's scripts in one thread, and judges the log within the bounds, from registers that

@@ -1,14 +1,13 @@
 //! The threads of a workload in turn, as its order has it.
-ghost use Rattle.tmw_drive.specs.Shared.{kinds_of, scripts_of};
+ghost use Rattle.tmw_drive.specs.Shared.{Plays, calls_of, kinds_of, script_at, scripts_of};
 ghost use Rattle.std.specs.Prelude.{All, IfOk, OnOk, length, ◌<◌, ◌≡◌, ◌≤◌};
-ghost use Rattle.tmw_drive.specs.Drive.{script_at, DoesEntry, Drives};
-ghost use Rattle.tmw_drive.specs.Player.{calls_of, AllEnd, AllNew, AllPlay, Plays};
+ghost use Rattle.tmw_drive.specs.Drive.{DoesEntry, Drives};
+ghost use Rattle.tmw_drive.specs.Players.{AllEnd, AllNew, AllPlay};
 
-use crate::ending::Ending;
-use crate::player::Player;
 use std::alloc::{AllocError, Global};
 use tmw_events::{Event, Ix, Kind};
 use tmw_tm::Tm;
+use tmw_workers::{Ending, Player};
 
 /// Makes a player for each of so many threads.
 pub fn new_players(alloc: Global, count: u8) -> Result<Vec<Player>, AllocError>

@@ -20,7 +20,7 @@ pub use Rattle.tmw_lines.specs.declared.text_fault.TextFault.{TextFault}
 pub use Rattle.tmw_lines.specs.declared.text_fault.TextFault.TheVariants.{Memory}
 pub use Rattle.tmw_monitor.specs.BothMonitor.{FeedsBoth, opacity_of, strict_of}
 pub use Rattle.tmw_monitor.specs.Monitor.{verdict_of}
-pub use Rattle.tmw_monitor.specs.declared.bounds.Bounds.{Bounds}
+pub use Rattle.tmw_options.specs.declared.bounds.Bounds.{Bounds}
 pub use Rattle.tmw_report.proofs.Quotes.{quoted-behind, quoted-first}
 pub use Rattle.tmw_report.specs.Quote.{QuotesLine, number_of}
 pub use Rattle.tmw_report.specs.QuotesHeld.{QuotesHeld}

@@ -20,7 +20,7 @@ pub use Rattle.tmw_monitor.specs.BothMonitor.{FitsBoth, opacity_of, strict_of}
 pub use Rattle.tmw_monitor.specs.BrokenRule.{TellsBroken}
 pub use Rattle.tmw_monitor.specs.Fits.{Fits, rules_for}
 pub use Rattle.tmw_monitor.specs.Monitor.{fed_of, verdict_of}
-pub use Rattle.tmw_monitor.specs.declared.bounds.Bounds.{Bounds}
+pub use Rattle.tmw_options.specs.declared.bounds.Bounds.{Bounds}
 pub use Rattle.tmw_report.specs.CommandRun.{AnswersTextFault, IsCommandRun, failures_after_answer}
 pub use Rattle.tmw_report.specs.Lines.{both_status, fault_line, report_text, strict_text, verdict_status}
 pub use Rattle.tmw_report.specs.Quote.{RemarksFault, RemarksTrace}

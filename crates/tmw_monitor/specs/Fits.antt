@@ -1,8 +1,7 @@
 -- Which history a monitor stands for: the relation by which its calls are described.
-use Rattle.tmw_monitor.specs.Shared.{Contains, Criterion, Event, Follows, IsVerdict, Opacity, Rules, StandsFor, State, SumsUp, Verdict, Witnesses, members, so_far, views, views_of}
+use Rattle.tmw_monitor.specs.Shared.{Bounds, Contains, Criterion, Event, Follows, IsVerdict, Opacity, Rules, StandsFor, State, SumsUp, Verdict, Witnesses, members, so_far, views, views_of}
 use Rattle.std.specs.Prelude.{List, None, Option, Some, [], drop, false, length, ℕ, ◌++◌, ◌∷◌, ◌≡◌}
 use Rattle.tmw_events.specs.declared.registers.Registers.{Registers}
-use Rattle.tmw_monitor.specs.declared.bounds.Bounds.{Bounds}
 use Rattle.tmw_monitor.specs.declared.monitor.Monitor.{Monitor}
 use Rattle.tmw_monitor.specs.declared.history_digest.HistoryDigest.{HistoryDigest}
 use Rattle.tmw_monitor.specs.BrokenRule.{TellsFollowed}

@@ -1,4 +1,3 @@
-pub mod BadBounds
 pub mod BothMonitor
 pub mod BrokenRule
 pub mod Fits

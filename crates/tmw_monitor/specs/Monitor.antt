@@ -1,7 +1,6 @@
 -- What a monitor tells, and what it keeps.
-use Rattle.tmw_monitor.specs.Shared.{Criterion, Verdict, so_far}
+use Rattle.tmw_monitor.specs.Shared.{Bounds, Criterion, Verdict, so_far}
 use Rattle.std.specs.Prelude.{Option, ℕ, ◌≡◌}
-use Rattle.tmw_monitor.specs.declared.bounds.Bounds.{Bounds}
 use Rattle.tmw_monitor.specs.declared.broken_rule.BrokenRule.{BrokenRule}
 use Rattle.tmw_monitor.specs.declared.monitor.Monitor.{Monitor}
 use Rattle.tmw_monitor.specs.declared.history_digest.HistoryDigest.{HistoryDigest}

@@ -13,5 +13,6 @@ pub use Rattle.tmw_defs.specs.declared.criterion.Criterion.{Criterion}
 pub use Rattle.tmw_defs.specs.declared.criterion.Criterion.TheVariants.{Opacity, Strict}
 pub use Rattle.tmw_defs.specs.declared.verdict.Verdict.{Verdict}
 pub use Rattle.tmw_events.specs.declared.event.Event.{Event}
+pub use Rattle.tmw_options.specs.declared.bounds.Bounds.{Bounds}
 pub use Rattle.tmw_search.specs.EndStates.{EndsOf, HasMoreThan}
 pub use Rattle.tmw_witness.specs.Witness.{Witnesses}

@@ -1,7 +1,6 @@
 -- What is kept of a history where its next event is taken at once.
-use Rattle.tmw_monitor.specs.Shared.{Criterion, Event, Rules}
+use Rattle.tmw_monitor.specs.Shared.{Bounds, Criterion, Event, Rules}
 use Rattle.std.specs.Prelude.{List, None, [], ◌++◌, ◌∷◌, ◌≡◌}
-use Rattle.tmw_monitor.specs.declared.bounds.Bounds.{Bounds}
 use Rattle.tmw_monitor.specs.declared.history_digest.HistoryDigest.{HistoryDigest}
 use Rattle.tmw_monitor.specs.Fits.{Keeps, TellsWrong}
 

@@ -2,7 +2,6 @@ ghost use Rattle.tmw_monitor.specs.Shared.{Begin, End, Event, IsNext, IsVerdict,
 ghost use Rattle.std.specs.Prelude.{IfOk, IsFalse, IsTrue, List, [], length, ◌++◌, ◌<◌, ◌^◌, ◌↔◌, ◌∷◌, ◌≡◌};
 ghost use Rattle.tmw_monitor.specs.declared.outcome_check.OutcomeCheck.TheVariants.{Outcome};
 
-use crate::bounds::Bounds;
 use crate::broken_rule::BrokenRule;
 use crate::monitor::Monitor;
 use crate::outcome_check::OutcomeCheck;
@@ -13,6 +12,7 @@ use std::alloc::{AllocError, Global};
 use tmw_cuts::{Move, State, States};
 use tmw_defs::{Criterion, Verdict};
 use tmw_events::{Event, Ix, Registers};
+use tmw_options::Bounds;
 
 /// Tells whether both criteria have found outcomes at a cut, and the same.
 fn closes_alike(

@@ -2,12 +2,12 @@ ghost use Rattle.tmw_monitor.specs.Shared.{IsVerdict, zeros};
 ghost use Rattle.std.specs.Prelude.{IfOk, length, ◌^◌, ◌≤◌};
 ghost use Rattle.tmw_monitor.specs.Fits.{rules_for, rules_of};
 
-use crate::bounds::Bounds;
 use crate::monitor::Monitor;
 use std::alloc::{AllocError, Global};
 use tmw_cuts::State;
 use tmw_defs::{Criterion, Verdict};
 use tmw_events::{Event, MOST_REGISTERS, Registers};
+use tmw_options::Bounds;
 
 /// Judges by opacity a history of at most 2^40 events whose registers all begin at 0.
 pub fn judge(

@@ -2,7 +2,6 @@
 #![tactic(auto)]
 
 mod both_monitor;
-mod bounds;
 mod broken_rule;
 mod history_digest;
 mod is_quiet;
@@ -16,8 +15,8 @@ mod take;
 mod take_at_once;
 
 pub use both_monitor::BothMonitor;
-pub use bounds::{BadBounds, Bounds};
 pub use broken_rule::BrokenRule;
 pub use judge_whole::{judge, judge_for, judge_from};
 pub use monitor::Monitor;
 pub use tmw_defs::{Criterion, Verdict, Why};
+pub use tmw_options::{BadBounds, Bounds};

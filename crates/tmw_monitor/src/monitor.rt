@@ -1,7 +1,6 @@
 ghost use Rattle.tmw_monitor.specs.Shared.{Event, IsVerdict, Opacity, Rules, is_cut, members, zeros};
 ghost use Rattle.std.specs.Prelude.{IfOk, IsTrue, List, Ok, [], length, ◌<◌, ◌^◌, ◌↔◌, ◌≡◌};
 
-use crate::bounds::Bounds;
 use crate::broken_rule::{BrokenRule, follow};
 use crate::history_digest::HistoryDigest;
 use crate::is_so_far::is_so_far;
@@ -11,6 +10,7 @@ use std::alloc::{AllocError, Global};
 use tmw_cuts::{State, States, Window};
 use tmw_defs::{Criterion, Verdict};
 use tmw_events::{Event, MOST_REGISTERS, Registers};
+use tmw_options::Bounds;
 use tmw_search::EndSet;
 use tmw_witness::Witness;
 

@@ -3,12 +3,12 @@ ghost use Rattle.std.specs.Prelude.{List, None, [], length, ◌++◌, ◌+◌, �
 ghost use Rattle.tmw_monitor.specs.BrokenRule.{TellsFollowed};
 ghost use Rattle.tmw_monitor.specs.Fits.{Keeps, TellsWrong};
 
-use crate::bounds::Bounds;
 use crate::broken_rule::{BrokenRule, follow};
 use crate::history_digest::HistoryDigest;
 use crate::take::take_event;
 use tmw_defs::{Criterion, Verdict, Why};
 use tmw_events::Event;
+use tmw_options::Bounds;
 
 /// Takes the next event, after which the history has length `at`, and returns the verdict if something is wrong with
 /// it. Nothing was wrong before it, so `broken` told no event. If nothing is, what is kept is then that of the longer history.

@@ -1,16 +1,15 @@
 //! The way that most events take: few steps, no search and no memory.
-ghost use Rattle.tmw_monitor.specs.Shared.{Answer, Begin, Criterion, End, IsNext};
+ghost use Rattle.tmw_monitor.specs.Shared.{Answer, Begin, Bounds, Criterion, End, IsNext};
 ghost use Rattle.std.specs.Prelude.{IsFalse, IsTrue, ◌≡◌};
 ghost use Rattle.tmw_events.specs.declared.event.Kind.TheVariants.{V};
 ghost use Rattle.tmw_defs.specs.declared.op.Op.TheVariants.{Add};
-ghost use Rattle.tmw_monitor.specs.declared.bounds.Bounds.{Bounds};
 ghost use Rattle.tmw_monitor.specs.TakeAtOnce.{StaysFine, StaysKept};
 
-use crate::bounds::Bounds;
 use crate::history_digest::HistoryDigest;
 use tmw_cuts::Move;
 use tmw_defs::Op;
 use tmw_events::{Event, Ix, Kind};
+use tmw_options::Bounds;
 use tmw_search::is_forced_with;
 
 /// Takes the next event if it begins a transaction for which the window has room, or if the serial order that is kept explains it: by no

@@ -1,6 +1,6 @@
 ghost use Rattle.std.specs.Prelude.{◌≤◌};
 
-use tmw_monitor::Bounds;
+use crate::bounds::Bounds;
 
 /// How threads run a workload, and how what they record is judged.
 #[derive(Clone, Copy, PartialEq, Eq, Debug)]

@@ -1,7 +1,7 @@
 ghost use Rattle.std.specs.Prelude.{◌≡◌, false};
 
+use crate::bounds::Bounds;
 use tmw_defs::Asked;
-use tmw_monitor::Bounds;
 
 /// What `judge` is to do.
 #[derive(Clone, Copy, PartialEq, Eq, Debug)]

@@ -1,6 +1,6 @@
+use crate::bounds::Bounds;
 use crate::form::Form;
 use tmw_defs::Criterion;
-use tmw_monitor::Bounds;
 
 /// What `show` is to do.
 #[derive(Clone, Copy, PartialEq, Eq, Debug)]

@@ -1,5 +1,5 @@
 -- What was counted of a judged front before and after one event more is judged.
-use Rattle.tmw_pump.proofs.Shared.{Criterion, Event, Fits, IsFalse, IsOpen, IsTrue, IsVerdict, List, Monitor, Rules, Verdict, WasCounted, [], ap, both_ways, cases_Bool, criterion_of, false, inl, inr, is_open, part_by, refl, so_far, subst, sym, true, verdict_of, ℕ, ∥∥₁_map, ◌++◌, ◌∙◌, ◌∷◌, ◌≡◌, arith, rules}
+use Rattle.tmw_pump.proofs.Shared.{Criterion, Event, Fits, IsFalse, IsOpen, IsTrue, IsVerdict, List, Monitor, Rules, Verdict, WasCounted, [], ap, arith, both_ways, cases_Bool, criterion_of, false, inl, inr, is_open, part_by, refl, rules, so_far, subst, sym, true, verdict_of, ℕ, ∥∥₁_map, ◌++◌, ◌∙◌, ◌∷◌, ◌≡◌}
 use Rattle.tmw_counts.specs.Counter.{CountsSo}
 use Rattle.tmw_counts.specs.declared.counter.Counter.{Counter}
 use Rattle.tmw_counts.proofs.CountedPart.{counted-more, part-none, stays}

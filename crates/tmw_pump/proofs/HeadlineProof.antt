@@ -1,5 +1,5 @@
 -- The headline, from the monitor's fit to the judged front.
-use Rattle.tmw_pump.proofs.Shared.{Event, Front, GivesHeadline, Headline, IsLogOf, IsVerdict, KeepsFit, List, Malformed, Opacity, OpaqueSoFar, Rules, States, Transactions, Undecided, Verdict, Violated, WriterIs, append_assoc, refl, subst, sym, ◌++◌, ◌∙◌, ◌≡◌, arith, rules}
+use Rattle.tmw_pump.proofs.Shared.{Event, Front, GivesHeadline, Headline, IsLogOf, IsVerdict, KeepsFit, List, Malformed, Opacity, OpaqueSoFar, Rules, States, Transactions, Undecided, Verdict, Violated, WriterIs, append_assoc, arith, refl, rules, subst, sym, ◌++◌, ◌∙◌, ◌≡◌}
 use Rattle.tmw_pump.proofs.Verdicts.{opaque-fine, fine-opaque, violation-first, first-violation, verdict-is}
 
 -- A log that begins with what was judged and what is left begins with what was judged.

@@ -1,5 +1,6 @@
 -- What a call has done, turn by turn: each turn judges one event more.
-use Rattle.tmw_pump.proofs.Shared.{Event, Front, HasJudged, HasPumped, HasRested, HasTaken, HasTakenAll, IsRested, KeepsFit, List, PumpIs, ReaderIs, RestIs, [], all_of, append-nil, append_assoc, arith, length, length-append, length_push, refl, subst, sym, ℕ, ◌++◌, ◌+◌, ◌<◌, ◌^◌, ◌∷◌, ◌≡◌, ◌≤◌}
+use Rattle.tmw_pump.proofs.Shared.{Event, Front, HasJudged, HasPumped, HasRested, HasTakenAll, IsRested, KeepsFit, List, PumpIs, ReaderIs, RestIs, [], all_of, append-nil, append_assoc, arith, length, length-append, length_push, refl, subst, sym, ℕ, ◌++◌, ◌+◌, ◌<◌, ◌^◌, ◌∷◌, ◌≡◌, ◌≤◌}
+use Rattle.tmw_ring.specs.Take.{HasTaken}
 use Rattle.tmw_pump.specs.declared.pumped.Pumped.{Pumped}
 
 pub taken-append : (one two three : ReaderIs) (first second : List Event) → HasTakenAll one first two → HasTakenAll two second three

@@ -1,5 +1,6 @@
 -- What each verdict says of a history in the field's words, from the definition of the verdict.
-use Rattle.tmw_pump.proofs.Shared.{Criterion, Event, HasMany, IsFinalBy, IsFirst, IsFirstViolation, IsTooMany, IsVerdict, IsViolated, IsWithinBounds, List, Opacity, OpaqueSoFar, Rules, States, Undecided, Verdict, Violated, arith, cases_lt, inl, inr, length, subst, sym, verdict-one, ℕ, ◌↔◌, ◌≡◌, rules}
+use Rattle.tmw_pump.proofs.Shared.{Criterion, Event, HasMany, IsFinalBy, IsFirst, IsFirstViolation, IsTooMany, IsVerdict, IsViolated, IsWithinBounds, List, Opacity, OpaqueSoFar, Rules, States, Undecided, Verdict, Violated, arith, cases_lt, inl, inr, length, rules, subst, sym, ℕ, ◌↔◌, ◌≡◌}
+use Rattle.tmw_defs.proofs.VerdictProof.{verdict-one}
 use Rattle.std.specs.Prelude.{take}
 use Rattle.tmw_defs.specs.Opaque.{IsFinalOpaque, IsOpaque}
 

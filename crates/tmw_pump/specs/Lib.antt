@@ -5,4 +5,3 @@ pub mod Pump
 pub mod Rest
 mod Shared
 pub mod WasFed
-pub mod WriterKinds

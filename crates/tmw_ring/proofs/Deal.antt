@@ -1,5 +1,5 @@
 -- The parts of a new ring are dealt to its writers, one after another.
-use Rattle.tmw_ring.proofs.Shared.{AreNewWriters, IsIdleWriter, IsNewWriter, IsWriter, Ix, List, Me, Parts, Reads, RingIs, RingSize, TableId, WriterIs, WriterOf, WriterPart, Writes, [], ap, arith, get_or, inl, inr, ix_of, length, new_reader, new_writer, new_writers, refl, second_alone, subst, suc, sym, without_second, writer_in, writer_is, zero, ℕ, ◌++◌, ◌+◌, ◌-◌, ◌<◌, ◌∙◌, ◌∷◌, ◌≡◌, ◌⊎◌}
+use Rattle.tmw_ring.proofs.Shared.{AreNewWriters, IsIdleWriter, IsNewWriter, IsWriter, Ix, List, Me, Parts, Reads, RingIs, RingSize, TableId, WriterIs, WriterOf, WriterPart, Writes, [], ap, arith, get_or, inl, inr, ix_of, length, new_reader, new_writer, new_writers, refl, second_alone, subst, suc, sym, without_second, writer_in, writer_is, zero, ℕ, ◌++◌, ◌+◌, ◌-◌, ◌<◌, ◌∷◌, ◌≡◌, ◌⊎◌}
 use Rattle.tmw_events.proofs.Same.{same_ix}
 
 -- the parts that are left when the writers below this number have theirs

@@ -54,6 +54,7 @@ pub use Rattle.tmw_ring.specs.Settle.{AreInOrder, HasEvent, IsSettled, event_at,
 pub use Rattle.tmw_ring.specs.TableWords.{apart, cell_words, crossed, front_word, stamp_word, standing, tail_word, value_word, whole, word_count, words_of}
 pub use Rattle.tmw_ring.specs.Take.{HasFoundNone, HasTaken, IsReadyReader, IsToldEvent, IsToldReader, PlaceFreed, ReaderMade, StampSeen, ValueRead, after_free, after_look, after_read, freeing, next_event, peeking, phase_after, phase_with, reading}
 pub use Rattle.tmw_ring.specs.WriterSteps.{HasClaimed, HasFilled, HasPublished, HasSeenFront, HasSeenTail, IsSeatOf, WriterMade, claimed, claiming, done, filling, front_in, front_look, front_seen, place_in, publishing, tail_look, tail_seen, value_filled}
+pub use Rattle.tmw_ring.specs.declared.seat_part.Made.{Made}
 pub use Rattle.tmw_ring.specs.declared.seat_part.Part.{Part}
 pub use Rattle.tmw_ring.specs.declared.seat_part.Part.TheVariants.{Reads, Writes}
 pub use Rattle.tmw_ring.specs.declared.seat_part.ReaderPart.{ReaderPart}

@@ -1,7 +1,6 @@
 -- A writer may claim a place.
-use Rattle.tmw_ring.proofs.Shared.{Allows, Answered, Cleared, Core, Event, FitsKind, HasClaimed, IsIn, IsReal, IsRecorded, IsSeatOf, Ix, Kind, List, Me, Parts, Place, RingSize, Shown, Some, Sound, WriterFits, WriterMade, WriterPart, WriterPhase, Writes, [], ap, arith, claimed, claiming, cleared, event_of, keeps, length, made_at, made_from, ne_eqb, refl, set, slice_get, slice_get_within, slice_index, subst, suc, sym, words_of, writer_actor, writer_in, zero, ℕ, ◌%◌, ◌++◌, ◌+◌, ◌<◌, ◌∙◌, ◌∷◌, ◌≡◌, ◌≢◌, ◌≤◌}
+use Rattle.tmw_ring.proofs.Shared.{Allows, Answered, Cleared, Core, Event, FitsKind, HasClaimed, IsIn, IsReal, IsRecorded, IsSeatOf, Ix, Kind, List, Made, Me, Parts, Place, RingSize, Shown, Some, Sound, WriterFits, WriterMade, WriterPart, WriterPhase, Writes, [], ap, arith, claimed, claiming, cleared, event_of, keeps, length, made_at, made_from, ne_eqb, refl, set, slice_get, slice_get_within, slice_index, subst, suc, sym, words_of, writer_actor, writer_in, zero, ℕ, ◌%◌, ◌++◌, ◌+◌, ◌<◌, ◌∙◌, ◌∷◌, ◌≡◌, ◌≢◌, ◌≤◌}
 use Rattle.tmw_ring_defs.proofs.RingClaims.{with_claim, claim_keeps}
-use Rattle.tmw_ring.specs.declared.seat_part.Made.{Made}
 use Rattle.tmw_ring.proofs.Moves.{Makes}
 use Rattle.tmw_ring.proofs.WriterSteps.{Goes, writer_fits, writer_moves, writer_made}
 

@@ -11,4 +11,5 @@ mod Shared
 pub mod TableChangeLaws
 pub mod TableWords
 pub mod Take
+pub mod WriterKinds
 pub mod WriterSteps

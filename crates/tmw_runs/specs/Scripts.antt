@@ -1,6 +1,6 @@
 -- A thread's script: for each of its transactions the calls that it makes.
 use Rattle.tmw_runs.specs.Shared.{Kind, N, R, T, W, X}
-use Rattle.std.specs.Prelude.{Bool, List, [], false, map, nat_lt, true, ℕ, ◌&&◌, ◌∷◌}
+use Rattle.std.specs.Prelude.{Bool, List, [], false, get_or, map, nat_lt, true, ℕ, ◌&&◌, ◌∷◌}
 use Rattle.std.specs.Global.{Vec}
 use Rattle.std.specs.List.{list_all}
 
@@ -34,3 +34,7 @@ script_of script = map (λ calls. calls.items) script.items
 -- The scripts of all threads.
 abbrev pub scripts_of : List (Vec (Vec Kind)) → List (List (List Kind))
 scripts_of scripts = map script_of scripts
+
+-- The script of this thread. A thread without a script has nothing to do.
+abbrev pub script_at : List (List (List Kind)) → ℕ → List (List Kind)
+script_at scripts thread = get_or scripts thread []

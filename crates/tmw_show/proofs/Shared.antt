@@ -1,6 +1,5 @@
 -- What the proofs of this crate take from the libraries, from the crates below and from its specs.
 pub use Rattle.std.proofs.Common.{All, Bool, Err, IsTrue, List, Ok, Result, [], ap, append-nil, append_assoc, arith, codes, drop, false, inl, inr, length, map, max, refl, rules, subst, sym, take-append-drop, true, ℕ, ◌++◌, ◌+◌, ◌-◌, ◌<◌, ◌==◌, ◌^◌, ◌∙◌, ◌∷◌, ◌≡◌, ◌≢◌, ◌≤◌}
-pub use Rattle.std.proofs.lemmas.List.{length-drop, length-take, replicate-append-replicate}
 pub use Rattle.std.specs.List.{AllByRecursion, Contains, flat_map, list_all}
 pub use Rattle.std.specs.Prelude.{IfErr, IfOk, get_or, take}
 pub use Rattle.tmw_cuts.specs.Members.{members}
@@ -16,7 +15,7 @@ pub use Rattle.tmw_events.specs.Text.{FitsKind}
 pub use Rattle.tmw_events.specs.declared.event.Event.{Event}
 pub use Rattle.tmw_events.specs.declared.registers.Registers.{Registers}
 pub use Rattle.tmw_monitor.specs.Fits.{rules_for}
-pub use Rattle.tmw_monitor.specs.declared.bounds.Bounds.{Bounds}
+pub use Rattle.tmw_options.specs.declared.bounds.Bounds.{Bounds}
 pub use Rattle.tmw_options.specs.declared.show_options.ShowOptions.{ShowOptions}
 pub use Rattle.tmw_part.specs.FindPart.{FindsPart, IsMinimalPart, IsSearched}
 pub use Rattle.tmw_report.specs.declared.fault.Fault.TheVariants.{Memory}
@@ -28,12 +27,11 @@ pub use Rattle.tmw_window.specs.ShownWindow.{IsShowing}
 pub use Rattle.tmw_window.specs.StatesLaw.{FitsRegisters, StatesLaw}
 pub use Rattle.tmw_window.specs.WindowLaw.{IsJudgedAlike, WindowLaw, at_end}
 pub use Rattle.tmw_window.specs.declared.shown_window.ShownWindow.{ShownWindow}
-pub use Rattle.tmw_show.specs.Drawing.{blanks, last_thread, rows_text}
+pub use Rattle.tmw_show.specs.Drawing.{last_thread, rows_text}
 pub use Rattle.tmw_show.specs.NeededEvents.{IsNeededOf, IsShownFor, IsViolation, marks_of, reason_of}
 pub use Rattle.tmw_show.specs.RunShow.{AnswersShow, IsShownOf, shown_events}
 pub use Rattle.tmw_show.specs.Sentences.{case_text, derivation_text}
 pub use Rattle.tmw_show.specs.TracesLaw.{AreJudgedLike, IsContradictory, IsHeaderFor, TellOf, TracesLaw, rules_from}
-pub use Rattle.tmw_show.specs.ValueNames.{long_values, names_from, values_after}
 pub use Rattle.tmw_show.specs.declared.needed_events.NeededEvents.{NeededEvents}
 pub use Rattle.tmw_show.specs.declared.needed_events.NeededEvents.TheVariants.{NotViolated, Part, Unasked}
 pub use Rattle.tmw_show.specs.declared.shown_trace.ShownTrace.{ShownTrace}

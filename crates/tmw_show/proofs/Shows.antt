@@ -1,5 +1,6 @@
 -- The events that are shown of a trace are numbered up to the trace's length.
-use Rattle.tmw_show.proofs.Shared.{Event, IsShown, IsShownOf, List, Rules, ShowOptions, ShownTrace, State, Verdict, ap, arith, length, length-drop, length-take, shown_length, take, ℕ, ◌+◌, ◌-◌, ◌^◌, ◌∙◌, ◌≤◌}
+use Rattle.tmw_show.proofs.Shared.{Event, IsShown, IsShownOf, List, Rules, ShowOptions, ShownTrace, State, Verdict, ap, arith, length, shown_length, take, ℕ, ◌+◌, ◌-◌, ◌^◌, ◌∙◌, ◌≤◌}
+use Rattle.std.proofs.lemmas.List.{length-drop, length-take}
 
 -- the window ends within the history
 numbered : (rules : Rules) (history : List Event) (v : Verdict) (from : ℕ) (states : List State) (events : List Event)

@@ -1,6 +1,6 @@
 -- What is written of the states from which a window begins is the texts of traces, one for each state.
 use Rattle.tmw_show.proofs.Shared.{All, AllByRecursion, Event, FitsKind, FitsRegisters, Header, IsHeaderFor, List, Registers, State, Two, [], ap, flat_map, length, map, refl, trace_text, ℕ, ◌++◌, ◌^◌, ◌∷◌, ◌≡◌, ◌≤◌}
-use Rattle.tmw_show.specs.TracesText.{start_trace}
+use Rattle.tmw_texts.specs.TracesText.{start_trace}
 
 -- the header of a trace that begins with this state
 abbrev pub header_of : (registers : Registers) (state : State) → FitsRegisters registers.number state → Header

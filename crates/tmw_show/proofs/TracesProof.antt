@@ -1,5 +1,5 @@
 -- The traces that are written of what is shown are judged as the run is.
-use Rattle.tmw_show.proofs.Shared.{All, AllByRecursion, AreJudgedLike, Bool, Bounds, Contains, Criterion, Event, FindsPart, FitsKind, FitsRegisters, HasOrderBy, Header, IsContradictory, IsFinalBy, IsHeaderFor, IsJudgedAlike, IsNeededOf, IsShowing, IsVerdict, IsViolated, List, NeededEvents, One, Opacity, Part, Registers, ShownTrace, State, StatesLaw, Strict, TellOf, TracesLaw, Two, Verdict, WindowLaw, [], ap, arith, at_end, drop, false, get_or, inl, inr, length, list_all, map, marks_of, members, refl, rules_for, rules_from, shown_events, shown_length, subst, sym, take, take-append-drop, transactions, true, ℕ, ◌==◌, ◌^◌, ◌∙◌, ◌∷◌, ◌≡◌, ◌≢◌, ◌≤◌}
+use Rattle.tmw_show.proofs.Shared.{All, AllByRecursion, AreJudgedLike, Bool, Bounds, Contains, Criterion, Event, FindsPart, FitsKind, FitsRegisters, HasOrderBy, Header, IsContradictory, IsFinalBy, IsHeaderFor, IsJudgedAlike, IsNeededOf, IsShowing, IsVerdict, IsViolated, List, NeededEvents, One, Opacity, Part, Registers, ShownTrace, State, StatesLaw, Strict, TellOf, TracesLaw, Two, Verdict, WindowLaw, [], ap, arith, at_end, drop, false, get_or, length, list_all, map, marks_of, members, refl, rules_for, rules_from, shown_events, shown_length, subst, sym, take, take-append-drop, transactions, true, ℕ, ◌==◌, ◌^◌, ◌∙◌, ◌∷◌, ◌≡◌, ◌≢◌, ◌≤◌}
 use Rattle.tmw_trace.specs.declared.version.Version.{Version}
 use Rattle.std.proofs.lemmas.Bool.{and_parts}
 use Rattle.std.proofs.lemmas.List.Elements.{All-contains, All-drop, All-from_recursion, All-take, Contains-get_or, recursion_from_All}

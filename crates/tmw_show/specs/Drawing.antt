@@ -1,27 +1,14 @@
 -- How a window is drawn: the states from which it begins, and its events in a column for each thread. Numbers are decimal, without
 -- sign and without leading zeros.
-use Rattle.tmw_show.specs.Shared.{BrokenRule, Criterion, Event, Malformed, Name, Opacity, OpaqueSoFar, Registers, State, Strict, StrictSoFar, Undecided, Verdict, Violated, decimal, flat_map, kept_of, line, values_text}
-use Rattle.std.specs.Prelude.{Bool, List, None, Option, Some, [], codes, false, if◌then◌else◌, length, max, option_map, replicate, take, true, ℕ, ◌*◌, ◌++◌, ◌+◌, ◌-◌, ◌==◌, ◌∷◌}
+use Rattle.tmw_show.specs.Shared.{BrokenRule, Criterion, Event, Malformed, Opacity, OpaqueSoFar, Strict, StrictSoFar, Undecided, Verdict, Violated, blanks, decimal, kept_of, label_at, line, long_values, names_from, shown_kind}
+use Rattle.tmw_kept.specs.declared.name_in_window.Name.{Name}
+use Rattle.std.specs.Prelude.{Bool, List, None, Option, Some, [], codes, false, if◌then◌else◌, length, max, option_map, take, true, ℕ, ◌*◌, ◌++◌, ◌+◌, ◌-◌, ◌==◌, ◌∷◌}
 use Rattle.tmw_defs.specs.declared.verdict.Why.{Why}
 use Rattle.tmw_defs.specs.declared.verdict.Why.TheVariants.{Transactions, States}
 use Rattle.tmw_wellformed.specs.declared.malformed.Malformed.TheVariants.{Register, Busy, Idle, Mismatch}
 use Rattle.tmw_kept.specs.NameInWindow.{names_of}
-use Rattle.tmw_show.specs.TransactionNames.{label_at}
-use Rattle.tmw_show.specs.ValueNames.{long_values, names_from, shown_kind}
 use Rattle.tmw_show.specs.declared.run_verdict.RunVerdict.{RunVerdict}
 use Rattle.tmw_wellformed.specs.declared.malformed.Malformed.{Malformed as Fault}
-
--- so many blanks
-abbrev pub blanks : ℕ → List ℕ
-blanks count = replicate count 32
-
--- what the run's registers hold, each value after one space
-abbrev pub state_text : Registers → State → List ℕ
-state_text registers state = codes "    state " ++ values_text (take registers.number state)
-
--- a line for each state
-abbrev pub states_text : Registers → List State → List ℕ
-states_text registers states = flat_map (λ state. line (state_text registers state)) states
 
 -- the greatest number of a thread that has one of these events, or 0
 abbrev pub last_thread : List Event → ℕ

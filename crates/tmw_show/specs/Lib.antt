@@ -6,7 +6,4 @@ pub mod SentenceParts
 pub mod Sentences
 mod Shared
 pub mod TracesLaw
-pub mod TracesText
-pub mod TransactionNames
-pub mod ValueNames
 pub mod WhyLaw

@@ -1,7 +1,8 @@
 -- The page that draws a window: a constant head, what is shown as one JSON object, and a constant tail. Of a trace the object has digits,
 -- the letters of events and blanks alone, within strings, and numbers.
-use Rattle.tmw_show.specs.Shared.{Criterion, Event, Opacity, Reason, Registers, State, Strict, decimal, event_text, flat_map, members, report_by, values_text}
-use Rattle.std.specs.Prelude.{Bool, List, None, Option, Some, [], codes, drop, false, take, true, ℕ, ◌++◌, ◌+◌, ◌∷◌}
+use Rattle.tmw_show.specs.Shared.{Criterion, Event, Opacity, Reason, Registers, State, Strict, decimal, flat_map, list_json, members, report_by, values_text}
+use Rattle.tmw_events.specs.Text.{event_text}
+use Rattle.std.specs.Prelude.{Bool, List, None, Option, Some, [], codes, false, take, true, ℕ, ◌++◌, ◌+◌, ◌∷◌}
 use Rattle.tmw_show.specs.Drawing.{marked_at, wrong_text}
 use Rattle.tmw_show.specs.declared.page.constants.TheConstants.{HEAD, TAIL}
 use Rattle.tmw_show.specs.declared.needed_events.NeededEvents.{NeededEvents}
@@ -19,10 +20,6 @@ state_json registers state = codes ",\"" ++ (values_text (take registers.number 
 -- an event as a string behind a comma: its line in a trace
 abbrev pub event_json : Event → List ℕ
 event_json event = codes ",\"" ++ (event_text event ++ 34 ∷ [])
-
--- such items as a list, without the first comma
-abbrev pub list_json : {I : Type 0} → (I → List ℕ) → List I → List ℕ
-list_json item_json items = drop 1 (flat_map item_json items)
 
 -- both lists
 abbrev pub window_json : Registers → List State → List Event → List ℕ

@@ -1,5 +1,5 @@
 -- What `show` promises: from the bytes that its source tells to what its sink takes and the exit status.
-use Rattle.tmw_show.specs.Shared.{AnswersTextFault, AreEvents, BrokenRule, Criterion, Drawing, Event, Header, IsRemarkedRun, Malformed, Page, RemarksTrace, ShowOptions, Traces, Verdict, kept_of, members, report_by, rules_for, trace_grammar, trace_text, verdict_status}
+use Rattle.tmw_show.specs.Shared.{AnswersTextFault, AreEvents, BrokenRule, Criterion, Drawing, Event, Header, IsRemarkedRun, Malformed, Page, RemarksTrace, ShowOptions, Traces, Verdict, kept_of, long_values, members, report_by, rules_for, states_text, trace_grammar, trace_text, traces_text, verdict_status}
 use Rattle.std.specs.Prelude.{Err, List, None, Ok, Option, Result, Some, ℕ, ◌++◌, ◌+◌, ◌≡◌}
 use Rattle.tmw_lines.specs.TextFault.{HasTextFault}
 use Rattle.tmw_report.specs.declared.fault.Fault.{Fault}
@@ -8,13 +8,11 @@ use Rattle.tmw_streams.specs.Streams.{FromSource, ToSink}
 use Rattle.tmw_window.specs.ShownWindow.{IsShowing}
 use Rattle.tmw_options.specs.declared.form.Form.{Form}
 use Rattle.tmw_show.specs.declared.shown_trace.ShownTrace.{ShownTrace}
-use Rattle.tmw_show.specs.Drawing.{states_text, window_text}
+use Rattle.tmw_show.specs.Drawing.{window_text}
 use Rattle.tmw_show.specs.NeededEvents.{IsNeededOf, marks_of, needed_text, reason_of}
 use Rattle.tmw_show.specs.Page.{page_text, told_of}
 use Rattle.tmw_show.specs.Sentences.{found_text}
 use Rattle.tmw_show.specs.declared.frame.Frame.TheVariants.{Line}
-use Rattle.tmw_show.specs.TracesText.{traces_text}
-use Rattle.tmw_show.specs.ValueNames.{long_values}
 use Rattle.tmw_report.specs.declared.remark.Remark.TheVariants.{Broken as IsBroken}
 
 -- The bytes are the text of a trace, and this is what is shown of its history.

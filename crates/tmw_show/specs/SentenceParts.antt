@@ -1,8 +1,6 @@
 -- What the sentences on a violation are made of. Values that are among some have names.
-use Rattle.tmw_show.specs.Shared.{ValueSource, decimal}
+use Rattle.tmw_show.specs.Shared.{ValueSource, decimal, name_text, value_text}
 use Rattle.std.specs.Prelude.{List, None, Option, Some, codes, ℕ, ◌++◌}
-use Rattle.tmw_show.specs.TransactionNames.{name_text}
-use Rattle.tmw_show.specs.ValueNames.{value_text}
 
 -- who read which value from which register
 abbrev pub read_text : List ℕ → ValueSource → List ℕ

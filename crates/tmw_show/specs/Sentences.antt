@@ -1,11 +1,11 @@
 -- The sentences that tell why a window is violated. Values that are among some have names.
-use Rattle.tmw_show.specs.Shared.{Event, Reason, State, ValueSource, decimal, flat_map, line, list_any}
+use Rattle.tmw_show.specs.Shared.{Event, Reason, State, ValueSource, decimal, flat_map, line, list_any, name_text, value_text}
 use Rattle.std.specs.Prelude.{Bool, List, None, Option, Some, [], codes, drop, false, if◌then◌else◌, length, min, nat_lt, not, slice_index, take, true, ℕ, ◌&&◌, ◌++◌, ◌+◌, ◌==◌, ◌∷◌}
 use Rattle.tmw_events.specs.declared.ix.Ix.{Ix}
 use Rattle.tmw_reason.specs.Origins.{origin_of, stays}
 use Rattle.tmw_reason.specs.declared.origin.Fate.{Fate}
 use Rattle.tmw_reason.specs.declared.origin.Fate.TheVariants.{GivenUp, GivingUp, Unasked, Overwritten, Stays}
-use Rattle.tmw_reason.specs.declared.reason_step.ReasonStep.TheVariants.{RealTime, From, TooLate, Overwritten, ReadFirst, ChangedFirst, Through}
+use Rattle.tmw_reason.specs.declared.reason_step.ReasonStep.TheVariants.{RealTime, From, TooLate, ReadFirst, ChangedFirst, Through}
 use Rattle.tmw_reason.specs.declared.origin.Origin.{Origin}
 use Rattle.tmw_reason.specs.declared.reason_case.Derivation.{Derivation}
 use Rattle.tmw_reason.specs.declared.reason_case.ReasonCase.{ReasonCase}
@@ -15,8 +15,7 @@ use Rattle.tmw_reason.specs.declared.reason_step.ReasonStep.{ReasonStep}
 use Rattle.tmw_show.specs.declared.frame.Frame.{Frame}
 use Rattle.tmw_show.specs.declared.frame.Frame.TheVariants.{Line, Clause}
 use Rattle.tmw_show.specs.SentenceParts.{before_text, left_text, read_text, writer_text}
-use Rattle.tmw_show.specs.TransactionNames.{name_text}
-use Rattle.tmw_show.specs.ValueNames.{value_text}
+use Rattle.tmw_reason.specs.declared.reason_step.ReasonStep.TheVariants.{Overwritten}
 
 -- who left a value that was read, if it did not stand there from the start
 abbrev pub source_text : List ℕ → ValueSource → Option ℕ → List ℕ

@@ -7,11 +7,9 @@ pub use Rattle.tmw_defs.specs.declared.criterion.Criterion.{Criterion}
 pub use Rattle.tmw_defs.specs.declared.criterion.Criterion.TheVariants.{Opacity, Strict}
 pub use Rattle.tmw_defs.specs.declared.verdict.Verdict.{Verdict}
 pub use Rattle.tmw_defs.specs.declared.verdict.Verdict.TheVariants.{Malformed, OpaqueSoFar, StrictSoFar, Undecided, Violated}
-pub use Rattle.tmw_events.specs.Text.{event_text, kind_text}
 pub use Rattle.tmw_events.specs.declared.event.Event.{Event}
 pub use Rattle.tmw_events.specs.declared.registers.Registers.{Registers}
 pub use Rattle.tmw_kept.specs.KeptEvents.{all_kept, kept_of}
-pub use Rattle.tmw_kept.specs.declared.name_in_window.Name.{Name}
 pub use Rattle.tmw_lines.specs.LineFeeds.{line}
 pub use Rattle.tmw_monitor.specs.Fits.{rules_for}
 pub use Rattle.tmw_monitor.specs.declared.broken_rule.BrokenRule.{BrokenRule}
@@ -25,6 +23,9 @@ pub use Rattle.tmw_report.specs.Lines.{fault_line, report_by, verdict_status}
 pub use Rattle.tmw_report.specs.Quote.{RemarksFault, RemarksTrace}
 pub use Rattle.tmw_report.specs.Remark.{IsRemarkedRun, Remarks}
 pub use Rattle.tmw_report.specs.declared.fault.Fault.TheVariants.{Memory}
-pub use Rattle.tmw_streams.specs.Memory.{held_bytes}
+pub use Rattle.tmw_texts.specs.ItemTexts.{blanks, list_json, states_text}
+pub use Rattle.tmw_texts.specs.TracesText.{traces_text}
+pub use Rattle.tmw_texts.specs.TransactionNames.{label_at, name_text}
+pub use Rattle.tmw_texts.specs.ValueNames.{long_values, names_from, shown_kind, value_text}
 pub use Rattle.tmw_trace.specs.Text.{AreEvents, trace_grammar, trace_text, values_text}
 pub use Rattle.tmw_trace.specs.declared.header.Header.{Header}

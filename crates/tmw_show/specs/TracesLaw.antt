@@ -6,7 +6,7 @@ use Rattle.tmw_trace.specs.declared.version.Version.TheVariants.{Two}
 use Rattle.tmw_defs.specs.Criteria.{IsFinalBy}
 use Rattle.tmw_defs.specs.History.{is_well_formed}
 use Rattle.tmw_defs.specs.Verdict.{Rules, IsViolated, IsVerdict}
-use Rattle.tmw_monitor.specs.declared.bounds.Bounds.{Bounds}
+use Rattle.tmw_options.specs.declared.bounds.Bounds.{Bounds}
 use Rattle.tmw_window.specs.WindowLaw.{at_end}
 use Rattle.tmw_show.specs.declared.needed_events.NeededEvents.{NeededEvents}
 use Rattle.tmw_show.specs.declared.needed_events.NeededEvents.TheVariants.{Part}

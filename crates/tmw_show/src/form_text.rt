@@ -1,27 +1,23 @@
-ghost use Rattle.tmw_show.specs.Shared.{members};
+ghost use Rattle.tmw_show.specs.Shared.{members, traces_text};
 ghost use Rattle.std.specs.Prelude.{IfOk, OnOk, length, ◌++◌, ◌+◌, ◌<◌, ◌^◌, ◌≡◌};
 ghost use Rattle.tmw_show.specs.RunShow.{drawn_text, shown_events, shown_text};
 ghost use Rattle.tmw_show.specs.NeededEvents.{reason_of};
 ghost use Rattle.tmw_show.specs.Sentences.{found_text};
 ghost use Rattle.tmw_show.specs.declared.frame.Frame.TheVariants.{Line};
-ghost use Rattle.tmw_show.specs.TracesText.{traces_text};
 
 use crate::frame::Frame;
-use crate::item_text::push_each;
 use crate::needed_events::{NeededEvents, marks_of, push_needed};
 use crate::page::page_text;
 use crate::run_verdict::RunVerdict;
 use crate::sentences::push_reason;
 use crate::shown_trace::ShownTrace;
-use crate::state_line::StateLine;
-use crate::traces::push_traces;
-use crate::value_names::long_values;
 use crate::window_text::push_window;
 use std::alloc::{AllocError, Global};
 use tmw_defs::Criterion;
 use tmw_kept::kept_of;
 use tmw_options::Form;
 use tmw_report::report_by;
+use tmw_texts::{StateLine, long_values, push_each, push_traces};
 
 /// Makes the text of what is shown by this criterion, in this form, of a trace before which so many events of the run
 /// come. It fails only after a failed allocation.

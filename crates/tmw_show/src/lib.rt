@@ -2,14 +2,10 @@
 //! columns, as traces of its own, or drawn by a page of HTML.
 #![tactic(auto)]
 
-mod event_text;
 mod form_text;
 mod frame;
-mod item_text;
 mod laws;
-mod legend;
 mod needed_events;
-mod numbers;
 mod origin_sentence;
 mod page;
 mod run_verdict;
@@ -19,10 +15,6 @@ mod show_answer;
 mod show_command;
 mod show_trace;
 mod shown_trace;
-mod state_line;
-mod traces;
-mod transaction_names;
-mod value_names;
 mod window_text;
 
 pub use form_text::shown_text;

@@ -3,12 +3,11 @@ ghost use Rattle.tmw_show.specs.Shared.{members};
 ghost use Rattle.std.specs.Prelude.{IfOk, IfSome, length, string_bytes, ◌+◌, ◌<◌, ◌^◌, ◌≡◌};
 ghost use Rattle.tmw_show.specs.Sentences.{coming_text, fate_text, may_count, origin_text, stands_in, start_text, told_by};
 
-use crate::transaction_names::TransactionName;
-use crate::value_names::Value;
 use std::alloc::{AllocError, Global};
 use tmw_cuts::State;
 use tmw_events::Ix;
 use tmw_reason::{Contradiction, Fate, Origin, find_origin};
+use tmw_texts::{TransactionName, Value};
 use tmw_window::ShownWindow;
 
 /// What became of what a transaction put there.

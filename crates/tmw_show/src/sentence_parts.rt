@@ -2,10 +2,9 @@
 ghost use Rattle.std.specs.Prelude.{Some};
 ghost use Rattle.tmw_show.specs.SentenceParts.{before_text, left_text, read_text, writer_text};
 
-use crate::transaction_names::TransactionName;
-use crate::value_names::Value;
 use std::fmt;
 use tmw_reason::ValueSource;
+use tmw_texts::{TransactionName, Value};
 
 /// Prints who read which value from which register. These values have names.
 #[derive(Clone, Copy)]

@@ -4,13 +4,11 @@ ghost use Rattle.std.specs.Prelude.{IfOk, OnOk, length, string_bytes, ◌++◌, 
 ghost use Rattle.tmw_show.specs.Sentences.{assumption_text, case_text, changed_first_text, derivation_text, end_text, ending_text, framed, header_text, read_first_text, reason_text, source_text, state_item, step_text, steps_text, told_text};
 
 use crate::frame::Frame;
-use crate::item_text::{ItemText, push_each, push_list};
 use crate::origin_sentence::told_by;
 use crate::sentence_parts::{Before, Left, Read, Writer};
-use crate::transaction_names::TransactionName;
-use crate::value_names::Value;
 use std::alloc::{AllocError, Global};
 use tmw_reason::{Contradiction, Derivation, Reason, ReasonCase, ReasonStep, ValueSource};
+use tmw_texts::{ItemText, TransactionName, Value, push_each, push_list};
 use tmw_window::ShownWindow;
 
 /// Adds the sentences of the reason why a window is violated before which so many events stand. If it has several cases,

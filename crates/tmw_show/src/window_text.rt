@@ -2,15 +2,12 @@ ghost use Rattle.tmw_show.specs.Shared.{line};
 ghost use Rattle.std.specs.Prelude.{OnOk, length, ◌++◌, ◌+◌, ◌<◌, ◌^◌, ◌≡◌};
 ghost use Rattle.tmw_show.specs.Drawing.{beside, event_row, heads_text, last_thread, rows_text, told_row, window_text};
 
-use crate::legend::Legend;
-use crate::numbers::push_blanks;
 use crate::run_verdict::{RunVerdict, told_text};
-use crate::transaction_names::push_label;
-use crate::value_names::{long_values, push_names, push_shown};
 use itoa::Buffer;
 use std::alloc::AllocError;
 use tmw_events::Event;
 use tmw_kept::{kept_of, names_of};
+use tmw_texts::{Legend, long_values, push_blanks, push_label, push_names, push_shown};
 
 /// The heads of eight columns.
 const ALL_HEADS: &[u8] =

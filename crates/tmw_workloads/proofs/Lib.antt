@@ -3,3 +3,4 @@ mod Rules
 mod Shared
 mod Transactions
 mod Values
+pub mod Workloads

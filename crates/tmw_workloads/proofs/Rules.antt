@@ -1,7 +1,6 @@
 -- The rules of a part, by those of its parts.
-use Rattle.tmw_workloads.proofs.Shared.{All, AreScripts, Bool, FitsKind, IsOrder, IsScript, IsTransaction, IsTrue, Kind, List, and_from, and_parts, arith, le-leb, length, list_all, lt-ltb, ltb-true, nat_lt, ℕ, ◌<◌, ◌≤◌}
+use Rattle.tmw_workloads.proofs.Shared.{All, AreScripts, Bool, FitsKind, IsOrder, IsScript, IsTransaction, IsTrue, Kind, List, and_from, and_parts, arith, is_short_script, is_short_transaction, is_workload, le-leb, length, list_all, lt-ltb, ltb-true, nat_lt, ℕ, ◌<◌, ◌≤◌}
 use Rattle.std.proofs.lemmas.List.Sums.{AllPass-from_list_all, list_all-from_AllPass}
-use Rattle.tmw_workloads.specs.Workload.{is_short_script, is_short_transaction, is_workload}
 
 -- what a test and a fact say of each element
 all_from_each : {A : Type 0} (test : A → Bool) (P : A → Type 0) (xs : List A) → All (λ x. IsTrue (test x) × P x) xs

@@ -1,4 +1,4 @@
-use crate::drive::DriveRun;
+use tmw_drive_command::DriveRun;
 
 /// What threads have made of a workload, with the header under which their log is written.
 #[derive(Debug, Drop)]

@@ -1,19 +1,19 @@
-ghost use Rattle.tmw_command.specs.Shared.{IsNeededOf, Memory, Opacity, Tells, failures_after_answer, memory_is};
+ghost use Rattle.tmw_command.specs.Shared.{IsHeaderOf, IsNeededOf, Memory, Opacity, memory_is};
+ghost use Rattle.tmw_streams.specs.Transfers.{Tells};
+ghost use Rattle.tmw_report.specs.CommandRun.{failures_after_answer};
 ghost use Rattle.std.specs.Prelude.{IfErr, IfOk, List, ℕ, ◌≡◌};
 ghost use Rattle.tmw_command.specs.BenchRun.{benched_of, hunted_of};
 ghost use Rattle.tmw_command.specs.RunBench.{AnswersBench, AnswersHunt, fault_of};
-ghost use Rattle.tmw_command.specs.DriveRun.{IsHeaderOf};
 
 use crate::bench::bench_run::BenchRun;
 use crate::bench::hunt_run::HuntRun;
-use crate::drive::{DriveRun, header_of};
-use crate::read_source::read_source;
 use std::alloc::Global;
 use std::sync::Wait;
 use std::thread::Threads;
 use tmw_args::BenchOptions;
 use tmw_bench::{BenchFault, BenchResult, HuntResult, Progress, Settings, hunt, run_bench};
 use tmw_defs::Criterion;
+use tmw_drive_command::{DriveRun, header_of, read_source};
 use tmw_events::Registers;
 use tmw_report::Fault;
 use tmw_show::ShownTrace;

@@ -3,20 +3,19 @@ ghost use Rattle.std.specs.Prelude.{IfOk, string_bytes, ◌&&◌, ◌≡◌, ◌
 ghost use Rattle.tmw_command.specs.BenchRun.{bench_lines, bench_shows_nothing, bench_status, bench_text, hunt_shows_nothing, hunt_status, hunt_text, last_lines};
 
 use crate::bench::bench_run::BenchRun;
-use crate::bench::ends_line::ends_text;
 use crate::bench::hunt_run::HuntRun;
-use crate::drive::{add_summary, put_driven};
 use std::alloc::{AllocError, Global};
 use tmw_args::BenchOptions;
 use tmw_counts::{Summary, is_open};
 use tmw_defs::{Criterion, Verdict};
-use tmw_drive::Ending;
+use tmw_drive_command::{add_summary, ends_text, put_driven};
 use tmw_options::Form;
 use tmw_report::{
     FAULT_STATUS, Fault, answer_fault, nothing_shown_if, report_text, send_remark, status_of,
 };
 use tmw_show::shown_text;
 use tmw_streams::{Sink, put_all};
+use tmw_workers::Ending;
 
 /// Writes the log's trace, and behind it the lines that these options request, and returns the exit status. The lines are
 /// made before anything is written: after a failed allocation only that fault's line is written. Of a run that shows

@@ -1,6 +1,6 @@
 use tmw_counts::Summary;
-use tmw_drive::Ending;
 use tmw_show::ShownTrace;
+use tmw_workers::Ending;
 
 /// What threads have made of a workload, with no event kept but those of the last window.
 #[derive(Drop)]

@@ -3,11 +3,8 @@ ghost use Rattle.std.specs.Prelude.{IfOk, OnOk, [], length, string_bytes, â—Œ++â
 ghost use Rattle.tmw_show.specs.NeededEvents.{reason_of};
 ghost use Rattle.tmw_show.specs.Page.{about_json, criterion_name, digit, event_json, json_text, mark_json, needed_json, state_json, why_json, window_json};
 
-use crate::event_text::push_event;
 use crate::frame::Frame;
-use crate::item_text::{ItemText, push_each, push_list};
 use crate::needed_events::NeededEvents;
-use crate::numbers::push_values;
 use crate::run_verdict::{RunVerdict, marked_at, wrong_of};
 use crate::sentences::push_reason;
 use crate::shown_trace::ShownTrace;
@@ -16,6 +13,7 @@ use tmw_cuts::State;
 use tmw_defs::Criterion;
 use tmw_events::{Event, Registers};
 use tmw_report::report_by;
+use tmw_texts::{ItemText, push_each, push_event, push_list, push_values};
 
 /// Adds what is shown by this criterion, of a trace before which so many events of the run come, as one JSON object: the
 /// members of the report, the criterion, how many registers there are and how many events of the run stand before the

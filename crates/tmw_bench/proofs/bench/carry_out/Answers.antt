@@ -1,8 +1,7 @@
-use Rattle.tmw_bench.proofs.Shared.{AllOpaque, AreEndings, AreTransactions, Event, Fits, Front, HasNumbers, HaveBegun, Headline, IsLogOf, IsVerdict, Kind, List, Option, ReaderOf, Refused, Vec, [], all_judged, ap, arith, ending_of, length, length-map, map, refl, rules_of, script_of, scripts_of, subst, sym, zeros, ℕ, ◌++◌, ◌-◌, ◌^◌, ◌∙◌, ◌≡◌}
-use Rattle.tmw_bench.proofs.OpaqueRounds.{all_opaque-append}
+use Rattle.tmw_bench.proofs.Shared.{AllOpaque, AreEndings, AreTransactions, Event, Fits, Front, HasNumbers, HaveBegun, Headline, IsLogOf, IsVerdict, Kind, List, Option, ReaderOf, Refused, Vec, [], all_judged, all_opaque-append, ap, arith, ending_of, length, length-map, map, refl, rules_of, script_of, scripts_of, subst, sym, zeros, ℕ, ◌++◌, ◌-◌, ◌^◌, ◌∙◌, ◌≡◌}
 use Rattle.tmw_bench.proofs.RoundsOver.{are_endings-map, over-log}
 use Rattle.tmw_bench.proofs.Whole.{is_benched, HasCome}
-use Rattle.tmw_drive.proofs.Workloads.{are_transactions-workload}
+use Rattle.tmw_workloads.proofs.Workloads.{are_transactions-workload}
 use Rattle.tmw_pump.specs.Keep.{IsKept}
 use Rattle.tmw_pump.specs.Rest.{all_of, rest_in}
 use Rattle.tmw_bench.proofs.bench.carry_out.Goals as goal

@@ -1,7 +1,6 @@
-use Rattle.tmw_bench.proofs.Shared.{AreClosed, ArePairs, HasLed, IsAfter, Line, List, Option, Refused, Rules, SomeStop, SomeToldStop, WriterIs, arith, inl, inr, length, length-map, map, script_of, scripts_of, subst, sym, ◌∙◌, ◌≡◌}
+use Rattle.tmw_bench.proofs.Shared.{AreClosed, ArePairs, Back, HasLed, IsAfter, Line, List, Option, Refused, Rules, SomeStop, SomeToldStop, WriterIs, arith, inl, inr, length, length-map, map, script_of, scripts_of, subst, sym, ◌∙◌, ◌≡◌}
 use Rattle.tmw_bench.proofs.AllBack.{is_after-gathered, new_lines, new_workers, pairs, some_stop-gathered}
 use Rattle.tmw_bench.proofs.JoinThreads.{back_count, come_back, given_back, led_to}
-use Rattle.tmw_bench.proofs.Starts.{Back}
 use Rattle.tmw_bench.proofs.play_rounds.play_within.Goals as goal
 
 pub start_all-requires-clause-new : goal.start_all-requires-clause-new

@@ -1,7 +1,6 @@
-use Rattle.tmw_drive.proofs.Shared.{AllEnd, AllPlay, Answer, Call, Drives, Event, List, Player, [], ap, arith, drop, length, length-map, script_of, scripts_of, subst, sym, take_at, ℕ, ◌∙◌, ◌≡◌}
+use Rattle.tmw_drive.proofs.Shared.{AllEnd, AllPlay, Answer, Call, Drives, Event, List, Player, [], ap, are_transactions-workload, arith, drop, length, length-map, script_of, scripts_of, subst, sym, take_at, ℕ, ◌∙◌, ◌≡◌}
 use Rattle.tmw_drive.proofs.AllPlayers.{all_play-new}
 use Rattle.tmw_drive.proofs.Drives.{is_driven}
-use Rattle.tmw_drive.proofs.Workloads.{are_transactions-workload}
 use Rattle.tmw_drive.proofs.drive_workload.record.Goals as goal
 
 pub play-requires-clause-all : goal.play-requires-clause-all

@@ -1,6 +1,6 @@
 use Rattle.tmw_drive.proofs.Shared.{AllPlay, Answer, Call, DoesEntry, Player, Plays, ap, arith, calls_of, get_or, get_or_default, kinds_of, length, length-map, script_at, script_of, scripts_of, slice_set, subst, sym, ◌<◌, ◌∙◌, ◌≡◌}
 use Rattle.tmw_drive.proofs.AllPlayers.{all_play-entry, numbered-read, on_ok}
-use Rattle.tmw_drive.proofs.Positions.{script_at-read}
+use Rattle.tmw_workers.proofs.Positions.{script_at-read}
 use Rattle.tmw_drive.proofs.play.enter.Goals as goal
 
 pub step-requires : goal.step-requires

@@ -1,6 +1,5 @@
-use Rattle.tmw_drive.proofs.Shared.{Answer, Call, Event, Plays, [], ap, arith, calls_of, inl, inr, kinds_of, refl, subst, sym, ◌++◌, ◌∙◌, ◌∷◌}
+use Rattle.tmw_drive.proofs.Shared.{Answer, Call, Event, Plays, [], ap, arith, beginning-plays, call-plays, calls_of, goes_on-same, inl, inr, kinds_of, plays-goes_on, refl, subst, sym, whole-plays, ◌++◌, ◌∙◌, ◌∷◌}
 use Rattle.tmw_drive.proofs.Entries.{kinds_of-pair_own, pushed-pair}
-use Rattle.tmw_drive.proofs.Players.{beginning-plays, call-plays, goes_on-same, plays-goes_on, whole-plays}
 use Rattle.tmw_drive.proofs.play.step.Goals as goal
 
 pub returns-in_default-clause-entry : goal.returns-in_default-clause-entry

@@ -1,5 +1,5 @@
 -- Room may be refused.
-use Rattle.std.specs.Prelude.{Err, Ok, OnErr, Result}
+use Rattle.tmw_bench.proofs.Shared.{Err, Ok, OnErr, Result}
 use Rattle.tmw_bench.proofs.hunt_window.HuntingKeep.make_room.Goals as goal
 
 always : {T E : Type 0} (result : Result T E) → OnErr result (Unit {0})

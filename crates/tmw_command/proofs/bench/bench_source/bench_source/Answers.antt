@@ -1,8 +1,7 @@
 -- The workload that was read was carried out, and its log has the header; or it was not, by the fault that is answered.
-use Rattle.tmw_command.proofs.Shared.{IsBenched, scripts_of, subst, sym}
+use Rattle.tmw_command.proofs.Shared.{IsBenched, scripts_of, subst, sym, text_over}
 use Rattle.tmw_command.proofs.BenchAnswers.{right-bench}
 use Rattle.tmw_bench.specs.declared.bench_result.BenchResult.{BenchResult}
-use Rattle.tmw_command.proofs.DriveAnswers.{text_over}
 use Rattle.tmw_command.proofs.bench.bench_source.bench_source.Goals as goal
 
 pub returns-in-Ok-clause-right : goal.returns-in-Ok-clause-right

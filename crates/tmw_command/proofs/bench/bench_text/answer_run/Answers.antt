@@ -1,5 +1,6 @@
 -- What was put is the trace, and then the two lines.
-use Rattle.tmw_command.proofs.Shared.{ap, inl, nothing_shown_if, ◌∙◌}
+use Rattle.tmw_command.proofs.Shared.{ap, inl, ◌∙◌}
+use Rattle.tmw_report.specs.Remark.{nothing_shown_if}
 use Rattle.tmw_command.proofs.bench.bench_text.answer_run.Goals as goal
 
 pub returns-in-Ok-put_driven : goal.returns-in-Ok-put_driven

@@ -1,4 +1,4 @@
-use Rattle.tmw_pump.proofs.Shared.{rules, arith}
+use Rattle.tmw_pump.proofs.Shared.{arith, rules}
 use Rattle.tmw_pump.proofs.KeepSteps.{new_kept}
 use Rattle.tmw_pump.proofs.pump.Pump.keeping.Goals as goal
 

@@ -1,4 +1,4 @@
-use Rattle.tmw_pump.proofs.Shared.{Event, GivesHeadline, List, Verdict, all_of, rest_in, subst, sym, arith}
+use Rattle.tmw_pump.proofs.Shared.{Event, GivesHeadline, List, Verdict, all_of, arith, rest_in, subst, sym}
 use Rattle.tmw_pump.proofs.HeadlineProof.{gives_rest}
 use Rattle.tmw_pump.proofs.KeepSteps.{all_kept}
 use Rattle.tmw_pump.proofs.rest.Rest.finish.Goals as goal

@@ -1,9 +1,0 @@
--- A transaction that its memory has not seen.
-use Rattle.std.specs.Prelude.{[], false, ◌≡◌}
-use Rattle.tmw_tm.specs.declared.tx.Tx.{Tx}
-
-pub record IsFresh (tx : Tx) : Type 0 where
-  pub snapshot : tx.snapshot ≡ 0
-  pub begun : tx.begun ≡ false
-  pub reads : tx.reads.items ≡ []
-  pub writes : tx.writes.items ≡ []

@@ -1,0 +1,3 @@
+pub mod DriveAnswers
+pub mod EndsLines
+pub mod Zeros

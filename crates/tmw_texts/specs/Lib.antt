@@ -1,0 +1,5 @@
+pub mod ItemTexts
+mod Shared
+pub mod TracesText
+pub mod TransactionNames
+pub mod ValueNames
