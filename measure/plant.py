@@ -25,7 +25,9 @@ Exit status: 0 in each FILE at most one in ten of those that count survives; 1 m
 without a mistake.
 """
 import argparse
+import collections
 import concurrent.futures
+import functools
 import glob
 import os
 import queue
@@ -41,7 +43,7 @@ import time
 import uuid
 
 TOP = os.path.dirname(os.path.dirname(os.path.realpath(__file__)))
-LANGUAGES = {".c": "c", ".h": "c", ".rs": "rust", ".rt": "rust", ".py": "python", ".sh": "shell"}
+LANGUAGES = {".c": "c", ".h": "c", ".rs": "rust", ".rt": "rattle", ".py": "python", ".sh": "shell"}
 STRING = r'"(?:\\.|[^"\\])*"'
 SKIPPED = {
     "c": r"//[^\n]*|/\*.*?\*/|^[ \t]*\#define \w+\([^)]*\)|^[ \t]*\#(?!define \w+\()(?:\\\n|[^\n])*",
@@ -50,6 +52,7 @@ SKIPPED = {
     "shell": r"(?<![\w$\{\\(?*])\#[^\n]*|^[ ]*(?:set|shift|trap) [^\n]*",
 }
 QUOTED = {"c": r"'(?:\\.[^']*|[^'\\])'", "rust": r"'(?:\\.[^']*|[^'\\])'", "python": r"'(?:\\.|[^'\\])*'", "shell": r"'[^']*'"}
+SKIPPED["rattle"], QUOTED["rattle"] = SKIPPED["rust"], QUOTED["rust"]
 OPERATORS = r"<<=|>>=|\.\.=|->|=>|::|\+\+|--|<<|>>|[=!<>+\-*/%&|^]=|&&|\|\||\.\.|[-+*/%&|^~!<>=?:;,.(){}\[\]@$#]"
 TURNED = {
     "==": "!=", "!=": "==", "<": "<=", "<=": "<", ">": ">=", ">=": ">", "&&": "||", "||": "&&", "+": "-", "-": "+", "*": "+", "/": "*",
@@ -60,8 +63,10 @@ SHELL_TESTS = {"-eq": "-ne", "-ne": "-eq", "-lt": "-le", "-le": "-lt", "-gt": "-
 OPEN, CLOSED = "([{", ")]}"
 MOST_SURVIVORS = 0.1
 FAILED = b": FAILED"  # a row of a script has
+# Types of a .rt whose values may be passed twice.
+COPIED = r"&(?!mut\b)|[ui]\d|usize|bool|Ix"
 # What is proved, and what is no code, in a .rt.
-CLAUSE = re.compile(r"\bghost\b[^;{]*(?:;|\{[^{}]*\})|\b(?:ensures|requires|invariant)\b[^{]*\{(?:[^{}]|\{[^{}]*\})*\}|\b(?:pub )?use [^;]*;|\bconst \w+:")
+CLAUSE = re.compile(r"\bghost\b[^;{]*(?:;|\{(?:[^{}]|\{[^{}]*\})*\}(?: by \{[^{}]*\})?)|\bextern .C.|\b(?:ensures|requires|invariant)\b[^{]*\{(?:[^{}]|\{[^{}]*\})*\}|\b(?:pub )?use [^;]*;|\bconst \w+:")
 
 
 class Token:
@@ -108,16 +113,24 @@ def changed_word(token, language, before):
     if language == "shell":
         return {"&&": "||", "||": "&&", "==": "!=", "!=": "=="}.get(token.text)
     is_unary = before is None or before.kind == "operator" and before.text not in (")", "]") or before.text in ("return", "in", "and", "or")
-    if token.text in ("-", "*", "&", "<", ">", "|", "+") and (is_unary or language == "rust" and token.text not in "+-"):
+    if token.text in ("-", "*", "&", "<", ">", "|", "+") and (is_unary or language in ("rust", "rattle") and token.text not in "+-"):
         return None
     return TURNED.get(token.text)
+
+
+def is_no_value(text, token, before):
+    """Whether this of a .rt is of a bound or a type, a field's number, an array's length, the largest number of a type, or a pattern."""
+    if token.kind == "number":
+        return before.text == "." or text[:token.at].endswith("; ") or token.text in ("255", "65535", "4294967295")
+    return (token.text == "+" and re.fullmatch(r"[A-Z]\w*[a-z]\w*", before.text) or token.text in ("<<", ">>") and text[token.at - 1] != " "
+            or token.text in ("true", "false") and text[token.end:].startswith(" =>"))
 
 
 def turned(text, tokens, language):
     for place, token in enumerate(tokens):
         before = tokens[place - 1] if place else None
         word = changed_word(token, language, before)
-        if word is not None:
+        if word is not None and not (language == "rattle" and before and is_no_value(text, token, before)):
             yield token.at, token.end, word
         if token.text == "!" and language != "shell" and before and before.kind == "operator":
             yield token.at, token.end, ""
@@ -157,31 +170,54 @@ def swapped_arms(text, tokens, language):
             yield a, d, text[c:d] + text[b:c] + text[a:b]
 
 
+@functools.lru_cache(maxsize=None)
+def parameters():
+    """Returns by its name the lists of types that each function and variant of the .rt takes."""
+    found = collections.defaultdict(list)
+    for path in glob.glob(f"{TOP}/crates/*/src/**/*.rt", recursive=True):
+        with open(path, encoding="utf-8") as it:
+            text = it.read()
+        tokens = tokens_of(text, "rattle")
+        for place in (it for it, token in enumerate(tokens) if token.text == "fn" and tokens[it + 1].kind == "word"):
+            name = tokens[place + 1].text
+            first = next(it for it in range(place + 2, len(tokens)) if tokens[it].text == "(" and tokens[it - 1].text in (name, ">", ">>"))
+            spans = parts_between(tokens, first + 1, closing(tokens, first), ",")
+            whole = [text[tokens[a].at:tokens[b - 1].end] for a, b in spans if a < b]
+            found[name].append([it.partition(": ")[2] for it in whole if ": " in it])
+        for name, types in re.findall(r"^    ([A-Z]\w*)\((.*)\),$", text, re.MULTILINE):
+            found[name].append(types.split(", "))
+    return found
+
+
 def swapped_arguments(text, tokens, language):
-    """Two arguments swapped, or the first of them twice."""
+    """Two arguments swapped, or the first of them twice; in a .rt only those whose types are the same."""
     for place, token in enumerate(tokens[:-1]):
         line = text[text.rfind("\n", 0, token.at) + 1:token.at]
         is_defined = line == line.lstrip() and language == "c" or re.search(r"\b(def|fn|class)\b", line)
         if token.kind != "word" or tokens[place + 1].text != "(" or is_defined or language == "shell":
             continue
         spans = [it for it in parts_between(tokens, place + 2, closing(tokens, place + 1), ",") if it[0] < it[1]]
-        for one, other in zip(spans, spans[1:]):
+        known = [it for it in parameters().get(token.text, ()) if len(it) == len(spans)] if language == "rattle" else []
+        for at, (one, other) in enumerate(zip(spans, spans[1:])):
             (a, b), (c, d) = [(tokens[first].at, tokens[last - 1].end) for first, last in (one, other)]
-            if token.text not in ("max", "min"):
+            alike = language != "rattle" or known and all(it[at] == it[at + 1] for it in known)
+            if alike and token.text not in ("max", "min"):
                 yield a, d, text[c:d] + text[b:c] + text[a:b]
-            yield c, d, text[a:b]
+            if alike and (language != "rattle" or token.text[0].islower() and re.match(COPIED, known[0][at])):
+                yield c, d, text[a:b]
 
 
 def dropped_statements(text, tokens, language):
     """A statement of one line, with nothing or a word that does nothing in its place."""
-    nothing = {"c": ";", "rust": "", "python": "pass", "shell": ":"}[language]
+    nothing = {"c": ";", "rust": "", "rattle": ";", "python": "pass", "shell": ":"}[language]
     places, before = {token.at for token in tokens}, ";"
     lines = r"^([ ]+)(\S.*?)(?: *\\)?$" if language == "c" else r"^([ ]+)(\S.*)$"
     for found in re.finditer(lines, text, re.MULTILINE):
         line, is_code = found[2], found.start(2) in places
         is_whole = before[-1:] in ";{}:)" or before.endswith(("else", "then", "do", "*/")) or language in ("python", "shell")
         is_headed = re.match(r"(return|if|else|for|while|until|do|done|fi|case|esac|elif|def|class|with|try|except|break|continue|then)\b", line)
-        is_simple = line.endswith(";") if language in ("c", "rust") else not line.endswith((":", "\\", "(", ",", "{", "[", ";;", ")", "|"))
+        is_headed = is_headed or language == "rattle" and re.match(r"(let|use|const|type)\b|[^\w*]", line)
+        is_simple = line.endswith(";") if language in ("c", "rust", "rattle") else not line.endswith((":", "\\", "(", ",", "{", "[", ";;", ")", "|"))
         is_simple = is_simple or language == "python" and re.fullmatch(r"[\w.]+(\(.*\)| [-+]?= .*[^,])", line)
         if is_code and is_whole and is_simple and not is_headed:
             yield found.start(2), found.end(2), nothing

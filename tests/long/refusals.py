@@ -1,14 +1,15 @@
 #!/usr/bin/env python3
-"""Tells of wrong bodies by what the prover refuses each: a goal of a clause, or no more than a name that is gone or an answer that fits no
-longer, which says nothing of the contract.
+"""Tells of wrong bodies by what the prover refuses each: a goal of a clause, or no more than a name that is gone, which says nothing of the
+contract, or whether it finds no proof by itself.
 
     tests/long/refusals.py CRATE|EDIT..
 
-A CRATE's edits are those of edits/CRATE and of crates/CRATE/must-fail. The turned function is checked alone (rt check --only), in a copy, over the
-libraries that are built here. Goals that the prover refuses where no proof file is at fault are a clause's. Else the function is checked once
-more without its answers, with the edit and without: a goal whose statement the function as it stands doesn't have, or which known values
-break, is a clause's too. All others are refused by a name or an answer alone, as far as this can tell: change a value, so that each name
-stays. 15 to 60 seconds an edit.
+A CRATE's edits are those of edits/CRATE and of crates/CRATE/must-fail. The turned function is checked alone (rt check --only), in a copy,
+over the libraries that are built here. Goals that the prover refuses where no proof file is at fault are a clause's. Where an answer is at
+fault, the function is checked once more without its answers, with the edit and without: a goal whose statement the function as it stands
+doesn't have, or which known values break, is a clause's too. If it is proved so, the edit is not refused. If all goals left are left as the
+function stands too, the edit is open: the prover finds no proof of them by itself. All others are refused by a name alone, as far as this
+can tell: change a value, so that each name stays. 15 to 60 seconds an edit.
 The last line says how many of each there are. Exit status: 0 all are refused by a clause; 1 not all; 2 other words.
 Environment: JOBS (1), how many at a time.
 """
@@ -25,14 +26,15 @@ import tempfile
 TOP = os.path.dirname(os.path.dirname(os.path.dirname(os.path.realpath(__file__))))
 ENDS = {
     "clause": "by a clause",
-    "name": "by a name or an answer alone",
+    "name": "by a name alone",
+    "open": "open",
     "none": "not refused",
     "bad": "not compiled",
     "unknown": "of which nothing is known",
 }
 FUNCTION = re.compile(r"\bfn (\w+)")
 FAULT = re.compile(r"^(?:\./)?(proofs/\S+?\.antt):\d+:\d+: error", re.M)
-REFUSED = re.compile(r"^note: (?:\./)?src/\S+: it is not proved [^\n]*\(`([^`]+)`\)([^\n]*)", re.M)
+REFUSED = re.compile(r"^note: (?:\./)?src/\S+: (?:it is not proved|`search` found no proof) [^\n]*?\(`([^`]+)`\)([^\n]*)", re.M)
 STATEMENT = re.compile(r"^note: `([^`]+)` of proofs/\S+ must prove: ([^\n]*)", re.M)
 
 
@@ -54,6 +56,14 @@ def edited(edit, crate):
     return path, text, names[-1] if names and path.startswith("src/") else None
 
 
+def link(one, other):
+    """Links a file, or copies it to another disk."""
+    try:
+        os.link(one, other)
+    except OSError:
+        shutil.copy2(one, other)
+
+
 def copy_crates(crate, room):
     """Copies the crate and those that it stands on into the room, as a repository, with the libraries that are built."""
     lines = {re.match(r"\w+", it)[0]: it for it in read(f"{TOP}/crates.txt").splitlines() if re.match(r"\w", it)}
@@ -65,7 +75,8 @@ def copy_crates(crate, room):
             left += lines[name].partition(":")[2].split()
             for part in ("src", "specs", "proofs", *["out/rlib"] * (name != crate)):
                 if os.path.isdir(f"{TOP}/crates/{name}/{part}"):
-                    shutil.copytree(f"{TOP}/crates/{name}/{part}", f"{room}/crates/{name}/{part}")
+                    how = link if part == "out/rlib" else shutil.copy2
+                    shutil.copytree(f"{TOP}/crates/{name}/{part}", f"{room}/crates/{name}/{part}", copy_function=how)
     with open(f"{room}/crates.txt", "w", encoding="utf-8") as it:
         it.writelines(f"{lines[name]}\n" for name in found)
     shutil.copyfile(f"{TOP}/HANDLES", f"{room}/HANDLES")
@@ -119,12 +130,16 @@ def refusal(crate, edit):
     if not without or not function:
         return "name", f"by a name alone: {re.search(FAULT.pattern + '.*', said, re.M)[0][:200]}"
     said, status = check(crate, function, path, text, without)
+    if status == 0:
+        return "none", f"NOT REFUSED without {', '.join(without)}"
     broken = {name for name, rest in REFUSED.findall(said) if "allow values" in rest}
     before = without_answers(crate, function, path, without)
     new = [name for name, it in STATEMENT.findall(said) if name in broken or it not in before]
     if new:
         return "clause", f"by a clause, without the answers: {new[0]}"
-    return "name", f"by {'an answer' if status == 0 else 'a name or an answer'} alone: {faults[0]}"
+    if REFUSED.search(said) and not FAULT.search(said):
+        return "open", f"open without the answers: {REFUSED.search(said)[1]}"
+    return "name", f"by a name alone: {faults[0]}"
 
 
 def main(words):

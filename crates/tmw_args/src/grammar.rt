@@ -1,5 +1,6 @@
-ghost use Rattle.std.specs.Prelude.{◌≡◌, IfOk, IsOkAnd, codes, false};
+ghost use Rattle.std.specs.Prelude.{◌≡◌, IfOk, IsOkAnd, Some, codes, false, true};
 ghost use Rattle.clap.specs.Words.{AddsSubcommand, app_of, new_app, rule_of};
+ghost use Rattle.clap.specs.declared.builder.texts.Texts.TheVariants.{One};
 ghost use Rattle.clap.specs.declared.builder.value_parser.ValueParser.TheVariants.{Names, Unsigned};
 ghost use Rattle.tmw_args.specs.Grammar.{IsProgram, bench_among, drive_among, flag_rule, judge_among, one_to, show_among, steps, value_rule, wanting, with_before, with_bounds, with_counts, with_criterion, with_flag, with_memory, with_run_flags};
 
@@ -357,6 +358,7 @@ fn with_bounds<'a>(alloc: Global, command: Command<'a>) -> Result<Command<'a>, A
 fn flag_option<'a>(alloc: Global, name: &'a str, help: &'a str) -> Arg<'a>
     ensures rule { rule_of result ≡ flag_rule name.entry.now }
     ensures local { result.global ≡ false }
+    ensures told { result.help ≡ Some help.entry }
 {
     Arg::new(alloc, name)
         .long(name)
@@ -374,6 +376,7 @@ fn number_option<'a>(
 ) -> Arg<'a>
     ensures rule { rule_of result ≡ value_rule name.entry.now (one_to most) default.entry.now }
     ensures local { result.global ≡ false }
+    ensures told { result.help ≡ Some help.entry }
 {
     let values = value_parser!(u8).range(1..=i64::from(most));
     value_option(alloc, name, "N", values, default, help)
@@ -390,6 +393,7 @@ fn count_option<'a>(
 ) -> Arg<'a>
     ensures rule { rule_of result ≡ value_rule name.entry.now (Unsigned least most) default.entry.now }
     ensures local { result.global ≡ false }
+    ensures told { result.help ≡ Some help.entry }
 {
     let values = ValueParser::unsigned(least, most);
     value_option(alloc, name, "N", values, default, help)
@@ -406,6 +410,8 @@ fn value_option<'a>(
 ) -> Arg<'a>
     ensures rule { rule_of result ≡ value_rule name.entry.now values.entry default.entry.now }
     ensures local { result.global ≡ false }
+    ensures told { (result.help ≡ Some help.entry) × (result.val_names ≡ One value_name.entry)
+        × (result.hide_possible_values ≡ true) }
 {
     Arg::new(alloc, name)
         .long(name)
