@@ -1,5 +1,5 @@
 ghost use Rattle.tmw_cuts.specs.Shared.{Contains, zeros};
-ghost use Rattle.std.specs.Prelude.{IfOk, IsFalse, IsTrue, OnErr, OnOk, [], length, slice_get, ◌<◌, ◌↔◌, ◌∷◌, ◌≡◌, ◌≤◌};
+ghost use Rattle.std.specs.Prelude.{IfOk, IsFalse, IsTrue, OnErr, OnOk, [], length, slice_get, ◌++◌, ◌<◌, ◌↔◌, ◌∷◌, ◌≡◌, ◌≤◌};
 ghost use Rattle.std.specs.List.Sorted.{IsStrictlySortedBy};
 ghost use Rattle.std.specs.Cmp.Lexicographic.{slice_cmp};
 ghost use Rattle.std.specs.Ordering.{nat_cmp};
@@ -114,7 +114,7 @@ impl States {
     /// Adds the state if each state of the set comes before it and there is memory. Returns whether it was added.
     #[inline(always)]
     pub fn push(&mut self, state: &State) -> bool
-        ensures added { IsTrue result → AddsMember (members self.old) (members self.new) state.now }
+        ensures added { IsTrue result → members self.new ≡ members self.old ++ state.now ∷ [] }
         ensures left { IsFalse result → members self.new ≡ members self.old }
         ensures all { length (members self.old) < room_of self.old → AreBelow (members self.old) state.now
             → IsTrue result }

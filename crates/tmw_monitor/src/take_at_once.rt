@@ -13,8 +13,9 @@ use tmw_options::Bounds;
 use tmw_search::is_forced_with;
 
 /// Takes the next event if it begins a transaction for which the window has room, or if the serial order that is kept explains it: by no
-/// criterion is anything wrong with it then. At a cut there has to be one outcome before, from which the transactions force one end. Else
-/// it returns `false`, and what is kept is of the history without it. It is inlined into the reading of each kind of line.
+/// criterion is anything wrong with it then. At a cut there has to be one outcome before, from which the transactions, the ending one as
+/// committed, force one end. Else it returns `false`, and what is kept is of the history without it. It is inlined into the reading of
+/// each kind of line.
 #[inline(always)]
 pub fn take_at_once(kept: &mut HistoryDigest, bounds: &Bounds, event: Event) -> bool
     ensures taken { IsTrue result → (criterion : Criterion)

@@ -47,6 +47,7 @@ impl EndSet {
     pub fn add(&mut self, end: &State, number: u64) -> bool
         ensures adds { Adds result (members self.old.ends) (members self.new.ends) (λ e. e ≡ end.now) }
         ensures cap { self.new.cap ≡ self.old.cap }
+        ensures few { IsTrue result → length (members self.new.ends) ≤ self.new.cap }
         ensures more { IsFalse result → self.old.cap < length (members self.new.ends) }
     {
         if !self.are_few() {

@@ -20,8 +20,8 @@ fn written_by(item: &Txn, is_held: bool) -> u8
     }
 }
 
-/// Tells whether no register that two of these transactions write is written blindly by one: of those that have committed, and the
-/// one at the place, if there is one.
+/// Returns `true` only if no register that two of these transactions write is written blindly by one: of those that have committed, and
+/// the one at the place, if there is one.
 fn are_forced(items: &[Txn], place: usize) -> bool
     ensures { IsTrue result → AreForcedWith place (map view items.now) }
 {
@@ -37,18 +37,19 @@ fn are_forced(items: &[Txn], place: usize) -> bool
     twice & blind == 0
 }
 
-/// Tells whether no register that two committed transactions write is written blindly by one. Once all have ended, all
-/// their orders from one start then end in one state.
+/// Returns `true` only if no register that two committed transactions write is written blindly by one. Once all have ended, all
+/// their legal orders from one start then end in one state.
 pub fn is_forced(items: &[Txn]) -> bool
     ensures { IsTrue result → AreForced (map view items.now) }
 {
     are_forced(items, items.len())
 }
 
-/// Tells whether that is so with the transaction at the place as committed, whether or not it has ended.
+/// Returns `true` only if that is so with the transaction at the place as committed, whether or not it has ended.
 #[inline(always)]
 pub fn is_forced_with(items: &[Txn], place: Ix) -> bool
     ensures { IsTrue result → AreForcedWith place.number (map view items.now) }
 {
+    // Most windows have one transaction, which needs no call.
     items.len() == 1 || are_forced(items, place.get() as usize)
 }

@@ -1,6 +1,6 @@
 -- The end goes to the end of the set, is one of it already, or is inserted, for which there is room.
-use Rattle.tmw_search.proofs.Shared.{Adds, AddsMember, List, State, ap, arith, get_or_from_slice_get, inl, length, members, rules, slice_get_within, subst, sym, true, ◌∙◌, ◌≡◌}
-use Rattle.tmw_search.proofs.AddMembers.{adds-any, adds-one, ok-of}
+use Rattle.tmw_search.proofs.Shared.{Adds, AddsMember, List, State, ap, arith, get_or_from_slice_get, inl, length, members, refl, rules, slice_get_within, subst, sym, true, ◌∙◌, ◌≡◌}
+use Rattle.tmw_search.proofs.AddMembers.{adds-any, adds-one, adds-push, ok-of}
 use Rattle.tmw_search.proofs.Branches.{never-true}
 use Rattle.tmw_search.proofs.end_set.EndSet.add.Goals as goal
 
@@ -12,7 +12,7 @@ returns-then-not-are_few-clause-adds c = record {
 }
 
 pub returns-then-push-clause-adds : goal.returns-then-push-clause-adds
-returns-then-push-clause-adds c = adds-any (adds-one (c.push.ensures.added c.if-push.true))
+returns-then-push-clause-adds c = adds-any (rw (c.push.ensures.added c.if-push.true) (adds-push refl (λ q same. sym same)))
 
 pub returns-then-eq-clause-adds : goal.returns-then-eq-clause-adds
 returns-then-eq-clause-adds c =
