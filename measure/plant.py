@@ -66,7 +66,8 @@ FAILED = b": FAILED"  # a row of a script has
 # Types of a .rt whose values may be passed twice.
 COPIED = r"&(?!mut\b)|[ui]\d|usize|bool|Ix"
 # What is proved, and what is no code, in a .rt.
-CLAUSE = re.compile(r"\bghost\b[^;{]*(?:;|\{(?:[^{}]|\{[^{}]*\})*\}(?: by \{[^{}]*\})?)|\bextern .C.|\b(?:ensures|requires|invariant)\b[^{]*\{(?:[^{}]|\{[^{}]*\})*\}|\b(?:pub )?use [^;]*;|\bconst \w+:")
+CLAUSE = re.compile(r"\bghost\b[^;{]*(?:;|\{(?:[^{}]|\{[^{}]*\})*\}(?: by \{[^{}]*\})?)"
+                    r"|\b(?:ensures|requires|invariant)\b[^{]*\{(?:[^{}]|\{[^{}]*\})*\}|\b(?:pub )?use [^;]*;|\bconst \w+:|\bextern .C.")
 
 
 class Token:
