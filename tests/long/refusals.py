@@ -45,11 +45,13 @@ def read(path):
 
 
 def edited(edit, crate):
-    """Returns the file that the edit changes, its text with the edit, and the function that the first change is in, if any."""
+    """Returns the file that the edit changes, its text with the edit, and the function that the first change is in, if any: its line is indented."""
     lines = [line.partition(": ") for line in read(edit).splitlines() if line.strip()]
     path, pairs = lines[0][2], list(zip(lines[1::2], lines[2::2]))
     text = read(f"{TOP}/crates/{crate}/{path}")
-    names = FUNCTION.findall(text[: text.find(pairs[0][0][2]) + len(pairs[0][0][2])])
+    at = text.find(pairs[0][0][2])
+    line = text[text.rfind("\n", 0, at) + 1 : at + len(pairs[0][0][2])]
+    names = FUNCTION.findall(text[: at + len(pairs[0][0][2])]) if line.startswith(" ") or FUNCTION.search(line) else []
     for (_, _, old), (_, _, new) in pairs:
         if text.count(old) != 1:
             sys.exit(f"refusals.py: {edit}: {text.count(old)} times in its file: {old}")
