@@ -66,7 +66,8 @@ FAILED = b": FAILED"  # a row of a script has
 # Types of a .rt whose values may be passed twice.
 COPIED = r"&(?!mut\b)|[ui]\d|usize|bool|Ix"
 # What is proved, and what is no code, in a .rt.
-CLAUSE = re.compile(r"\bghost\b[^;{]*(?:;|\{(?:[^{}]|\{[^{}]*\})*\}(?: by \{[^{}]*\})?)|\bextern .C.|\b(?:ensures|requires|invariant)\b[^{]*\{(?:[^{}]|\{[^{}]*\})*\}|\b(?:pub )?use [^;]*;|\bconst \w+:")
+CLAUSE = re.compile(r"\bghost\b[^;{]*(?:;|\{(?:[^{}]|\{[^{}]*\})*\}(?: by \{[^{}]*\})?)"
+                    r"|\b(?:ensures|requires|invariant)\b[^{]*\{(?:[^{}]|\{[^{}]*\})*\}|\b(?:pub )?use [^;]*;|\bconst \w+:|\bextern .C.")
 
 
 class Token:
@@ -216,7 +217,7 @@ def dropped_statements(text, tokens, language):
         line, is_code = found[2], found.start(2) in places
         is_whole = before[-1:] in ";{}:)" or before.endswith(("else", "then", "do", "*/")) or language in ("python", "shell")
         is_headed = re.match(r"(return|if|else|for|while|until|do|done|fi|case|esac|elif|def|class|with|try|except|break|continue|then)\b", line)
-        is_headed = is_headed or language == "rattle" and re.match(r"(let|use|const|type)\b|[^\w*]", line)
+        is_headed = is_headed or language == "rattle" and (re.match(r'(let|use|const|type)\b|b"|[^\w*]', line) or line.count("(") != line.count(")"))
         is_simple = line.endswith(";") if language in ("c", "rust", "rattle") else not line.endswith((":", "\\", "(", ",", "{", "[", ";;", ")", "|"))
         is_simple = is_simple or language == "python" and re.fullmatch(r"[\w.]+(\(.*\)| [-+]?= .*[^,])", line)
         if is_code and is_whole and is_simple and not is_headed:

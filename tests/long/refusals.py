@@ -5,11 +5,11 @@ contract, or whether it finds no proof by itself.
     tests/long/refusals.py CRATE|EDIT..
 
 A CRATE's edits are those of edits/CRATE and of crates/CRATE/must-fail. The turned function is checked alone (rt check --only), in a copy,
-over the libraries that are built here. Goals that the prover refuses where no proof file is at fault are a clause's. Where an answer is at
-fault, the function is checked once more without its answers, with the edit and without: a goal whose statement the function as it stands
-doesn't have, or which known values break, is a clause's too. If it is proved so, the edit is not refused. If all goals left are left as the
-function stands too, the edit is open: the prover finds no proof of them by itself. All others are refused by a name alone, as far as this
-can tell: change a value, so that each name stays. 15 to 60 seconds an edit.
+over the libraries that are built here. Goals that known values break are a clause's, and so are those that the prover refuses where no proof
+file is at fault. Where an answer is at fault, the function is checked once more without its answers, with the edit and without: a goal whose
+statement the function as it stands doesn't have, or which known values break, is a clause's too. If it is proved so, the edit is not refused.
+If all goals left are left as the function stands too, the edit is open: the prover finds no proof of them by itself. All others are refused
+by a name alone, as far as this can tell: change a value, so that each name stays. 15 seconds to some minutes an edit.
 The last line says how many of each there are. Exit status: 0 all are refused by a clause; 1 not all; 2 other words.
 Environment: JOBS (1), how many at a time.
 """
@@ -35,6 +35,7 @@ ENDS = {
 FUNCTION = re.compile(r"\bfn (\w+)")
 FAULT = re.compile(r"^(?:\./)?(proofs/\S+?\.antt):\d+:\d+: error", re.M)
 REFUSED = re.compile(r"^note: (?:\./)?src/\S+: (?:it is not proved|`search` found no proof) [^\n]*?\(`([^`]+)`\)([^\n]*)", re.M)
+FAILS = re.compile(r"^(?:\./)?proofs/\S+?/Answers\.antt:\d+:\d+: error: `([^`]+)`[^\n]* the goal fails, at ", re.M)
 STATEMENT = re.compile(r"^note: `([^`]+)` of proofs/\S+ must prove: ([^\n]*)", re.M)
 
 
@@ -44,11 +45,13 @@ def read(path):
 
 
 def edited(edit, crate):
-    """Returns the file that the edit changes, its text with the edit, and the function that the first change is in, if any."""
+    """Returns the file that the edit changes, its text with the edit, and the function that the first change is in, if any: its line is indented."""
     lines = [line.partition(": ") for line in read(edit).splitlines() if line.strip()]
     path, pairs = lines[0][2], list(zip(lines[1::2], lines[2::2]))
     text = read(f"{TOP}/crates/{crate}/{path}")
-    names = FUNCTION.findall(text[: text.find(pairs[0][0][2]) + len(pairs[0][0][2])])
+    at = text.find(pairs[0][0][2])
+    line = text[text.rfind("\n", 0, at) + 1 : at + len(pairs[0][0][2])]
+    names = FUNCTION.findall(text[: at + len(pairs[0][0][2])]) if line.startswith(" ") or FUNCTION.search(line) else []
     for (_, _, old), (_, _, new) in pairs:
         if text.count(old) != 1:
             sys.exit(f"refusals.py: {edit}: {text.count(old)} times in its file: {old}")
@@ -124,8 +127,8 @@ def refusal(crate, edit):
     goals, faults = REFUSED.findall(said), FAULT.findall(said)
     if not goals and not faults:
         return "unknown", "nothing is known: " + " ".join(said.split("\n")[-4:])[:200]
-    if not faults or any("allow values" in rest for _, rest in goals):
-        return "clause", f"by a clause: {goals[0][0]}"
+    if not faults or FAILS.search(said) or any("allow values" in rest for _, rest in goals):
+        return "clause", f"by a clause: {FAILS.search(said)[1] if FAILS.search(said) else goals[0][0]}"
     without = tuple(sorted({it for it in faults if it.endswith("/Answers.antt") and it != path}))
     if not without or not function:
         return "name", f"by a name alone: {re.search(FAULT.pattern + '.*', said, re.M)[0][:200]}"
