@@ -1,12 +1,13 @@
 //! The way that most events take: few steps, no search and no memory.
-ghost use Rattle.tmw_monitor.specs.Shared.{Answer, Begin, Bounds, Criterion, End, IsNext};
-ghost use Rattle.std.specs.Prelude.{IsFalse, IsTrue, ◌≡◌};
+ghost use Rattle.tmw_monitor.specs.Shared.{Answer, Begin, Bounds, Criterion, End, Event, IsNext, StandsFor, views_of};
+ghost use Rattle.std.specs.Prelude.{IsFalse, IsTrue, List, ◌≡◌};
 ghost use Rattle.tmw_events.specs.declared.event.Kind.TheVariants.{V};
 ghost use Rattle.tmw_defs.specs.declared.op.Op.TheVariants.{Add};
+ghost use Rattle.tmw_search.specs.OneEnd.{AreForcedWith};
 ghost use Rattle.tmw_monitor.specs.TakeAtOnce.{StaysFine, StaysKept};
 
 use crate::history_digest::HistoryDigest;
-use tmw_cuts::Move;
+use tmw_cuts::{Move, Window};
 use tmw_defs::Op;
 use tmw_events::{Event, Ix, Kind};
 use tmw_options::Bounds;
@@ -96,6 +97,16 @@ fn add_at_once(
     answer_at_once(kept, event, place, Op::Add(register, added, answer))
 }
 
+/// Returns `true` only if the window's transactions, the one at the place as committed, force one end from each state.
+#[inline(always)]
+fn has_one_end(window: &Window, place: Ix) -> bool
+    ensures { IsTrue result → (events : List Event) → StandsFor window.now events
+        → AreForcedWith place.number (views_of events) }
+{
+    // Most windows have one transaction: they need no call.
+    window.count() == 1 || is_forced_with(window.transactions(), place)
+}
+
 /// Takes at once an event that ends a transaction, if the serial order that is kept explains it. At a cut, where one end is forced from the
 /// only outcome before, the order leads to the only outcome.
 #[inline(always)]
@@ -116,7 +127,7 @@ fn end_at_once(kept: &mut HistoryDigest, event: Event, place: Ix) -> bool
     if kept.states.len() != 1 {
         return false;
     }
-    if !is_forced_with(kept.window.transactions(), place) {
+    if !has_one_end(&kept.window, place) {
         return false;
     }
     let Some(end) = kept.witness.known_end() else {

@@ -8,6 +8,7 @@ use Rattle.tmw_cuts.specs.Views.{with_status}
 use Rattle.tmw_search.specs.OneEnd.{AreForcedWith}
 use Rattle.tmw_events.specs.declared.event.Kind.{Kind}
 use Rattle.tmw_cuts.proofs.NextViews.{next_view}
+use Rattle.tmw_cuts.proofs.OneChanged.{length-change}
 use Rattle.tmw_defs.specs.declared.status.Status.TheVariants.{Committed}
 use Rattle.std.proofs.lemmas.List.Folds.{list_all-map, list_all_more}
 use Rattle.std.proofs.lemmas.Bool.Decides.{nat_tests}
@@ -224,8 +225,11 @@ abbrev shows_no_blind : ℕ → View → Bool
 shows_no_blind r x = not (is_blind_writer r x.status x.ops)
 
 -- one transaction alone is forced
-pub few-forced : (xs : List View) → length xs ≤ 1 → AreForced xs
+few-forced : (xs : List View) → length xs ≤ 1 → AreForced xs
 few-forced xs few r = let most = count_by-le-length (shows_writer r) xs in inl (omega (arith, few, most))
+
+pub one-forced : (xs : List View) (p : ℕ) → length xs ≡ 1 → AreForcedWith p xs
+one-forced xs p one = few-forced (change p (with_status Committed) xs) (omega (arith, one, length-change (with_status Committed) xs p))
 
 -- one that has ended writes no more than as a committed one
 module _ (r : ℕ) (k : Kind) where

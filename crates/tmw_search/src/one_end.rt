@@ -46,10 +46,10 @@ pub fn is_forced(items: &[Txn]) -> bool
 }
 
 /// Returns `true` only if that is so with the transaction at the place as committed, whether or not it has ended.
-#[inline(always)]
+#[cold]
+#[inline(never)]
 pub fn is_forced_with(items: &[Txn], place: Ix) -> bool
     ensures { IsTrue result → AreForcedWith place.number (map view items.now) }
 {
-    // Most windows have one transaction, which needs no call.
-    items.len() == 1 || are_forced(items, place.get() as usize)
+    are_forced(items, place.get() as usize)
 }

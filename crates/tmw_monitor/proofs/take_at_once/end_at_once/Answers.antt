@@ -11,8 +11,8 @@ returns-then-not-explains_end-clause-left c = λ none rules history keeps.
     keeps-order rules history c.args.kept.now _ keeps refl refl
     (c.hold_pending.ensures.stands (members c.args.kept.now.states) (drop keeps.cut history) keeps.stands c.requires.next keeps.witness)
 
-pub returns-then-not-is_forced_with-clause-left : goal.returns-then-not-is_forced_with-clause-left
-returns-then-not-is_forced_with-clause-left c = λ none rules history keeps.
+pub returns-then-not-has_one_end-clause-left : goal.returns-then-not-has_one_end-clause-left
+returns-then-not-has_one_end-clause-left c = λ none rules history keeps.
     keeps-order rules history c.args.kept.now _ keeps refl refl
     (c.hold_pending.ensures.stands (members c.args.kept.now.states) (drop keeps.cut history) keeps.stands c.requires.next keeps.witness)
 
@@ -47,11 +47,11 @@ returns-clause-taken c took criterion bounds rules history by window states keep
     let shown = c.in-Some.ensures.shown in
     let only : members c.put_only.new.self ≡ state_of w w.top ∷ [] = rw (← shown.2) c.put_only.ensures.members in
     let positive = bounds.some_states in
-    let with : c.is_forced_with.result ≡ true = grind (arith, c.if-not-is_forced_with.false) in
+    let with : c.has_one_end.result ≡ true = grind (arith, c.if-not-has_one_end.false) in
     let forced : AreForced (views_of (rest ++ e ∷ [])) =
     rw (views-turned rest e old.window (End c.args.place) c.args.place keeps.stands next refl)
     (forced-next (views_of rest) c.args.place.number e.kind
-    (rw (c.transactions.ensures.stands rest keeps.stands) at (c.is_forced_with.ensures with))) in
+    (c.has_one_end.ensures with rest keeps.stands)) in
     let at_cut = sym (c.is_cut_with.ensures rest e keeps.stands next) ∙ c.if-not-is_cut_with.false in
     last-fine rules history e old _ keeps c.args.place (state_of w w.top) next
     (rw keeps.number at (formed-next rest e old.window (End c.args.place) keeps.stands next))
