@@ -22,14 +22,14 @@ export GLIBC_TUNABLES=glibc.cpu.hwcaps=-AVX2,-AVX_Fast_Unaligned_Load,-ERMS,-AVX
 # The most instructions an event, for each kind of run, by each of these words after `judge`. A run of `doomed` is strictly serializable alone.
 words=('' '--criterion strict' '--criterion both' '--first' '--summary')
 limits='
-serial    82.3 82.3 86.4 88.5 108.9
-calm      152.3 152.7 170.2 158.5 178.9
-wide      138.5 137.5 157.2 144.7 164.0
-long      79.5 79.5 83.5 85.6 93.2
-blind     294.3 294.3 319.7 300.5 326.0
-bench     89.2 89.1 92.8 95.4 112.3
-outcomes  332.3 332.2 336.0 338.5 355.5
-doomed    - 131.4 - - -
+serial    82.3 82.4 86.5 90.4 107.3
+calm      147.3 147.8 165.3 155.4 171.9
+wide      137.5 136.5 156.0 145.5 160.8
+long      79.6 79.6 83.7 87.8 93.2
+blind     298.2 298.4 323.8 306.2 326.9
+bench     87.4 87.4 91.4 95.4 108.7
+outcomes  246.7 246.7 250.4 254.7 268.0
+doomed    - 130.6 - - -
 '
 
 mode=check
