@@ -1,4 +1,4 @@
-ghost use Rattle.std.specs.Prelude.{◌≡◌, ◌+◌, ◌<◌, ◌-◌, ◌^◌, ℕ, true, false, Some, None, List, [], ◌∷◌, ◌++◌, length, IfOk, IfErr, OnErr, max};
+ghost use Rattle.std.specs.Prelude.{◌≡◌, ◌+◌, ◌<◌, ◌-◌, ◌^◌, ℕ, Bool, true, false, Some, None, List, [], ◌∷◌, ◌++◌, length, IfOk, IfErr, OnErr, max};
 ghost use Rattle.tmw_counts.specs.Counter.{CountsSo, IsStep, aborts, commits, held, meets, one_if};
 ghost use Rattle.tmw_counts.specs.Summary.{IsSummary};
 ghost use Rattle.tmw_events.specs.declared.event.Event.{Event};
@@ -62,8 +62,8 @@ impl Counter {
         let live = self.tracker.live();
         // Most events are in the midst of a transaction, and change no count.
         if note.begins {
-            self.threads = self.threads.with(event.thread);
-            self.count_begin(others, asked, live);
+            self.threads.take(event.thread);
+            self.count_begin(others, live);
             return Ok(());
         }
         match note.ends {
@@ -113,15 +113,15 @@ impl Counter {
 
     /// Counts the first event of a transaction, as `count` does. It is called.
     #[inline(never)]
-    fn count_begin(&mut self, others: bool, asked: bool, live: u8)
-        ensures { IsStep (record { begins = true; ends = None }) others asked live self.old
-            self.new }
+    fn count_begin(&mut self, others: bool, live: u8)
+        ensures { (asked : Bool) → IsStep (record { begins = true; ends = None }) others asked live
+            self.old self.new }
     {
         let note = Note {
             begins: true,
             ends: None,
         };
-        self.count(note, others, asked, live);
+        self.count(note, others, false, live);
     }
 
     /// Counts the last event of a transaction, as `count` does. It is called.

@@ -23,20 +23,19 @@ impl Threads {
         }
     }
 
-    /// Returns what is known after an event more, of this thread.
-    pub fn with(self, thread: Ix) -> Threads
+    /// Takes in an event more, of this thread.
+    #[inline(always)]
+    pub fn take(&mut self, thread: Ix)
         ensures { (history : List Event) (event : Event) → event.thread ≡ thread
-            → HasThreads history self → HasThreads (history ++ event ∷ []) result }
+            → HasThreads history self.old → HasThreads (history ++ event ∷ []) self.new }
     {
         match self.first {
-            None => Threads {
-                first: Some(thread),
-                several: false,
-            },
-            Some(first) => Threads {
-                first: Some(first),
-                several: self.several || thread.get() != first.get(),
-            },
+            None => self.first = Some(thread),
+            Some(first) => {
+                if thread.get() != first.get() {
+                    self.several = true;
+                }
+            }
         }
     }
 

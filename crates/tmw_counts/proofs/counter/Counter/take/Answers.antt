@@ -8,8 +8,8 @@ pub returns-then-note-clause-takes : goal.returns-then-note-clause-takes
 returns-then-note-clause-takes c registers history low so =
     takes-event registers history c.args.event c.in_ok-note.note _ _ _ c.args.self.now c.count_begin.new.self _ _ low so c.in_ok-note.ensures.takes
     c.in_ok-note.ensures.notes c.live-others.ensures.count c.asks_abort-asked.ensures c.live-live.ensures.count c.live-live.ensures.none
-    (λ _. c.with-self.ensures history c.args.event refl so.threads)
-    (λ taken. step-begins taken _ c.count_begin.new.self c.if-note.true c.count_begin.ensures)
+    (λ _. c.take.ensures history c.args.event refl so.threads)
+    (λ taken. step-begins taken _ c.count_begin.new.self c.if-note.true (c.count_begin.ensures _))
 
 pub returns-in-Some-clause-takes : goal.returns-in-Some-clause-takes
 returns-in-Some-clause-takes c registers history low so =
