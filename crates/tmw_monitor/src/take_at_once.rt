@@ -1,5 +1,5 @@
 //! The way that most events take: few steps, no search and no memory.
-ghost use Rattle.tmw_monitor.specs.Shared.{Answer, Begin, Bounds, Criterion, End, Event, IsNext, StandsFor, views_of};
+ghost use Rattle.tmw_monitor.specs.Shared.{Answer, Begin, Bounds, End, Event, IsNext, StandsFor, views_of};
 ghost use Rattle.std.specs.Prelude.{IsFalse, IsTrue, List, ◌≡◌};
 ghost use Rattle.tmw_events.specs.declared.event.Kind.TheVariants.{V};
 ghost use Rattle.tmw_defs.specs.declared.op.Op.TheVariants.{Add};
@@ -19,8 +19,7 @@ use tmw_search::is_forced_with;
 /// each kind of line.
 #[inline(always)]
 pub fn take_at_once(kept: &mut HistoryDigest, bounds: &Bounds, event: Event) -> bool
-    ensures taken { IsTrue result → (criterion : Criterion)
-        → StaysFine criterion bounds.now event kept.old kept.new }
+    ensures taken { IsTrue result → StaysFine bounds.now event kept.old kept.new }
     ensures left { IsFalse result → StaysKept kept.old kept.new }
 {
     match kept.window.next(event) {
@@ -46,8 +45,7 @@ pub fn take_at_once(kept: &mut HistoryDigest, bounds: &Bounds, event: Event) -> 
 #[inline(always)]
 fn begin_at_once(kept: &mut HistoryDigest, bounds: &Bounds, event: Event) -> bool
     requires next { IsNext kept.old.window event Begin }
-    ensures taken { IsTrue result → (criterion : Criterion)
-        → StaysFine criterion bounds.now event kept.old kept.new }
+    ensures taken { IsTrue result → StaysFine bounds.now event kept.old kept.new }
     ensures left { IsFalse result → kept.new ≡ kept.old }
 {
     if kept.window.count() >= bounds.window {
@@ -62,8 +60,8 @@ fn begin_at_once(kept: &mut HistoryDigest, bounds: &Bounds, event: Event) -> boo
 #[inline(always)]
 fn answer_at_once(kept: &mut HistoryDigest, event: Event, place: Ix, op: Op) -> bool
     requires next { IsNext kept.old.window event (Answer place op) }
-    ensures taken { IsTrue result → (criterion : Criterion) (bounds : Bounds)
-        → StaysFine criterion bounds event kept.old kept.new }
+    ensures taken { IsTrue result → (bounds : Bounds)
+        → StaysFine bounds event kept.old kept.new }
     ensures left { IsFalse result → kept.new ≡ kept.old }
 {
     if !kept.witness.explains_answer(&kept.window, event, place, op) {
@@ -86,8 +84,8 @@ fn add_at_once(
 ) -> bool
     requires next { IsNext kept.old.window (record { thread = thread; kind = V answer })
         (Answer place (Add register added answer)) }
-    ensures taken { IsTrue result → (criterion : Criterion) (bounds : Bounds)
-        → StaysFine criterion bounds (record { thread = thread; kind = V answer }) kept.old kept.new }
+    ensures taken { IsTrue result → (bounds : Bounds)
+        → StaysFine bounds (record { thread = thread; kind = V answer }) kept.old kept.new }
     ensures left { IsFalse result → kept.new ≡ kept.old }
 {
     let event = Event {
@@ -112,8 +110,8 @@ fn has_one_end(window: &Window, place: Ix) -> bool
 #[inline(always)]
 fn end_at_once(kept: &mut HistoryDigest, event: Event, place: Ix) -> bool
     requires next { IsNext kept.old.window event (End place) }
-    ensures taken { IsTrue result → (criterion : Criterion) (bounds : Bounds)
-        → StaysFine criterion bounds event kept.old kept.new }
+    ensures taken { IsTrue result → (bounds : Bounds)
+        → StaysFine bounds event kept.old kept.new }
     ensures left { IsFalse result → StaysKept kept.old kept.new }
 {
     kept.witness.hold_pending(&kept.window, event, place);

@@ -6,7 +6,7 @@ use Rattle.tmw_monitor.proofs.AtOnce.{asked_quiet, open-fine}
 use Rattle.tmw_monitor.proofs.take_at_once.begin_at_once.Goals as goal
 
 pub returns-clause-taken : goal.returns-clause-taken
-returns-clause-taken c took criterion rules history by window states keeps =
+returns-clause-taken c took rules history window states keeps =
     let old = c.args.kept.now in
     let e = c.args.event in
     let rest = drop keeps.cut history in

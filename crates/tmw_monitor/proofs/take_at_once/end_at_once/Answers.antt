@@ -22,7 +22,7 @@ returns-then-len-ne1-clause-left c = λ none rules history keeps.
     (c.hold_pending.ensures.stands (members c.args.kept.now.states) (drop keeps.cut history) keeps.stands c.requires.next keeps.witness)
 
 pub returns-then-not-is_cut_with-clause-taken : goal.returns-then-not-is_cut_with-clause-taken
-returns-then-not-is_cut_with-clause-taken c took criterion bounds rules history by window states keeps =
+returns-then-not-is_cut_with-clause-taken c took bounds rules history window states keeps =
     let old = c.args.kept.now in
     let starts = members old.states in
     let e = c.args.event in
@@ -35,7 +35,7 @@ returns-then-not-is_cut_with-clause-taken c took criterion bounds rules history 
     (inr (_, explained rules.criterion old.states (rest ++ e ∷ []) c.hold_pending.new.self (c.explains_end.ensures.known fits) witness)) refl witness
 
 pub returns-clause-taken : goal.returns-clause-taken
-returns-clause-taken c took criterion bounds rules history by window states keeps =
+returns-clause-taken c took bounds rules history window states keeps =
     let old = c.args.kept.now in
     let w = c.hold_pending.new.self in
     let starts = members old.states in

@@ -9,7 +9,7 @@ pub returns-in-Ok-Begin-clause-taken : goal.returns-in-Ok-Begin-clause-taken
 returns-in-Ok-Begin-clause-taken c took = c.begin_at_once.ensures.taken took
 
 pub returns-else-not-is_known-clause-taken : goal.returns-else-not-is_known-clause-taken
-returns-else-not-is_known-clause-taken c took criterion rules history by window states keeps =
+returns-else-not-is_known-clause-taken c took rules history window states keeps =
     let p = c.in-Ok-Ask.place in
     let next : IsNext c.args.kept.now.window c.args.event (Ask p) = rw c.in-Ok-Ask.field-0-is at c.in-Ok-Ask.ensures.ok in
     explained-fine rules history c.args.event c.args.kept.now _ keeps (Ask p) refl (λ begins. absurd (cc)) next
@@ -17,11 +17,11 @@ returns-else-not-is_known-clause-taken c took criterion rules history by window 
     (sym c.is_known.ensures.shown ∙ c.if-not-is_known.false) (asks-kept c.args.kept.now.witness c.args.kept.now.window c.args.event p) refl refl
 
 pub returns-in-Ok-End-clause-taken : goal.returns-in-Ok-End-clause-taken
-returns-in-Ok-End-clause-taken c took criterion = c.end_at_once.ensures.taken took criterion c.args.bounds.now
+returns-in-Ok-End-clause-taken c took = c.end_at_once.ensures.taken took c.args.bounds.now
 
 pub returns-in-Ok-Answer : goal.returns-in-Ok-Answer
 returns-in-Ok-Answer c = record {
-  taken = λ took criterion. c.answer_at_once.ensures.taken took criterion c.args.bounds.now;
+  taken = λ took. c.answer_at_once.ensures.taken took c.args.bounds.now;
   left = λ none rules history keeps. rw (c.answer_at_once.ensures.left none) keeps;
 }
 
@@ -47,10 +47,10 @@ add_at_once-requires c =
     }
 
 pub returns-in-Ok-Answer-default-Add-clause-taken : goal.returns-in-Ok-Answer-default-Add-clause-taken
-returns-in-Ok-Answer-default-Add-clause-taken c took criterion =
+returns-in-Ok-Answer-default-Add-clause-taken c took =
     let w = c.args.kept.now.window in
     let add = c.in-Ok-Answer-default-Add in
     let event : Kind → Event = λ kind. record { thread = c.args.event.thread; kind = kind } in
     let next : IsNext w c.args.event (Answer add.place (Add add.register add.added add.answer)) = rw (add.field-0-is, add.field-0-1-is) at add.ensures.ok in
-    subst (λ kind. StaysFine criterion c.args.bounds.now (event kind) c.args.kept.now c.add_at_once.new.kept)
-    (sym (answered w c.args.event add.place add.register add.added add.answer next)) (c.add_at_once.ensures.taken took criterion c.args.bounds.now)
+    subst (λ kind. StaysFine c.args.bounds.now (event kind) c.args.kept.now c.add_at_once.new.kept)
+    (sym (answered w c.args.event add.place add.register add.added add.answer next)) (c.add_at_once.ensures.taken took c.args.bounds.now)

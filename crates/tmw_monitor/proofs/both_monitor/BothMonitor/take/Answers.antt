@@ -1,5 +1,5 @@
 -- What was taken at once is fine by both criteria. What was not is kept as before.
-use Rattle.tmw_monitor.proofs.Shared.{Opacity, Strict, by, refl}
+use Rattle.tmw_monitor.proofs.Shared.{Opacity, Strict, by}
 use Rattle.tmw_monitor.proofs.BothKeep.{both-kept, both-next, keeps-one, keeps-strictly}
 use Rattle.tmw_monitor.proofs.both_monitor.BothMonitor.take.Goals.{else-self-via-then-self+then-is_known+else-take_at_once, else-self-via-then-self+else-is_known, else-self-via-else-self}
 use Rattle.tmw_monitor.proofs.both_monitor.BothMonitor.take.Goals as goal
@@ -9,8 +9,8 @@ returns-then-take_at_once c rules history fits =
     let old = c.args.self.now in
     let took = c.take_at_once.ensures.taken c.if-take_at_once.true in
     both-next rules history c.args.event old c.take_at_once.new.kept fits c.if-self.true
-    (took Opacity (by Opacity rules) history refl fits.opacity.window fits.opacity.states (keeps-one rules history old fits c.if-self.true))
-    (took Strict (by Strict rules) history refl fits.opacity.window fits.opacity.states (keeps-strictly rules history old fits c.if-self.true))
+    (took (by Opacity rules) history fits.opacity.window fits.opacity.states (keeps-one rules history old fits c.if-self.true))
+    (took (by Strict rules) history fits.opacity.window fits.opacity.states (keeps-strictly rules history old fits c.if-self.true))
 
 pub returns : goal.returns
 returns c rules history fits = c.take_whole.ensures rules history (elim c.else-self.branch [

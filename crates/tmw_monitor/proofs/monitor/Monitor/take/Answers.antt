@@ -24,7 +24,7 @@ pub returns-then-take_at_once-clause-feeds : goal.returns-then-take_at_once-clau
 returns-then-take_at_once-clause-feeds c judged_by history fits =
     let fine = fine-of judged_by history c.args.self.now (sym c.is_known.ensures.shown ∙ c.if-is_known.true) fits in
     fits-next judged_by history c.args.event c.args.self.now c.take_at_once.new.kept fits fine
-    (c.take_at_once.ensures.taken c.if-take_at_once.true c.args.self.now.criterion judged_by history fits.criterion fits.window fits.states (fits.keeps fine))
+    (c.take_at_once.ensures.taken c.if-take_at_once.true judged_by history fits.window fits.states (fits.keeps fine))
 
 pub returns-then-take_at_once-clause-keeps : goal.returns-then-take_at_once-clause-keeps
 returns-then-take_at_once-clause-keeps c judged_by history fits =
