@@ -22,13 +22,13 @@ export GLIBC_TUNABLES=glibc.cpu.hwcaps=-AVX2,-AVX_Fast_Unaligned_Load,-ERMS,-AVX
 # The most instructions an event, for each kind of run, by each of these words after `judge`. A run of `doomed` is strictly serializable alone.
 words=('' '--criterion strict' '--criterion both' '--first' '--summary')
 limits='
-serial    82.3 82.4 86.5 90.4 107.3
-calm      147.3 147.8 165.3 155.4 171.9
-wide      137.5 136.5 156.0 145.5 160.8
-long      79.6 79.6 83.7 87.8 93.2
-blind     298.2 298.4 323.8 306.2 326.9
-bench     87.4 87.4 91.4 95.4 108.7
-outcomes  246.7 246.7 250.4 254.7 268.0
+serial    82.3 82.4 86.5 90.4 106.1
+calm      147.3 147.8 165.3 155.4 171.2
+wide      137.5 136.5 156.0 145.5 160.4
+long      79.6 79.6 83.7 87.8 93.6
+blind     298.2 298.4 323.8 306.2 325.9
+bench     87.4 87.4 91.4 95.4 108.4
+outcomes  246.7 246.7 250.4 254.7 267.7
 doomed    - 130.6 - - -
 '
 
