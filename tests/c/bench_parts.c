@@ -156,9 +156,14 @@ static void check_changes(void)
     bench.orders = NULL;
 }
 
-/* Nothing has overlapped if that is so of each leg. */
+/* Nothing has overlapped if that is so of each leg. The last race stays, and what orders have shown last. */
 static void check_legs(void)
 {
+    tmwatch_benched sum = {.race = "1", .shown = "1"}, none = {0}, last = {.race = "2", .shown = "2"};
+    add_leg(&sum, &none);
+    CHECK(sum.race[0] == '1' && sum.shown[0] == '1');
+    add_leg(&sum, &last);
+    CHECK(sum.race[0] == '2' && sum.shown[0] == '2');
     for (unsigned legs = 0; legs < 8; legs++) {
         tmwatch_benched all = {0};
         for (unsigned i = 0; i < 3; i++) {
