@@ -1,22 +1,22 @@
-"""The sentences of `show --why`: one table of their forms, and a reader of the text. For enough.py.
+"""The sentences of `show --why`: a table of their forms, and a parser for the text. Used by enough.py.
 
-A form is a sentence with letters for what it names: A, B and C are transactions, V and W values, R a register, E an event. Its meaning is
-told by some of these words, each with the letters that it is about:
+A form is a sentence with letters for the things that it names: A, B and C are transactions, V and W values, R a register, E an event. Its
+meaning is described by some of the following words, each with its letters:
 
     ended    A B        A ended before B began
-    read     A R V      before its own changes A was answered V from register R
+    read     A R V      before its own changes, A read V from register R
     left     B R W      if the completion holds B, B leaves W in register R
-    source   B          where that read's value comes from: a transaction, START or NOBODY. By this word no undrawn transaction left it.
-    not_from B          where it does not come from, as the sentence concludes
-    unlike   A R W V    A was answered V, where its own earlier calls make the register W
-    put      A R V E    event E is A's, and sets register R to V
-    fate     STATUS     what became of that transaction, or `then`: it leaves another value or none
+    source   B          the source of that read's value: a transaction, START or NOBODY. With this word, no undrawn transaction left the value
+    not_from B          a transaction that is not its source, as the sentence concludes
+    unlike   A R W V    A read V, but its own earlier operations require W in register R
+    put      A R V E    event E belongs to A, and sets register R to V
+    fate     STATUS     the fate of that transaction, or `then`: it leaves another value or none
     stood    R V        one of the states has V in register R
     unput    R V        no event before the read of V that the next sentence names sets register R to V
-    cycle    A          nothing more: the orders that the sentences end in contradict each other
+    cycle    A          nothing more: the orders at the ends of the sentences contradict each other
 
-A sentence that ends in `: A before B` concludes that. A context is a line by itself, and holds for those after it until another does. The
-contexts of one read are all the sources that its value may have.
+A sentence that ends in `: A before B` concludes that order. A context is a line by itself, and applies to the following lines until the
+next one. The contexts of one read are all possible sources of its value.
 """
 import re
 from types import SimpleNamespace

@@ -1,5 +1,6 @@
 -- The origin of a value has a place in the window.
-use Rattle.tmw_reason.proofs.Shared.{All, All-filter, All-from_recursion, All-map, AllByRecursion, Err, Event, IfOk, IfSome, List, None, Ok, Option, Result, Some, Txn, [], answered_at, arith, cases_Bool, filter, inl, inr, is_call, last_of, latest, length, option_or, origin_at, origin_of, origins, own_calls, puts_before, recursion_from_All, slice_get, stays, suc, transactions, unwrap_or, zero, ℕ, ◌+◌, ◌-◌, ◌<◌, ◌∷◌, ◌≡◌, ◌≤◌}
+use Rattle.tmw_reason.proofs.Shared.{All, All-filter, All-from_recursion, All-map, AllByRecursion, Contains, Err, Event, IfOk, IfSome, List, None, Ok, Option, Result, Some, State, Txn, [], answered_at, arith, cases_Bool, eqb-true, filter, inl, inr, is_call, last_of, latest, length, option_or, or_cases, origin_at, origin_of, origins, own_calls, puts_before, recursion_from_All, refl, slice_get, slice_index, stays, suc, transactions, true, unwrap_or, zero, ℕ, ◌+◌, ◌-◌, ◌<◌, ◌==◌, ◌∷◌, ◌≡◌, ◌≤◌}
+use Rattle.tmw_reason.specs.Origins.{stands_in}
 use Rattle.tmw_kept.specs.Pieces.{calls, calls_from}
 use Rattle.tmw_kept.specs.declared.piece.Call.{Call}
 use Rattle.tmw_reason.specs.declared.origin.Origin.{Origin}
@@ -50,3 +51,15 @@ pub told-within : {E : Type 0} (events : List Event) (r v : ℕ) (expected : Opt
     → IfOk answer (λ found. IfSome found (λ (o : Origin). o.place < length events))
 told-within events r v expected reader (Ok found) is = rw is (origin-within events r v expected reader)
 told-within events r v expected reader (Err error) is = tt
+
+-- a state that has the value, where one does
+pub stands-one : (states : List State) (r v : ℕ) → stands_in states r v ≡ true
+    → (state : State) × Contains states state × (slice_index state r ≡ v)
+stands-one [] r v any = absurd (cc)
+stands-one (s ∷ states) r v any =
+    elim (or_cases (slice_index s r == v) _ any) [
+      | inl here ↦ (s, (0, omega arith, refl), eqb-true (slice_index s r) v here)
+      | inr later ↦
+          let more = stands-one states r v later in
+          (more.0, (suc more.1.0, omega (arith, more.1.1), more.1.2), more.2)
+    ]

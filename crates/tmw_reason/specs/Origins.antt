@@ -1,12 +1,17 @@
--- Who in a window wrote a value that a transaction read of a register, and what became of that write.
-use Rattle.tmw_reason.specs.Shared.{Aborted, Event, Live, Op, Status, Txn, known_after, left_by, list_any, operation, operations, option_or, owner, status_of, transactions, txn_at}
+-- Where a value comes from that a transaction read of a register: who in a window wrote it, and what became of that write; or a state.
+use Rattle.tmw_reason.specs.Shared.{Aborted, Contains, Event, Live, Op, State, Status, Txn, known_after, left_by, list_any, operation, operations, option_or, owner, status_of, transactions, txn_at}
+use Rattle.tmw_events.specs.declared.ix.Ix.{Ix}
 use Rattle.tmw_events.specs.declared.event.Kind.{Kind}
 use Rattle.tmw_events.specs.declared.event.Kind.TheVariants.{X}
 use Rattle.tmw_defs.specs.Part.{is_answered}
-use Rattle.std.specs.Prelude.{Bool, List, None, Option, Some, [], false, filter, if◌then◌else◌, length, map, nat_lt, not, slice_get, true, unwrap_or, ℕ, ◌&&◌, ◌-◌, ◌==◌, ◌∷◌}
+use Rattle.std.specs.Prelude.{Bool, List, None, Option, Some, [], false, filter, if◌then◌else◌, length, map, nat_lt, not, slice_get, slice_index, true, unwrap_or, ℕ, ⊤, ◌&&◌, ◌-◌, ◌<◌, ◌==◌, ◌∷◌, ◌≡◌}
 use Rattle.tmw_reason.specs.declared.origin.Fate.{Fate}
 use Rattle.tmw_reason.specs.declared.origin.Fate.TheVariants.{GivenUp, GivingUp, Unasked, Overwritten, Stays}
 use Rattle.tmw_reason.specs.declared.origin.Origin.{Origin}
+use Rattle.tmw_reason.specs.declared.origin.ReadOrigin.{ReadOrigin}
+use Rattle.tmw_reason.specs.declared.origin.ReadOrigin.TheVariants.{InState, ByCall}
+use Rattle.tmw_reason.specs.declared.reason_step.Contradiction.{Contradiction}
+use Rattle.tmw_reason.specs.declared.reason_step.Contradiction.TheVariants.{Cycle, NoSource, Unlike}
 use Rattle.tmw_kept.specs.declared.piece.Call.{Call}
 use Rattle.tmw_kept.specs.Pieces.{calls, puts}
 use Rattle.tmw_reason.specs.ReasonSteps.{is_some_of}
@@ -97,3 +102,33 @@ origin_of window r v expected reader =
     let ts = transactions window in
     let upto = unwrap_or (answered_at r v expected None (own_calls ts reader (calls window))) (length window) in
     latest (origins ts (calls window) r v reader upto)
+
+-- One of the states has the value in the register.
+abbrev pub stands_in : List State → ℕ → ℕ → Bool
+stands_in states r v = list_any (λ state. slice_index state r == v) states
+
+abbrev pub may_count : Option Origin → Bool
+may_count None = false
+may_count (Some origin) = stays origin.fate
+
+-- The value comes from a state, if one has it there and no call that may count put it there.
+abbrev pub read_origin : List State → Ix → ℕ → Option Origin → ReadOrigin
+read_origin states r v origin = if stands_in states r.number v && not (may_count origin) then InState r v else ByCall r v origin
+
+-- Where the value comes from that contradicts all orders from these states, if one does. One that nobody can have left is in no state.
+abbrev pub origin_in : List State → List Event → Contradiction → Option ReadOrigin
+origin_in states window (Cycle place) = None
+origin_in states window (NoSource reader r v) = Some (ByCall r v (origin_of window r.number v None reader))
+origin_in states window (Unlike reader r expected v) =
+    Some (read_origin states r v (origin_of window r.number v (Some expected) reader))
+
+-- What this says of a state is so of one of these.
+abbrev pub IsInOne : List State → ReadOrigin → Type 0
+IsInOne states (InState r v) = (state : State) × Contains states state × (slice_index state r.number ≡ v)
+IsInOne states (ByCall r v origin) = ⊤
+
+-- The call that it names is one of so many events.
+abbrev pub IsWithin : ℕ → ReadOrigin → Type 0
+IsWithin count (InState r v) = ⊤
+IsWithin count (ByCall r v None) = ⊤
+IsWithin count (ByCall r v (Some origin)) = origin.place < count

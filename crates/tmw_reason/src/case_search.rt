@@ -32,7 +32,11 @@ fn push_state(chosen: &mut Vec<State>, states: &[State], place: usize) -> Result
 }
 
 /// Returns the states at these places.
-fn states_at(alloc: Global, states: &[State], places: &[usize]) -> Result<Vec<State>, AllocError>
+pub(crate) fn states_at(
+    alloc: Global,
+    states: &[State],
+    places: &[usize],
+) -> Result<Vec<State>, AllocError>
     ensures { IfOk result (λ chosen. chosen.items ≡ states_at states.now places.now) }
 {
     let mut chosen = Vec::new(alloc);

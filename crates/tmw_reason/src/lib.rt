@@ -20,7 +20,7 @@ mod step_rules;
 // Where a value comes from.
 mod origin;
 
-pub use origin::{Fate, Origin, find_origin};
+pub use origin::{Fate, Origin, ReadOrigin, find_origin};
 pub use reason::{find_reason, law_reason};
 pub use reason_case::{Derivation, Reason, ReasonCase};
 pub use reason_step::{Contradiction, ReasonStep, ValueSource};

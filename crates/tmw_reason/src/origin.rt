@@ -1,8 +1,13 @@
 ghost use Rattle.std.specs.Prelude.{IfOk, IfSome, MatchOption, None, [], filter, length, ◌<◌, ◌==◌, ◌∷◌, ◌≡◌};
-ghost use Rattle.tmw_reason.specs.Origins.{answered_at, caller, fate_by, is_as_expected, latest, made, origin_at, origin_of, origins, own_calls, puts_before, stays};
+ghost use Rattle.tmw_reason.specs.Origins.{IsInOne, IsWithin, answered_at, caller, fate_by, is_as_expected, latest, made, may_count, origin_at, origin_in, origin_of, origins, own_calls, puts_before, read_origin, stays};
+ghost use Rattle.tmw_reason.specs.Reasons.{states_at};
 
+use crate::case_search::states_at;
+use crate::reason_case::ReasonCase;
+use crate::reason_step::Contradiction;
+use crate::step_rules::has_value;
 use std::alloc::{AllocError, Global};
-use tmw_cuts::operation;
+use tmw_cuts::{State, operation};
 use tmw_defs::{Op, Status};
 use tmw_events::{Event, Ix, Kind};
 use tmw_kept::{
@@ -33,6 +38,15 @@ pub struct Origin {
     /// The transaction's place among those of the window.
     pub writer: usize,
     pub fate: Fate,
+}
+
+/// Where a value comes from that a transaction read from this register, and that no serial order explains.
+#[derive(Clone, Copy)]
+pub enum ReadOrigin {
+    /// A state before the window has it there.
+    InState(Ix, u64),
+    /// This call of the window put it there, or none did.
+    ByCall(Ix, u64, Option<Origin>),
 }
 
 /// The operation that the call makes with what follows it in its thread.
@@ -176,7 +190,7 @@ fn latest(alloc: Global, origins: &[Origin]) -> Result<Option<Origin>, AllocErro
 /// Finds the last call of a window that may count, or else the last, that puts the value into the register before the
 /// reader, the transaction of this number, is first answered it; or, with an expected value, first where its own calls say
 /// that the register holds that. Of one that isn't answered it, the whole window is searched.
-pub fn find_origin(
+fn find_call(
     alloc: Global,
     events: &[Event],
     register: Ix,
@@ -194,4 +208,53 @@ pub fn find_origin(
     let upto = answered_at(register, value, expected, &own).unwrap_or(events.len());
     let origins = origins(alloc, &window, &calls, register, value, reader, upto)?;
     latest(alloc, &origins)
+}
+
+/// Whether a call that may count put it there.
+fn may_count(origin: Option<Origin>) -> bool
+    ensures { result ≡ may_count origin }
+{
+    origin.is_some_and(|found| found.fate == Fate::Stays)
+}
+
+/// Returns where the value in the register comes from: from a state, if one of these has it there and no call that may count
+/// put it there.
+fn read_origin(states: &[State], register: Ix, value: u64, origin: Option<Origin>) -> ReadOrigin
+    ensures is { result ≡ read_origin states.now register value origin }
+    ensures state { IsInOne states.now result }
+{
+    if has_value(states, register.get(), value) && !may_count(origin) {
+        ReadOrigin::InState(register, value)
+    } else {
+        ReadOrigin::ByCall(register, value, origin)
+    }
+}
+
+/// Finds where the value comes from that a derivation of the case ends with, if it ends with a read. A fact about a state is
+/// valid in the case's own states: another case of the window may not have it. It fails only if an allocation does.
+pub fn find_origin(
+    alloc: Global,
+    states: &[State],
+    events: &[Event],
+    case: &ReasonCase,
+    end: &Contradiction,
+) -> Result<Option<ReadOrigin>, AllocError>
+    ensures is { IfOk result (λ found. found
+        ≡ origin_in (states_at states.now case.now.states.items) events.now end.now) }
+    ensures state { IfOk result (λ found. IfSome found
+        (IsInOne (states_at states.now case.now.states.items))) }
+    ensures within { IfOk result (λ found. IfSome found (IsWithin (length events.now))) }
+{
+    match *end {
+        Contradiction::Cycle(_place) => Ok(None),
+        Contradiction::NoSource(reader, register, value) => {
+            let origin = find_call(alloc, events, register, value, None, reader)?;
+            Ok(Some(ReadOrigin::ByCall(register, value, origin)))
+        }
+        Contradiction::Unlike(reader, register, expected, read) => {
+            let origin = find_call(alloc, events, register, read, Some(expected), reader)?;
+            let own = states_at(alloc, states, &case.states)?;
+            Ok(Some(read_origin(&own, register, read, origin)))
+        }
+    }
 }

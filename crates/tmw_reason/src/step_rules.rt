@@ -31,7 +31,7 @@ fn has_place(judged: &Question, steps: &[ReasonStep], place: usize) -> bool
 }
 
 /// Whether one of the states has this value in the register.
-fn has_value(states: &[State], register: u8, value: u64) -> bool
+pub(crate) fn has_value(states: &[State], register: u8, value: u64) -> bool
     requires { register < 8 }
     ensures { result ≡ list_any (λ state. slice_index state register == value) states.now }
 {

@@ -1,12 +1,16 @@
 -- The sentences that tell why a window is violated. Values that are among some have names.
 use Rattle.tmw_show.specs.Shared.{Event, Reason, State, ValueSource, decimal, flat_map, line, list_any, name_text, value_text}
-use Rattle.std.specs.Prelude.{Bool, List, None, Option, Some, [], codes, drop, false, if◌then◌else◌, length, min, nat_lt, not, slice_index, take, true, ℕ, ◌&&◌, ◌++◌, ◌+◌, ◌==◌, ◌∷◌}
+use Rattle.std.specs.Prelude.{Bool, List, None, Option, Some, [], codes, drop, false, if◌then◌else◌, length, min, nat_lt, take, true, ℕ, ◌++◌, ◌+◌, ◌∷◌}
 use Rattle.tmw_events.specs.declared.ix.Ix.{Ix}
-use Rattle.tmw_reason.specs.Origins.{origin_of, stays}
+use Rattle.tmw_reason.specs.Origins.{origin_in}
+use Rattle.tmw_reason.specs.ReasonSteps.{gives}
+use Rattle.tmw_reason.specs.Reasons.{states_at}
 use Rattle.tmw_reason.specs.declared.origin.Fate.{Fate}
 use Rattle.tmw_reason.specs.declared.origin.Fate.TheVariants.{GivenUp, GivingUp, Unasked, Overwritten, Stays}
 use Rattle.tmw_reason.specs.declared.reason_step.ReasonStep.TheVariants.{RealTime, From, TooLate, ReadFirst, ChangedFirst, Through}
 use Rattle.tmw_reason.specs.declared.origin.Origin.{Origin}
+use Rattle.tmw_reason.specs.declared.origin.ReadOrigin.{ReadOrigin}
+use Rattle.tmw_reason.specs.declared.origin.ReadOrigin.TheVariants.{InState, ByCall}
 use Rattle.tmw_reason.specs.declared.reason_case.Derivation.{Derivation}
 use Rattle.tmw_reason.specs.declared.reason_case.ReasonCase.{ReasonCase}
 use Rattle.tmw_reason.specs.declared.reason_step.Contradiction.{Contradiction}
@@ -24,15 +28,20 @@ source_text values s (Some writer) =
     read_text values s
     ++ (codes ", which only " ++ (name_text writer ++ (codes "'s commit can have left: " ++ before_text writer s.reader)))
 
--- The reader stands before the rival, which leaves another value.
-abbrev pub read_first_text : List ℕ → ValueSource → ℕ → ℕ → List ℕ
-read_first_text values s rival left = read_text values s ++ first_text s.writer
+-- The reader stands before the rival, which leaves another value. That only the start can have left what was read is said only if it is not
+-- assumed that the start did: another transaction may have left it then.
+abbrev pub read_first_text : List ℕ → Bool → ValueSource → ℕ → ℕ → List ℕ
+read_first_text values is_assumed s rival left = read_text values s ++ first_text s.writer is_assumed
   where
-    first_text : Option ℕ → List ℕ
-    first_text None =
+    where_text : List ℕ
+    where_text = codes ", where " ++ (left_text values rival left ++ (codes ": " ++ before_text s.reader rival))
+
+    first_text : Option ℕ → Bool → List ℕ
+    first_text None false =
         codes ", which only the start can have left, and "
         ++ (left_text values rival left ++ (codes " there: " ++ before_text s.reader rival))
-    first_text (Some writer) = codes ", where " ++ (left_text values rival left ++ (codes ": " ++ before_text s.reader rival))
+    first_text None true = where_text
+    first_text (Some writer) assumed = where_text
 
 -- The rival stands before the source's writer.
 abbrev pub changed_first_text : List ℕ → ℕ → ℕ → ValueSource → List ℕ
@@ -44,19 +53,19 @@ changed_first_text values rival left s =
     ++ (name_text s.reader
     ++ (codes " read " ++ (value_text values s.value ++ (codes ": " ++ (name_text rival ++ (codes " before " ++ writer_text s.writer)))))))))
 
--- The sentence of a step. What follows through a third transaction is in the sentences of the others, and that a value stood there from the
--- start is in the sentence that tells who changed it.
-abbrev pub step_text : List ℕ → ReasonStep → List ℕ
-step_text values (RealTime one other) =
+-- The sentence of a step, if these steps are assumed. What follows through a third transaction is in the sentences of the others, and that a
+-- value stood there from the start is in the sentence that tells who changed it.
+abbrev pub step_text : List ℕ → List ReasonStep → ReasonStep → List ℕ
+step_text values assumed (RealTime one other) =
     name_text one ++ (codes " ended before " ++ (name_text other ++ (codes " began: " ++ before_text one other)))
-step_text values (From s) = source_text values s s.writer
-step_text values (TooLate s) = read_text values s ++ (codes ", not from " ++ (writer_text s.writer ++ codes ", which comes after it"))
-step_text values (Overwritten s rival left) =
+step_text values assumed (From s) = source_text values s s.writer
+step_text values assumed (TooLate s) = read_text values s ++ (codes ", not from " ++ (writer_text s.writer ++ codes ", which comes after it"))
+step_text values assumed (Overwritten s rival left) =
     read_text values s
     ++ (codes ", not from " ++ (writer_text s.writer ++ (codes ": " ++ (left_text values rival left ++ codes " there in between"))))
-step_text values (ReadFirst s rival left) = read_first_text values s rival left
-step_text values (ChangedFirst rival left s) = changed_first_text values rival left s
-step_text values (Through one between other) = []
+step_text values assumed (ReadFirst s rival left) = read_first_text values (list_any (gives s) assumed) s rival left
+step_text values assumed (ChangedFirst rival left s) = changed_first_text values rival left s
+step_text values assumed (Through one between other) = []
 
 -- What is assumed: that a value comes from there.
 abbrev pub assumption_text : List ℕ → ReasonStep → List ℕ
@@ -94,31 +103,18 @@ origin_text values before register value (Some origin) =
     ++ (codes " to "
     ++ (value_text values value ++ (codes " at event " ++ (decimal (before + (origin.place + 1)) ++ fate_text origin.fate))))))
 
--- A state has it there, unless one that may count put it there.
-abbrev pub stands_in : List State → ℕ → ℕ → Bool
-stands_in states register value = list_any (λ state. slice_index state register == value) states
-
-abbrev pub may_count : Option Origin → Bool
-may_count None = false
-may_count (Some origin) = stays origin.fate
-
 abbrev pub start_text : List ℕ → ℕ → ℕ → List ℕ
 start_text values register value = codes "a state has " ++ (value_text values value ++ (codes " in register " ++ decimal register))
 
-abbrev pub coming_text : List ℕ → ℕ → List State → ℕ → ℕ → Option Origin → List ℕ
-coming_text values before states register value origin =
-    if stands_in states register value && not (may_count origin)
-    then start_text values register value
-    else origin_text values before register value origin
+-- The sentence of where the value comes from of the read that no order explains, if there is one.
+abbrev pub read_origin_text : List ℕ → ℕ → Option ReadOrigin → List ℕ
+read_origin_text values before None = []
+read_origin_text values before (Some (InState register value)) = start_text values register.number value
+read_origin_text values before (Some (ByCall register value origin)) = origin_text values before register.number value origin
 
--- So of the value that the transaction at this place of the window read and that no order explains, if there is one; if a value is
--- `expected`, while its own calls made the register that.
-abbrev pub told_by : List ℕ → ℕ → List State → List Event → Contradiction → List ℕ
-told_by values before states window (Cycle place) = []
-told_by values before states window (NoSource reader register value) =
-    origin_text values before register.number value (origin_of window register.number value None reader)
-told_by values before states window (Unlike reader register expected read) =
-    coming_text values before states register.number read (origin_of window register.number read (Some expected) reader)
+-- So it is of a derivation of a case: what it says of a state is so in one of the case's own states.
+abbrev pub told_by : List ℕ → ℕ → List State → List Event → ReasonCase → Contradiction → List ℕ
+told_by values before states window case end = read_origin_text values before (origin_in (states_at states case.states.items) window end)
 
 -- A sentence with what stands around it, unless it is empty.
 abbrev pub framed : Frame → List ℕ → List ℕ
@@ -126,27 +122,28 @@ framed frame [] = []
 framed Line (code ∷ sentence) = line (codes "    why    " ++ code ∷ sentence)
 framed Clause (code ∷ sentence) = (code ∷ sentence) ++ codes "; "
 
--- So it is told of a step that is assumed, and of one that is not.
-abbrev pub told_text : Bool → List ℕ → ReasonStep → List ℕ
-told_text true values step = assumption_text values step
-told_text false values step = step_text values step
+-- So it is told of a step that is assumed, and of one that is not, if these are assumed.
+abbrev pub told_text : Bool → List ReasonStep → List ℕ → ReasonStep → List ℕ
+told_text true assumed values step = assumption_text values step
+told_text false assumed values step = step_text values assumed step
 
 -- The sentences of steps, of which so many are assumed.
 abbrev pub steps_from : Frame → List ℕ → ℕ → List ReasonStep → List ℕ
 steps_from frame values first steps =
-    flat_map (λ step. framed frame (told_text true values step)) (take first steps)
-    ++ flat_map (λ step. framed frame (told_text false values step)) (drop first steps)
+    flat_map (λ step. framed frame (told_text true (take first steps) values step)) (take first steps)
+    ++ flat_map (λ step. framed frame (told_text false (take first steps) values step)) (drop first steps)
 
 abbrev pub steps_text : Frame → List ℕ → ℕ → List ReasonStep → List ℕ
 steps_text frame values assumed steps = steps_from frame values (min assumed (length steps)) steps
 
 -- What the steps come to: where a value comes from that no order explains, if it has one, and that.
-abbrev pub ending_text : Frame → List ℕ → ℕ → List State → List Event → Contradiction → List ℕ
-ending_text frame values before states window end = framed frame (told_by values before states window end) ++ framed frame (end_text values end)
+abbrev pub ending_text : Frame → List ℕ → ℕ → List State → List Event → ReasonCase → Contradiction → List ℕ
+ending_text frame values before states window case end =
+    framed frame (told_by values before states window case end) ++ framed frame (end_text values end)
 
-abbrev pub derivation_text : Frame → List ℕ → ℕ → List State → List Event → Derivation → List ℕ
-derivation_text frame values before states window d =
-    steps_text frame values d.assumed d.steps.items ++ ending_text frame values before states window d.end
+abbrev pub derivation_text : Frame → List ℕ → ℕ → List State → List Event → ReasonCase → Derivation → List ℕ
+derivation_text frame values before states window case d =
+    steps_text frame values d.assumed d.steps.items ++ ending_text frame values before states window case d.end
 
 -- For which states a case is said.
 abbrev pub state_item : ℕ → List ℕ
@@ -157,7 +154,8 @@ header_text places = codes "from" ++ (drop 1 (flat_map state_item places) ++ cod
 
 -- So it is for each derivation of a case, behind that where there are several cases.
 abbrev pub derivations_text : Frame → List ℕ → ℕ → List State → List Event → ReasonCase → List ℕ
-derivations_text frame values before states window case = flat_map (derivation_text frame values before states window) case.derivations.items
+derivations_text frame values before states window case =
+    flat_map (derivation_text frame values before states window case) case.derivations.items
 
 abbrev pub case_text : Frame → List ℕ → ℕ → List State → List Event → Bool → ReasonCase → List ℕ
 case_text frame values before states window false case = derivations_text frame values before states window case

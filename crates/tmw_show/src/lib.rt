@@ -2,6 +2,7 @@
 //! columns, as traces of its own, or drawn by a page of HTML.
 #![tactic(auto)]
 
+mod assumed_source;
 mod form_text;
 mod frame;
 mod laws;

@@ -1,12 +1,11 @@
 //! The sentence that tells where a value comes from that no serial order explains.
 ghost use Rattle.tmw_show.specs.Shared.{members};
 ghost use Rattle.std.specs.Prelude.{IfOk, IfSome, length, string_bytes, ◌+◌, ◌<◌, ◌^◌, ◌≡◌};
-ghost use Rattle.tmw_show.specs.Sentences.{coming_text, fate_text, may_count, origin_text, stands_in, start_text, told_by};
+ghost use Rattle.tmw_show.specs.Sentences.{fate_text, origin_text, start_text, told_by};
 
 use std::alloc::{AllocError, Global};
-use tmw_cuts::State;
 use tmw_events::Ix;
-use tmw_reason::{Contradiction, Fate, Origin, find_origin};
+use tmw_reason::{Contradiction, Fate, Origin, ReadOrigin, ReasonCase, find_origin};
 use tmw_texts::{TransactionName, Value};
 use tmw_window::ShownWindow;
 
@@ -48,21 +47,6 @@ fn origin_text(
     format!(in alloc; "{writer} set register {register} to {value} at event {event}{fate}")
 }
 
-/// Whether the value stands in the register in one of the states.
-fn stands_in(states: &[State], register: u8, value: u64) -> bool
-    requires { register < 8 }
-    ensures { result ≡ stands_in states.now register value }
-{
-    states.iter().any(|state| state[register as usize] == value)
-}
-
-/// Whether one that may count put it there.
-fn may_count(origin: Option<Origin>) -> bool
-    ensures { result ≡ may_count origin }
-{
-    origin.is_some_and(|found| found.fate == Fate::Stays)
-}
-
 /// Tells that a state has the value in the register.
 fn start_text(alloc: Global, values: &[u64], register: u8, value: u64) -> Result<String, AllocError>
     ensures { IfOk result (λ text. string_bytes text ≡ start_text values.now register value) }
@@ -71,50 +55,27 @@ fn start_text(alloc: Global, values: &[u64], register: u8, value: u64) -> Result
     format!(in alloc; "a state has {value} in register {register}")
 }
 
-/// Tells where a value comes from: from a state, if one has it there and none that may count put it there.
-fn coming_text(
-    alloc: Global,
-    values: &[u64],
-    before: u128,
-    states: &[State],
-    register: Ix,
-    value: u64,
-    origin: Option<Origin>,
-) -> Result<String, AllocError>
-    requires { IfSome origin (λ found. before + (found.place + 1) < 2 ^ 128) }
-    ensures { IfOk result (λ text. string_bytes text
-        ≡ coming_text values.now before states.now register.number value origin) }
-{
-    if stands_in(states, register.get(), value) && !may_count(origin) {
-        return start_text(alloc, values, register.get(), value);
-    }
-    origin_text(alloc, values, before, register, value, origin)
-}
-
-/// Returns the text that tells where the value comes from of the read that no order explains, if what the steps come to
-/// has one. So many events stand before the window. These values have names.
+/// Returns the text that tells where the value comes from of the read that no order explains, if this derivation of the case
+/// ends with one. So many events stand before the window. These values have names.
 pub fn told_by(
     alloc: Global,
     values: &[u64],
     before: u128,
     showing: &ShownWindow,
+    case: &ReasonCase,
     end: &Contradiction,
 ) -> Result<String, AllocError>
     requires { before + length showing.now.events.items < 2 ^ 128 }
     ensures { let w = showing.now in IfOk result (λ text. string_bytes text
-        ≡ told_by values.now before (members w.states) w.events.items end.now) }
+        ≡ told_by values.now before (members w.states) w.events.items case.now end.now) }
 {
-    let events = &showing.events;
-    match *end {
-        Contradiction::Cycle(_place) => Ok(String::new(alloc)),
-        Contradiction::NoSource(reader, register, value) => {
-            let origin = find_origin(alloc, events, register, value, None, reader)?;
-            origin_text(alloc, values, before, register, value, origin)
+    match find_origin(alloc, showing.states.states(), &showing.events, case, end)? {
+        None => Ok(String::new(alloc)),
+        Some(ReadOrigin::InState(register, value)) => {
+            start_text(alloc, values, register.get(), value)
         }
-        Contradiction::Unlike(reader, register, expected, read) => {
-            let origin = find_origin(alloc, events, register, read, Some(expected), reader)?;
-            let states = showing.states.states();
-            coming_text(alloc, values, before, states, register, read, origin)
+        Some(ReadOrigin::ByCall(register, value, origin)) => {
+            origin_text(alloc, values, before, register, value, origin)
         }
     }
 }

@@ -1,13 +1,14 @@
 //! The sentences that tell why a window is violated. Values that are among some have names.
-ghost use Rattle.tmw_show.specs.Shared.{flat_map, members};
+ghost use Rattle.tmw_show.specs.Shared.{members};
 ghost use Rattle.std.specs.Prelude.{IfOk, OnOk, length, string_bytes, ◌++◌, ◌+◌, ◌<◌, ◌^◌, ◌≡◌};
-ghost use Rattle.tmw_show.specs.Sentences.{assumption_text, case_text, changed_first_text, derivation_text, end_text, ending_text, framed, header_text, read_first_text, reason_text, source_text, state_item, step_text, steps_text, told_text};
+ghost use Rattle.tmw_show.specs.Sentences.{assumption_text, case_text, changed_first_text, derivations_text, end_text, ending_text, framed, header_text, read_first_text, reason_text, source_text, state_item, step_text, steps_text, told_text};
 
+use crate::assumed_source::is_assumed;
 use crate::frame::Frame;
 use crate::origin_sentence::told_by;
 use crate::sentence_parts::{Before, Left, Read, Writer};
 use std::alloc::{AllocError, Global};
-use tmw_reason::{Contradiction, Derivation, Reason, ReasonCase, ReasonStep, ValueSource};
+use tmw_reason::{Contradiction, Reason, ReasonCase, ReasonStep, ValueSource};
 use tmw_texts::{ItemText, TransactionName, Value, push_each, push_list};
 use tmw_window::ShownWindow;
 
@@ -49,25 +50,25 @@ fn push_case(
     if several {
         push_header(text, frame, &case.states)?;
     }
-    push_derivations(text, frame, values, before, showing, &case.derivations)
+    push_derivations(text, frame, values, before, showing, case)
 }
 
-/// Adds the sentences of each derivation.
+/// Adds the sentences of each derivation of the case.
 fn push_derivations(
     text: &mut Vec<u8>,
     frame: Frame,
     values: &[u64],
     before: u128,
     showing: &ShownWindow,
-    derivations: &[Derivation],
+    case: &ReasonCase,
 ) -> Result<(), AllocError>
     requires { before + length showing.now.events.items < 2 ^ 128 }
-    ensures { let w = showing.now in OnOk result (text.new.items ≡ text.old.items ++ flat_map
-        (derivation_text frame values.now before (members w.states) w.events.items) derivations.now) }
+    ensures { let w = showing.now in OnOk result (text.new.items ≡ text.old.items
+        ++ derivations_text frame values.now before (members w.states) w.events.items case.now) }
 {
-    for derivation in derivations {
+    for derivation in &case.derivations {
         push_steps(text, frame, values, derivation.assumed, &derivation.steps)?;
-        push_end(text, frame, values, before, showing, &derivation.end)?;
+        push_end(text, frame, values, before, showing, case, &derivation.end)?;
     }
     Ok(())
 }
@@ -87,9 +88,10 @@ fn push_steps(
     let assumption = StepText {
         frame,
         values,
+        assumed: &steps[..first],
         is_assumed: true,
     };
-    push_each(text, &assumption, &steps[..first])?;
+    push_each(text, &assumption, assumption.assumed)?;
     let step = StepText {
         is_assumed: false,
         ..assumption
@@ -97,43 +99,47 @@ fn push_steps(
     push_each(text, &step, &steps[first..])
 }
 
-/// Adds the sentences of what the steps come to: where the value comes from that no order explains, and that.
+/// Adds the sentences of what the steps come to: where the value comes from that no order from the case's states explains,
+/// and that.
 fn push_end(
     text: &mut Vec<u8>,
     frame: Frame,
     values: &[u64],
     before: u128,
     showing: &ShownWindow,
+    case: &ReasonCase,
     end: &Contradiction,
 ) -> Result<(), AllocError>
     requires { before + length showing.now.events.items < 2 ^ 128 }
     ensures { let w = showing.now in OnOk result (text.new.items ≡ text.old.items
-        ++ ending_text frame values.now before (members w.states) w.events.items end.now) }
+        ++ ending_text frame values.now before (members w.states) w.events.items case.now end.now) }
 {
     let alloc = *text.allocator();
-    let told = told_by(alloc, values, before, showing, end)?;
+    let told = told_by(alloc, values, before, showing, case, end)?;
     push_sentence(text, frame, &told)?;
     let end = end_text(alloc, values, end)?;
     push_sentence(text, frame, &end)
 }
 
-/// The sentence of a step that is assumed, or of one that follows.
+/// The sentence of a step that is assumed, or of one that follows from the steps that are assumed.
 #[derive(Drop)]
 struct StepText<'a> {
     frame: Frame,
     values: &'a [u64],
+    assumed: &'a [ReasonStep],
     is_assumed: bool,
 }
 
 impl ItemText<ReasonStep> for StepText<'_> {
-    ghost part = { λ own step. framed own.frame (told_text own.is_assumed own.values.now step) };
+    ghost part = { λ own step.
+        framed own.frame (told_text own.is_assumed own.assumed.now own.values.now step) };
 
     fn push(&self, text: &mut Vec<u8>, step: &ReasonStep) -> Result<(), AllocError> {
         let alloc = *text.allocator();
         let sentence = if self.is_assumed {
             assumption_text(alloc, self.values, step)?
         } else {
-            step_text(alloc, self.values, step)?
+            step_text(alloc, self.values, self.assumed, step)?
         };
         push_sentence(text, self.frame, &sentence)
     }
@@ -203,24 +209,26 @@ fn source_text(alloc: Global, values: &[u64], source: &ValueSource) -> Result<St
     format!(in alloc; "{read}, which only {writer}'s commit can have left: {so}")
 }
 
-/// Tells that the reader stands before the rival, which leaves another value.
+/// Returns the sentence that the reader stands before the rival, which leaves another value. Of a source that is assumed, the
+/// sentence does not say that only the start can have left the value.
 fn read_first_text(
     alloc: Global,
     values: &[u64],
+    is_assumed: bool,
     source: &ValueSource,
     rival: usize,
     left: u64,
 ) -> Result<String, AllocError>
     ensures { IfOk result (λ text. string_bytes text
-        ≡ read_first_text values.now source.now rival left) }
+        ≡ read_first_text values.now is_assumed source.now rival left) }
 {
     let (read, so) = (Read(values, *source), Before(source.reader, rival));
     let left = Left(values, rival, left);
-    match source.writer {
-        None => format!(in alloc;
+    match (source.writer, is_assumed) {
+        (None, false) => format!(in alloc;
             "{read}, which only the start can have left, and {left} there: {so}"
         ),
-        Some(_writer) => format!(in alloc; "{read}, where {left}: {so}"),
+        (None, true) | (Some(_), _) => format!(in alloc; "{read}, where {left}: {so}"),
     }
 }
 
@@ -243,9 +251,15 @@ fn changed_first_text(
     )
 }
 
-/// Returns the sentence of a step.
-fn step_text(alloc: Global, values: &[u64], step: &ReasonStep) -> Result<String, AllocError>
-    ensures { IfOk result (λ text. string_bytes text ≡ step_text values.now step.now) }
+/// Returns the sentence of a step, if these steps are assumed.
+fn step_text(
+    alloc: Global,
+    values: &[u64],
+    assumed: &[ReasonStep],
+    step: &ReasonStep,
+) -> Result<String, AllocError>
+    ensures { IfOk result
+        (λ text. string_bytes text ≡ step_text values.now assumed.now step.now) }
 {
     match *step {
         ReasonStep::RealTime(one, other) => {
@@ -264,7 +278,8 @@ fn step_text(alloc: Global, values: &[u64], step: &ReasonStep) -> Result<String,
             format!(in alloc; "{read}, not from {writer}: {left} there in between")
         }
         ReasonStep::ReadFirst(source, rival, left) => {
-            read_first_text(alloc, values, &source, rival, left)
+            let is_assumed = is_assumed(assumed, &source);
+            read_first_text(alloc, values, is_assumed, &source, rival, left)
         }
         ReasonStep::ChangedFirst(rival, left, source) => {
             changed_first_text(alloc, values, rival, left, &source)

@@ -1,5 +1,5 @@
 use Rattle.tmw_reason.proofs.OriginsProof.{told-within}
-use Rattle.tmw_reason.proofs.origin.find_origin.Goals as goal
+use Rattle.tmw_reason.proofs.origin.find_call.Goals as goal
 
 pub returns-clause-is : goal.returns-clause-is
 returns-clause-is c =
