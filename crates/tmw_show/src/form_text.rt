@@ -66,7 +66,7 @@ fn drawn_text(
     push_window(&mut text, told, earlier, &marks, &showing.events)?;
     let kept = kept_of(alloc, &marks, &showing.events)?;
     let values = long_values(alloc, &kept)?;
-    push_reason_of(&mut text, earlier, &values, shown)?;
+    push_reason_of(&mut text, earlier, values.values(), shown)?;
     Ok(text)
 }
 

@@ -1,6 +1,8 @@
 -- Short names for long values: v1, v2 .. in the order in which they appear among the events that are shown.
 use Rattle.tmw_texts.specs.Shared.{Event, decimal, kind_text, list_any}
-use Rattle.std.specs.Prelude.{Bool, List, None, Option, Some, [], codes, if◌then◌else◌, nat_lt, position, ℕ, ◌++◌, ◌+◌, ◌==◌, ◌||◌, ◌∷◌}
+use Rattle.std.specs.BTreeMap.{BTreeMap, get}
+use Rattle.std.specs.Ordering.{nat_cmp}
+use Rattle.std.specs.Prelude.{Bool, List, None, Option, Some, [], codes, if◌then◌else◌, nat_lt, position, ℕ, ◌++◌, ◌+◌, ◌==◌, ◌||◌, ◌∷◌, ◌≡◌}
 use Rattle.tmw_events.specs.declared.event.Kind.{Kind}
 use Rattle.tmw_events.specs.declared.event.Kind.TheVariants.{N, V, W}
 
@@ -30,6 +32,10 @@ values_after values (event ∷ events) = values_after (with_kind values event.ki
 
 abbrev pub long_values : List Event → List ℕ
 long_values events = values_after [] events
+
+-- Of each value the map has the place among these, if it is one of them.
+abbrev pub HasPlaces : List ℕ → BTreeMap ℕ ℕ → Type 0
+HasPlaces values places = (value : ℕ) → get nat_cmp places value ≡ position (λ other. other == value) values
 
 -- a value: by its name, if it is the long one at this place
 abbrev pub named : ℕ → Option ℕ → List ℕ

@@ -17,4 +17,4 @@ pub use numbers::{push_blanks, push_values};
 pub use state_line::StateLine;
 pub use traces::push_traces;
 pub use transaction_names::{TransactionName, push_label};
-pub use value_names::{Value, long_values, push_names, push_shown};
+pub use value_names::{LongValues, Value, long_values, push_names, push_shown};
