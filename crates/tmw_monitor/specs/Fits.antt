@@ -35,9 +35,10 @@ abbrev pub TellsWrong : Rules → List Event → HistoryDigest → Option Verdic
 TellsWrong rules history kept None = IsVerdict rules history (so_far rules.criterion) × Keeps rules history kept
 TellsWrong rules history kept (Some verdict) = IsVerdict rules history verdict × (verdict ≡ so_far rules.criterion → ⊥)
 
--- Nothing is kept: no state, no transaction and no serial order.
+-- Nothing is kept: no state, none found, no transaction and no serial order.
 pub record KeepsNothing (kept : HistoryDigest) : Type 0 where
   pub states : members kept.states ≡ []
+  pub found : members kept.found.ends ≡ []
   pub transactions : views kept.window ≡ []
   pub order : kept.witness.known ≡ false
 

@@ -22,7 +22,8 @@ pub record HoldsOpen (rules : Rules) (history : List Event) (kept : HistoryDiges
   pub transactions : views kept.window ≡ views_of (drop cut history)
   pub turns : (thread : ℕ) → thread < 8 → found_in (turn_at kept.window thread) ≡ find_open thread (told.transactions (drop cut history))
 
--- The states and the window of the monitor are those of the open window alone; after a final verdict there is no state, no transaction and no serial order.
+-- The states and the window of the monitor are those of the open window alone; after a final verdict there is no state, no end state that a search
+-- found, no transaction and no serial order.
 -- That it keeps no event is seen in the fields of its types.
 pub record KeepsOnlyOpen (rules : Rules) (history : List Event) (monitor : Monitor) : Type 0 where
   pub holds : IsOpen monitor → HoldsOpen rules history (kept_of monitor)

@@ -47,7 +47,7 @@ impl HistoryDigest {
         begin_again(&mut self.witness, &self.states);
     }
 
-    /// Forgets the history. Where the threads are stays.
+    /// Forgets the history, with the ends that a search found. Where the threads are stays.
     #[cold]
     #[inline(never)]
     pub fn forget(&mut self)
@@ -56,6 +56,8 @@ impl HistoryDigest {
             → Follows registers history self.old.window → Follows registers history self.new.window }
     {
         self.states.clear();
+        let cap = self.found.cap;
+        self.found.begin(cap);
         self.window.clear();
         self.witness.forget();
     }

@@ -24,5 +24,5 @@ returns-then-not-is_so_far-clause-feeds c judged_by history fits =
     let n : c.args.self.now.count ≡ length history = fits.counted in
     let nothing = fits.forgets final in
     fits-final judged_by history c.args.event c.args.self.now _ _ fits final
-    (record { states = nothing.states; transactions = c.follow.ensures.shown ∙ nothing.transactions; order = nothing.order })
+    (record { states = nothing.states; found = nothing.found; transactions = c.follow.ensures.shown ∙ nothing.transactions; order = nothing.order })
     (c.follow.ensures.tells judged_by.registers history (omega (arith, n)) (fits.breaks final))
