@@ -1,7 +1,11 @@
 -- Judging a trace: its first line is read, then its events are fed, and what was told is what was read.
-use Rattle.tmw_judge.proofs.Shared.{AreOpen, Asked, Bool, Bounds, ByCriterion, CountsFor, End, Err, Event, FailsBehind, FeedsEvents, FromSource, HasFaultFor, Header, IsBeginning, IsFirstText, IsReadFor, IsTrue, IsWholeText, Judges, Lines, List, Ok, QuotesHeld, QuotesLine, Reached, ReadsBeginning, Stop, Tells, Tells-more, TextFault, ToSink, Verdict, Version, [], any_open, false, fault_of, format_by, front_of, inl, inr, number_of, quoted-behind, quoted-first, refl, trace_grammar, true, unread_bytes, verdicts_of, ℕ, ◌++◌, ◌≡◌}
+use Rattle.tmw_judge.proofs.Shared.{AreOpen, Asked, Bool, Bounds, ByCriterion, CountsFor, End, Err, Event, FailsBehind, FeedsEvents, FromSource, HasFaultFor, HasReadFirstLine, Header, IsBeginning, IsFirstText, IsReadFor, IsTrue, IsWholeText, Judges, Lines, List, Ok, QuotesHeld, QuotesLine, Reached, ReadsBeginning, Stop, Tells, Tells-more, TextFault, ToSink, Verdict, Version, [], any_open, false, fault_of, format_by, front_of, inl, inr, number_of, quoted-behind, quoted-first, refl, trace_grammar, true, unread_bytes, verdicts_of, ℕ, ◌++◌, ◌≡◌}
 use Rattle.tmw_lines.proofs.TextsRead.{soon-behind, text_fault-first}
 use Rattle.tmw_lines.proofs.LinesRead.{text_fault-behind}
+use Rattle.tmw_lines.specs.NextLine.{HasLineFault}
+use Rattle.tmw_lines.specs.TextFault.{HasFirstLineFault}
+use Rattle.tmw_lines.specs.declared.text_fault.TextFault.TheVariants.{BadHeader, BadLine, Cut, Io, Memory as WantsMemory, TooLong}
+use Rattle.tmw_report.specs.declared.fault.Fault.TheVariants.{Memory}
 use Rattle.tmw_report.specs.CommandRun.{AnswersTextFault}
 use Rattle.tmw_judge.proofs.AnswerParts.{AreJudgesOf}
 use Rattle.tmw_judge.proofs.FirstOpen.{AreOpenBefore-none, open-fed}
@@ -53,6 +57,34 @@ module _ {C : Type 0} (F : Type 0) (Counts : CountsFor C) (Ended : Type 0) (line
       → QuotesLine Errors (number_of (fault_of told)) (fault_of told) bytes old new
   first-quoted Errors old new told (inl (has, holds)) = quoted-first Errors Ended lines bytes old new told has holds
   first-quoted Errors old new told (inr (is, header, read)) = rw is (λ held. held)
+
+-- a line is never at fault for want of memory
+first_line-memory : (Ended : Type 0) (bytes : List ℕ) (told : TextFault) → fault_of told ≡ Memory
+    → HasFirstLineFault trace_grammar Ended bytes told → ⊥
+first_line-memory Ended bytes WantsMemory is has = has
+first_line-memory Ended bytes BadHeader is has = absurd (cc)
+first_line-memory Ended bytes (BadLine number) is has = absurd (cc)
+first_line-memory Ended bytes (Cut number) is has = absurd (cc)
+first_line-memory Ended bytes Io is has = absurd (cc)
+first_line-memory Ended bytes TooLong is has = absurd (cc)
+
+line-memory : (Ended : Type 0) (format : Version) (count : ℕ) (bytes : List ℕ) (told : TextFault) → fault_of told ≡ Memory
+    → HasLineFault trace_grammar Ended format count bytes told → ⊥
+line-memory Ended format count bytes WantsMemory is has = has
+line-memory Ended format count bytes BadHeader is has = absurd (cc)
+line-memory Ended format count bytes (BadLine number) is has = absurd (cc)
+line-memory Ended format count bytes (Cut number) is has = absurd (cc)
+line-memory Ended format count bytes Io is has = absurd (cc)
+line-memory Ended format count bytes TooLong is has = absurd (cc)
+
+-- for want of memory no trace was begun: the first line was read
+pub unbegun-memory : {S C F : Type 0} (Counts : CountsFor C) (From : FromSource S) (Ended : Type 0) (a b : S) (lines : Lines Version)
+    (bounds : Bounds) (asked : Asked) (told : TextFault) → ReadsBeginning {F = F} From Counts Ended a b lines bounds asked (Err told)
+    → fault_of told ≡ Memory → HasReadFirstLine From a b lines
+unbegun-memory {F = F} Counts From Ended a b lines bounds asked told reads is = elim reads.is [
+  | inl first ↦ absurd (first_line-memory Ended reads.bytes told is first.0)
+  | inr begun ↦ record { bytes = reads.bytes; told = reads.told; header = begun.1; read = begun.2 }
+]
 
 -- no trace was begun
 pub fed-unbegun : {S C E F : Type 0} (first : Bool) (Counts : CountsFor C) (From : FromSource S) (Errors : ToSink E) (Ended : Type 0) (a b : S)
@@ -127,3 +159,9 @@ module _ {S C F : Type 0} (first : Bool) (From : FromSource S) (Counts : CountsF
         ),
         quoted-behind Errors Ended after all old new begins.is.0 feeds.events told stop.0 held,
       )
+
+  -- which is no want of memory
+  pub fed-memory : (told : TextFault) → FeedsEvents first From Counts Ended b c lines after judges fed (Err told) → fault_of told ≡ Memory → ⊥
+  fed-memory told feeds is =
+      let stop = feeds.fed begins.is.0 bounds asked [] begins.bytes begins.is.1 begins.is.2 in
+      line-memory Ended _ _ stop.0.fails.rest told is stop.0.fails.line

@@ -32,7 +32,7 @@ pub use Rattle.tmw_trace.specs.Text.{AreEvents, trace_grammar}
 pub use Rattle.tmw_trace.specs.declared.header.Header.{Header}
 pub use Rattle.tmw_trace.specs.declared.version.Version.{Version}
 pub use Rattle.tmw_judge.specs.Answer.{AnswersBy, AreOpen, AreOpenBefore, HasFaultFor, IsAnswer, IsFirstText, IsReadFor, IsWholeText, JudgesWith, judged_lines, judged_status, lacking_lines, plain, summary_lines, told_verdicts}
-pub use Rattle.tmw_judge.specs.FeedEvents.{AreFedAllRead, AreFedSoMany, FeedsEach, FeedsEvents, IsBeginning, ReadsBeginning, TakeEvents, has_open, judges_taking}
+pub use Rattle.tmw_judge.specs.FeedEvents.{AreFedAllRead, AreFedSoMany, FeedsEach, FeedsEvents, HasReadFirstLine, IsBeginning, ReadsBeginning, TakeEvents, has_open, judges_taking}
 pub use Rattle.tmw_judge.specs.Judge.{AnswersTrace, AreFed, AreReports, FitMonitors, HaveRoom, JudgesBytes, asked_by, report_lines, report_status, trace_rules}
 pub use Rattle.tmw_judge.specs.Tally.{AreJudged, CountsFor, HasSummary, all_open, any_open, counted_of, counted_part, verdicts_of}
 pub use Rattle.tmw_judge.specs.declared.by_criterion.ByCriterion.{ByCriterion}

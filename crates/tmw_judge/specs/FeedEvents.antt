@@ -57,6 +57,13 @@ pub record ReadsBeginning {S C F : Type 0} (From : FromSource S) (Counts : Count
   pub told : Tells From old bytes new
   pub is : IsBeginning Counts Ended lines bounds asked bytes result
 
+-- The source told a trace's first line and at most 4,096 bytes more. The reader holds these, and has given no event.
+pub record HasReadFirstLine {S : Type 0} (From : FromSource S) (old new : S) (lines : Lines Version) : Type 0 where
+  pub bytes : List ℕ
+  pub told : Tells From old bytes new
+  pub header : Header
+  pub read : HasRead trace_grammar lines header [] bytes
+
 -- The judges have been fed the events of all lines that were read behind the header's.
 pub record AreFedAllRead {C F : Type 0} (Counts : CountsFor C) (lines : Lines Version) (judges : Judges C F) : Type 0 where
   pub header : Header

@@ -1,7 +1,8 @@
 ghost use Rattle.tmw_judge.specs.Shared.{IsNew, RemarksFault, Tells, failures_after_answer, reading_failures};
-ghost use Rattle.std.specs.Prelude.{◌≡◌, ℕ, List};
+ghost use Rattle.std.specs.Prelude.{◌≡◌, ℕ, Err, List};
+ghost use Rattle.tmw_report.specs.declared.fault.Fault.TheVariants.{Memory};
 ghost use Rattle.tmw_judge.specs.Answer.{Answers, AnswersBy};
-ghost use Rattle.tmw_judge.specs.FeedEvents.{ReadsBeginning};
+ghost use Rattle.tmw_judge.specs.FeedEvents.{HasReadFirstLine, ReadsBeginning};
 
 use crate::ending::{Ending, UntilEnd, UntilFinal};
 use crate::feed_events::feed_events;
@@ -22,11 +23,13 @@ use tmw_trace::TraceLines;
 
 /// Reads a trace up to the source's end, or by `first` up to the event at which all verdicts are final, and judges each
 /// event as its line is read, by each requested criterion. No event is kept, so the memory depends on the transactions
-/// since the last cut and not on the trace's length. It is taken when the first line is read: after a failed allocation at
-/// most 4,096 bytes were read after that line. The sink for errors is told which line has a fault.
+/// since the last cut and not on the trace's length. All of it is allocated when the first line has been read: `Memory` is
+/// returned only if at most 4,096 bytes were read after that line, and no event was fed. `begun` is then the trace's
+/// reader, which has given no event. Writes to `errors` which line has a fault.
 pub fn judge<S: Source, E: Sink>(
     alloc: Global,
     source: &mut S,
+    begun: &mut TraceLines,
     errors: &mut E,
     options: JudgeOptions,
 ) -> Result<JudgeResult, Fault>
@@ -35,14 +38,18 @@ pub fn judge<S: Source, E: Sink>(
         × RemarksFault E.to bytes result errors.old errors.new }
     ensures failures { S.from.failures source.new ≡ failures_after_answer result
         (S.from.failures source.old) }
+    ensures memory { result ≡ Err Memory
+        → HasReadFirstLine S.from source.old source.new begun.new }
 {
     match (options.summary, options.asked) {
-        (true, _) => judge_by::<S, E, Counter>(alloc, source, errors, options),
+        (true, _) => judge_by::<S, E, Counter>(alloc, source, begun, errors, options),
         (false, Asked::Strict) => {
-            judge_by::<S, E, StrictNoTally>(alloc, source, errors, options)
+            judge_by::<S, E, StrictNoTally>(alloc, source, begun, errors, options)
         }
-        (false, Asked::Both) => judge_by::<S, E, BothNoTally>(alloc, source, errors, options),
-        (false, Asked::Opacity) => judge_by::<S, E, NoTally>(alloc, source, errors, options),
+        (false, Asked::Both) => judge_by::<S, E, BothNoTally>(
+            alloc, source, begun, errors, options,
+        ),
+        (false, Asked::Opacity) => judge_by::<S, E, NoTally>(alloc, source, begun, errors, options),
     }
 }
 
@@ -50,6 +57,7 @@ pub fn judge<S: Source, E: Sink>(
 fn judge_by<S: Source, E: Sink, C: Tally>(
     alloc: Global,
     source: &mut S,
+    begun: &mut TraceLines,
     errors: &mut E,
     options: JudgeOptions,
 ) -> Result<JudgeResult, Fault>
@@ -59,11 +67,13 @@ fn judge_by<S: Source, E: Sink, C: Tally>(
         × RemarksFault E.to bytes result errors.old errors.new }
     ensures failures { S.from.failures source.new ≡ failures_after_answer result
         (S.from.failures source.old) }
+    ensures memory { result ≡ Err Memory
+        → HasReadFirstLine S.from source.old source.new begun.new }
 {
     if options.first {
-        judge_to::<S, E, C, UntilFinal>(alloc, source, errors, options)
+        judge_to::<S, E, C, UntilFinal>(alloc, source, begun, errors, options)
     } else {
-        judge_to::<S, E, C, UntilEnd>(alloc, source, errors, options)
+        judge_to::<S, E, C, UntilEnd>(alloc, source, begun, errors, options)
     }
 }
 
@@ -71,6 +81,7 @@ fn judge_by<S: Source, E: Sink, C: Tally>(
 fn judge_to<S: Source, E: Sink, C: Tally, F: Ending>(
     alloc: Global,
     source: &mut S,
+    begun: &mut TraceLines,
     errors: &mut E,
     options: JudgeOptions,
 ) -> Result<JudgeResult, Fault>
@@ -80,6 +91,8 @@ fn judge_to<S: Source, E: Sink, C: Tally, F: Ending>(
         × RemarksFault E.to bytes result errors.old errors.new }
     ensures failures { S.from.failures source.new ≡ failures_after_answer result
         (S.from.failures source.old) }
+    ensures memory { result ≡ Err Memory
+        → HasReadFirstLine S.from source.old source.new begun.new }
 {
     let mut lines = TraceLines::new();
     let mut judges: Judges<C, F> = match begin(
@@ -90,7 +103,11 @@ fn judge_to<S: Source, E: Sink, C: Tally, F: Ending>(
         options.asked,
     ) {
         Ok(judges) => judges,
-        Err(fault) => return Err(quote_fault(errors, &lines, fault)),
+        Err(fault) => {
+            let told = quote_fault(errors, &lines, fault);
+            *begun = lines;
+            return Err(told);
+        }
     };
     if let Err(fault) = feed_events(&mut lines, source, &mut judges) {
         return Err(quote_fault(errors, &lines, fault));

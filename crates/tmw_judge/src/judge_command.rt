@@ -14,6 +14,7 @@ use tmw_monitor::Bounds;
 use tmw_options::JudgeOptions;
 use tmw_report::{FAULT_STATUS, Fault, answer_fault, send_remark};
 use tmw_streams::{BoundedSink, Sink, Source, put_all};
+use tmw_trace::TraceLines;
 
 /// Judges the trace that the source has, within these bounds and by the requested criteria. It reads the trace once
 /// and writes a report line for each criterion, opacity's first, or one fault line. Returns the exit status: 0 for
@@ -36,9 +37,12 @@ pub fn run_judge<S: Source, K: Sink>(
 /// Judges a trace as `run_judge` does, with these options. With `first` it ends at the event at which each requested verdict
 /// is final: the reports count the events up to that one, at most 4,096 bytes are read behind it, and none of these is
 /// parsed. With `summary` a line of counts follows the reports: of the events up to the one that the verdict names, before
-/// it if that event is malformed, or all; of two verdicts the longer part is counted. The sink for errors is told which
-/// line has a fault; if the counts show that no two transactions overlapped and nothing is wrong; and the first event judged
-/// that fits no run, if it comes after the event of a verdict.
+/// it if that event is malformed, or all; of two verdicts the longer part is counted. If nothing is wrong but the counts
+/// show that the run tested little, a line of what it did not test follows (`untested`).
+///
+/// Writes at most one line to `errors`: which line has a fault; or the first judged event that fits no run, if it comes
+/// after the event of a verdict; or, if nothing is wrong, that no two transactions overlapped, if the counts show that; or
+/// what to do, if a verdict is undecided.
 pub fn run_judge_with<S: Source, K: Sink, E: Sink>(
     alloc: Global,
     source: &mut S,
@@ -49,7 +53,7 @@ pub fn run_judge_with<S: Source, K: Sink, E: Sink>(
     ensures { JudgesWith S.from K.to E.to options
         source.old source.new sink.old sink.new errors.old errors.new result }
 {
-    match judge(alloc, source, errors, options) {
+    match judge(alloc, source, &mut TraceLines::new(), errors, options) {
         Ok(answer) => write_answer(alloc, sink, errors, answer),
         Err(fault) => answer_fault(sink, fault),
     }
