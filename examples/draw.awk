@@ -11,7 +11,7 @@ function blanks(number) {
 # What the line of an event tells beside it.
 function told(event, by) {
     by = event == opacity ? (event == strict ? "both" : "opacity") : event == strict ? "strict serializability" : ""
-    return by == "" ? "" : "violated, by " by
+    return by == "" ? "" : "violates " by
 }
 
 NR == 1 { next }

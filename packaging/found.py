@@ -1,5 +1,6 @@
-"""What finds the libraries: packages for pkg-config, and one for CMake. All of them are for a folder, and find it by where they stand; or
-for /usr."""
+"""The packages for pkg-config and CMake, with which programs find the libraries. They are either for a folder, relative to which they find the
+libraries, or for /usr.
+"""
 import os
 import re
 

@@ -1,4 +1,4 @@
-# Completion of the words of tmwatch, for bash. tests/package.sh compares them with those of `tmwatch COMMAND --help`.
+# Completion for tmwatch in bash. tests/package.sh compares its options with those of `tmwatch COMMAND --help`.
 
 # Offers those of these words that begin as the one under the cursor does.
 _tmwatch_offer() {
@@ -21,7 +21,7 @@ _tmwatch() {
         return
         ;;
     judge) options='--criterion --summary --first --window --states' ;;
-    show) options='--criterion --trace --page --why --from --window --states' ;;
+    show) options='--criterion --trace --page --why --skipped --window --states' ;;
     drive) options='--memory --trace --trace-only --summary --window --states' ;;
     bench) options='--memory --trace --trace-only --summary --show --why --quiet --ring --patience --rounds --window --states' ;;
     steps) ;;
@@ -34,7 +34,7 @@ _tmwatch() {
         _tmwatch_offer "$options"
         ;;
     --memory) _tmwatch_offer 'norec lock torn' ;;
-    --from | --window | --states | --ring | --patience | --rounds) ;;
+    --skipped | --window | --states | --ring | --patience | --rounds) ;;
     *)
         # An option is given once.
         options=" $options --help "

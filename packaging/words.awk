@@ -1,9 +1,9 @@
-# What the program answers by its words alone, before it is built: help, the version, and that words are wrong. packaging/help.txt has the
-# help of the program and of each command, as the program writes it, and so their options.
+# Answers the command lines that need no built program: help, the version, and wrong arguments. packaging/help.txt has the help of the
+# program and of each command, exactly as the program prints it, and therefore their options.
 #
 #   awk -v help=packaging/help.txt -v version=TEXT -f packaging/words.awk -- WORD..
 #
-# Exit status: as the program's, or 100 if only the program can answer.
+# Exit status: that of the program, or 100 if only the program can answer.
 
 function end(status) {
     exit status
@@ -45,11 +45,11 @@ function is_value(option, value, words, bounds) {
         match(words, /[0-9a-z]+ to [0-9^]+$/)
         split(substr(words, RSTART, RLENGTH), bounds, / to /)
         sub(/^\+/, "", value)
-        return value ~ /^[0-9]+$/ && value + 0 >= (option == "--from" ? 0 : 1) && value + 0 <= number(bounds[2])
+        return value ~ /^[0-9]+$/ && value + 0 >= (option == "--skipped" ? 0 : 1) && value + 0 <= number(bounds[2])
     }
-    sub(/, not .*| \(.*/, "", words)
+    sub(/ \(.*/, "", words)
     gsub(/,| or/, "", words)
-    return index(words " ", " " value " ") > 0
+    return index(" " words " ", " " value " ") > 0
 }
 
 function number(text, parts) {

@@ -1,22 +1,23 @@
 #!/usr/bin/env bash
-# Runs the built program as its users do: first the rows of tests/rows, then the command lines below, whose output is long or made.
+# Runs the built program as its users do: first the test cases of tests/rows, then the command lines below, whose input or output is long or
+# generated.
 #
 #   tests/command.sh [FILE.rows..]
 #
-# Each command line that fails is printed. The last line is 'N passed, M failed'. The exit status is 1 if one failed.
-# A row is a command line, what it reads, and what it has to do. Its lines:
+# Each command line that fails is printed. The last line is 'N passed, M failed', and the exit status is 1 if one failed. A test case is a
+# command line, its input, and the output and status that it must have. It has these lines:
 #
-#   tmwatch judge --window 3     the command line, in words separated by spaces; after a last '<' a file of standard input
+#   tmwatch judge --window 3     the command line, with spaces between arguments; after a final '<', a file as standard input
 #   < opacity-trace 1 1 | 0 T    lines of standard input, separated by ' | ', each with its line feed
-#   <- 0 T                       the same, but the last of them has no line feed
-#   > {"fault":"usage"}          lines of standard output; without one it has to be empty
-#   ~ Usage: tmwatch             a part of standard output, whose rest may be anything
-#   ! error: unexpected          the beginning of standard error; without one it has to be empty
-#   ? no two transactions        a line that standard error may be, or else empty
-#   = 4                          the exit status, the row's last line
+#   <- 0 T                       the same, but the last line has no line feed
+#   > {"fault":"usage"}          lines of standard output; without such a line, it must be empty
+#   ~ Usage: tmwatch             a part of standard output; the rest may be anything
+#   ! error: unexpected          the beginning of standard error; without such a line, it must be empty
+#   ? no two transactions        a line that standard error may be; otherwise it must be empty
+#   = 4                          the exit status; the last line of the test case
 #
-# In what is read and written, \\, \r, \t and \xHH stand for bytes, as for printf, and @VERSION@ for the program's version. Empty lines
-# and lines of '#' are comments.
+# In input and output, \\, \r, \t and \xHH stand for bytes, as in printf, and @VERSION@ for the program's version. Empty lines and lines
+# that begin with '#' are comments.
 set -eu
 # shellcheck source=tests/common.sh
 . "$(dirname "${BASH_SOURCE[0]}")/common.sh"
@@ -145,9 +146,10 @@ expect_usage() {
 
 expect examples/dirty_read.trace 1 '{"at":4,"events":8,"verdict":"violated"}' judge
 expect examples/own_write.trace 0 '{"events":6,"verdict":"opaque so far"}' judge
-undecided='undecided: let all threads wait for one another after a transaction or two, and read what they write (RECORDING)'
+undecided='undecided: more transactions than --window allows without a quiescent point. Put a barrier after every transaction or two (docs/RECORDING.md)'
+many_states='undecided: more possible states at a quiescent point than --states allows. Read each register before you write it (docs/RECORDING.md)'
 errors=$undecided expect examples/left_open.trace 2 '{"at":16,"events":16,"verdict":"undecided","why":"transactions"}' judge
-errors=$undecided expect examples/two_writers.trace 2 '{"at":8,"events":8,"verdict":"undecided","why":"states"}' judge --states 1
+errors=$many_states expect examples/two_writers.trace 2 '{"at":8,"events":8,"verdict":"undecided","why":"states"}' judge --states 1
 errors=$undecided expect examples/dirty_read.trace 2 '{"at":3,"events":8,"verdict":"undecided","why":"transactions"}' judge --window=1 --states=64
 expect examples/dirty_read.trace 1 '{"at":4,"events":8,"verdict":"violated"}' judge --criterion opacity
 # each trace by both criteria: the lengths at which each verdict was settled, or 0
@@ -173,16 +175,16 @@ errors=$undecided expect examples/left_open.trace 2 "$(printf '%s\n' '{"at":16,"
     '{"at":16,"criterion":"strict","events":16,"verdict":"undecided","why":"transactions"}')" judge --criterion both
 # where each went wrong: the report's line, the states, the heads and the window's events
 expect examples/dirty_read.trace 1 "$(printf '%s\n' '{"at":4,"events":8,"verdict":"violated"}' '    state  0' '    event  thread 0       thread 1' \
-    '        1  T1 W 0 1' '        2     K' '        3                 T2 R 0' '        4                    V 1    violated, by opacity')" show
+    '        1  T1 W 0 1' '        2     K' '        3                 T2 R 0' '        4                    V 1    violates opacity')" show
 expect examples/stale_read.trace 1 "$(printf '%s\n' '{"at":6,"events":6,"verdict":"violated"}' '    state  1' '    event  thread 0       thread 1' \
-    '        5                 T1 R 0' '        6                    V 0    violated, by opacity')" show --criterion=opacity
+    '        5                 T1 R 0' '        6                    V 0    violates opacity')" show --criterion=opacity
 expect examples/stale_read.trace 1 "$(printf '%s\n' 'opacity-trace 2 1 1' '1 R 0' '1 V 0')" show --trace
 expect examples/own_write.trace 0 "$(printf '%s\n' '{"events":6,"verdict":"opaque so far"}' '    state  0' '    event  thread 0' \
     '        1  T1 W 0 7' '        2     K' '        3     R 0' '        4     V 7' '        5     T' '        6     C')" show
-expect examples/dirty_read.trace 2 "$(printf '%s\n' '{"at":3,"criterion":"strict","events":8,"verdict":"undecided","why":"transactions"}' '    state  0' \
-    '    event  thread 0       thread 1' '        1  T1 W 0 1' '        2     K' '        3                 T2 R 0    undecided, by transactions')" \
+errors=$undecided expect examples/dirty_read.trace 2 "$(printf '%s\n' '{"at":3,"criterion":"strict","events":8,"verdict":"undecided","why":"transactions"}' '    state  0' \
+    '    event  thread 0       thread 1' '        1  T1 W 0 1' '        2     K' '        3                 T2 R 0    undecided: too many transactions')" \
     show --criterion strict --window 1
-expect examples/two_writers.trace 2 "$(printf '%s\n' 'opacity-trace 2 1 0' "$(sed 1d "$top/examples/two_writers.trace")")" show --states=1 --trace
+errors=$many_states expect examples/two_writers.trace 2 "$(printf '%s\n' 'opacity-trace 2 1 0' "$(sed 1d "$top/examples/two_writers.trace")")" show --states=1 --trace
 # two states at the cut of a violated run: each of the two traces is violated
 printf '%s\n' '0 R 0' '0 V 3' | cat "$top/examples/two_writers.trace" - >"$folder/two_states"
 run show --trace <"$folder/two_states"
@@ -235,12 +237,12 @@ told_on_terminal() {
     script -qec "'$program' bench $* <'$folder/made' >'$folder/output'" /dev/null </dev/null | sed 's/\r\x1b\[K/|/g'
 }
 printf '{"registers":1,"scripts":[[[%s"T"]]],"order":[]}' "$(yes '"W 0 5",' | head -n 17 | tr -d '\n')" >"$folder/made"
-count 'a bench that aborts unasked, on a terminal' \
-    '|100000 rounds, 3400000 events, 100000 unasked aborts|200000 rounds, 6800000 events, 200000 unasked aborts|' \
+count 'a bench with forced aborts, on a terminal' \
+    '|100000 rounds, 3400000 events, 100000 forced aborts|200000 rounds, 6800000 events, 200000 forced aborts|' \
     "$(told_on_terminal --rounds 200001)"
 count 'its report' '{"events":6800034,"verdict":"opaque so far"} {"ends":["done"]}' "$(paste -s -d ' ' "$folder/output")"
 echo "$write" >"$folder/made"
-line='|100000 rounds, 400000 events, 0 unasked aborts|'
+line='|100000 rounds, 400000 events, 0 forced aborts|'
 for row in ":$line" "--show:$line" "--show --trace:$line" '--trace:' '--quiet:' '--quiet --show:'; do
     count "bench ${row%%:*} on a terminal" "${row#*:}" "$(told_on_terminal --rounds 100001 ${row%%:*})"
 done
@@ -290,8 +292,8 @@ expect_usage "error: invalid value '65' for '--states <N>': 65 is not in 1..=64"
 expect_usage "error: invalid value 'serial' for '--criterion <CRITERION>'" judge --criterion serial
 expect_usage "error: invalid value 'both' for '--criterion <CRITERION>'" show --criterion both
 expect_usage "error: the argument '--trace' cannot be used multiple times" show --trace --trace
-expect_usage "error: invalid value '1000000000000001' for '--from <N>': 1000000000000001 is not in 0..=1000000000000000" show --from 1000000000000001
-expect_usage "error: unexpected argument '--from' found" judge --from 8
+expect_usage "error: invalid value '1000000000000001' for '--skipped <N>': 1000000000000001 is not in 0..=1000000000000000" show --skipped 1000000000000001
+expect_usage "error: unexpected argument '--skipped' found" judge --skipped 8
 expect_usage "error: the argument '--criterion <CRITERION>' cannot be used multiple times" judge --criterion strict --criterion strict
 expect_usage "error: unexpected argument '--criterion' found" drive --criterion strict
 expect_usage "error: invalid value 'norec2' for '--memory <MEMORY>'" drive --memory norec2
@@ -315,7 +317,7 @@ expect_usage "error: the argument '--summary' cannot be used multiple times" jud
 expect_usage "error: unexpected argument '--summary' found" show --summary
 expect_usage "error: unexpected argument 'further' found" judge further
 expect_usage "error: unexpected argument '--window' found" steps --window 3
-expect_usage 'error: a word of the command line is not UTF-8' judge $'\xff'
+expect_usage 'error: an argument is not valid UTF-8' judge $'\xff'
 # a file's name among the words: standard error ends with how the file is read
 for command in judge show steps; do
     run "$command" examples/dirty_read.trace </dev/null
@@ -415,7 +417,7 @@ seq 9999 | awk 'BEGIN { print "opacity-trace 1 1" } { printf "0 W 0 %d\n0 K\n", 
 seq 9999 | awk '
     BEGIN { print "{\"at\":20000,\"events\":20000,\"verdict\":\"violated\"}\n    state  0\n    event  thread 0" }
     { printf "%9d  %s W 0 %d\n%9d     K\n", 2 * $1 - 1, NR == 1 ? "T1" : "  ", $1, 2 * $1 }
-    END { print "    19999     R 0\n    20000     V 9998  violated, by opacity" }' >"$folder/wanted"
+    END { print "    19999     R 0\n    20000     V 9998  violates opacity" }' >"$folder/wanted"
 expect_long 'a window of 20,000 events' 1 show
 # a writer whose events are taken one after another, each by eight steps
 seq 0 6249 | awk '
@@ -486,7 +488,7 @@ done
 for words in 'judge' 'judge --summary' 'show' 'drive' 'bench' 'steps' '--help' 'replay'; do
     status=0
     "$program" $words <"$top/examples/dirty_read.trace" >/dev/full 2>"$folder/errors" || status=$?
-    count "$words > /dev/full" '4 error: the output could not be written: disk full? Trust no verdict; run again' \
+    count "$words > /dev/full" '4 error: cannot write to standard output (disk full?). The output is incomplete; run again' \
         "$status $(tail -n 1 "$folder/errors")"
 done
 status=0

@@ -1,13 +1,13 @@
 #!/usr/bin/env bash
-# Judges each trace of examples/ by each criterion, and compares the lines and the exit status with its row in examples/verdicts.txt. Then
-# it draws each trace that docs/GALLERY.md shows, with the reason if it is violated, and compares that with the page; and compares the
-# window that `show` draws, and the part that `show --why` draws, with both. What docs/FIELD.md and README.md draw is compared, too.
+# Judges each trace of examples/ under each criterion, and compares the lines and the exit status with examples/verdicts.txt. Then draws
+# each trace of docs/GALLERY.md, with the reason if it is violated, and compares the drawing with the page. Also compares the window that
+# `show` draws, and the counterexample that `show --why` draws, with both; and the drawings in docs/FIELD.md and README.md.
 #
 #   tests/gallery.sh
 #   tests/gallery.sh draw NAME
 #
-# `draw` writes one trace as the page shows it, and compares nothing. Each row that fails is printed. The last line is 'N passed, M failed'.
-# The exit status is 1 if a row failed.
+# `draw` prints one trace in the form of the page, and compares nothing. Each test case that fails is printed. The last line is 'N passed, M
+# failed', and the exit status is 1 if a test case failed.
 set -eu
 # shellcheck source=tests/common.sh
 . "$(dirname "${BASH_SOURCE[0]}")/common.sh"
@@ -70,7 +70,7 @@ done
 
 # the rows of the window, and of a part of it, that the page has: up to the first mark by opacity, for a run that opacity forbids
 for name in $(sed -n 's/^    \$ .* examples\/\(.*\)\.trace$/\1/p' "$top/docs/GALLERY.md"); do
-    drawn=$(draw "$name" | sed 's/violated, by both$/violated, by opacity/')
+    drawn=$(draw "$name" | sed 's/violates both$/violates opacity/')
     for words in 'show' 'show --why'; do
         read -r -a command <<<"$words"
         missing=''

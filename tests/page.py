@@ -1,17 +1,21 @@
 #!/usr/bin/env python3
-"""Opens the pages of `show --page` in a headless browser, and compares what they draw and say with the trace.
+"""Opens the pages of `show --page` in a headless browser, and compares their drawing and text with the trace.
 
     tests/page.py PROGRAM BROWSER 'TRACE OPTION.. [#HASH]'..
     tests/page.py PROGRAM BROWSER --sizes FOLDER 'TRACE OPTION..'
     tests/page.py PROGRAM BROWSER --picture FILE SIZE MODE SCRIPT 'TRACE OPTION..'
     tests/page.py PROGRAM - --compare FILE SIZE MODE SCRIPT 'TRACE OPTION..'
 
-What is expected is read from the trace itself and from the text that `show` writes, never from the page's own JSON. Each page that differs
-is told; the last line is 'N passed, M failed', and the exit status is 1 if one failed. Behind #HASH a page is opened so: `all`, or the first
-event of a fold. By --sizes a page is opened at each size, light and dark: it has to be seen whole, or in rows after a click. The folder gets
-the screenshots. By --picture it writes a screenshot of so many
-pixels, as 1440x520, in MODE light or dark, after the page has run SCRIPT. The file keeps a checksum of the page and of these words. By
---compare nothing is written, and the exit status is 1 if the page and these words have another checksum than the file keeps.
+The expected content is read from the trace itself and from the text that `show` writes, never from the JSON in the page. Each page that
+differs is printed. The last line is 'N passed, M failed', and the exit status is 1 if one failed. #HASH opens the page in that state:
+`all`, or the first event of a fold.
+
+With --sizes, the page is opened at each size, light and dark: it must be visible as a whole, or in rows after a click. The folder gets the
+screenshots.
+
+--picture writes a screenshot of SIZE pixels, for example 1440x520, in MODE light or dark, after the page has run SCRIPT. The file contains
+a checksum of the page and of these arguments. --compare writes nothing; the exit status is 1 if the page and these arguments have another
+checksum than the file.
 """
 import hashlib
 import html
@@ -202,7 +206,7 @@ def wanted(trace, text, before, opened_at):
         fitting = [words for number, words in tx['events'] if report['verdict'] != 'malformed' or number != end]
         tx['status'] = ENDS.get(fitting[-1][0], 'live') if fitting else 'live'
         tx['operations'] = operations_of(tx)
-    mark = re.search(r'  (violated, by.*|undecided, by.*|malformed: .*)$', text, re.M)
+    mark = re.search(r'  (violates .*|undecided: .*|malformed: .*)$', text, re.M)
     rows = {int(number) for number in re.findall(r'^ *(\d+)  ', text, re.M)}
     is_part = re.search(r'^    part   \d', text, re.M)
     why = [line.split(None, 1)[1] for line in lines if line.startswith('    why    ')]
@@ -247,7 +251,7 @@ def differences(page, text, want):
     same('the sentences of the reason', ''.join(f'{html.unescape(item)}; ' for item in re.findall(r'<li[^>]*>([^<]*)</li>', told)) or None, want['why'])
     faint = [bar[0] for bar in bars if want['needed'] and want['needed'][bar[0] - want['cut'] - 1] == '0']
     same('what is faint', sorted(int(first) for first in every(r'<g class="op spare[^>]*data-first="(\d+)"')), sorted(faint))
-    same('the mark in the page', (run.get('mark'), run.get('told')), (want['mark'], want['told']))
+    same('the mark in the page', (run.get('mark'), run.get('verdict_text')), (want['mark'], want['told']))
 
     same('lanes', sorted(every(r'<rect class="lane[^"]*"[^>]*data-thread="(\d)"')), threads)
     same('names', every(r'<div style="height[^>]*>thread (\d)</div>'), threads)
@@ -316,7 +320,7 @@ def compare(program, browser, words):
     if not page.startswith('<!DOCTYPE html>'):
         print(f'{words}: no page: {page[:200]!r}')
         return False
-    before = int(options[options.index('--from') + 1]) if '--from' in options else 0
+    before = int(options[options.index('--skipped') + 1]) if '--skipped' in options else 0
     want, found = wanted(trace, shown(program, trace, *options), before, opened_at), []
     # A browser on busy processors may open a page without the focus, and no focus event comes: the page is opened anew.
     for _ in range(3):

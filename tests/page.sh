@@ -1,13 +1,13 @@
 #!/usr/bin/env bash
-# Compares the page of `show --page` with its files and with the traces of examples/.
+# Compares the page of `show --page` with its source files and with the traces of examples/.
 #
 #   tests/page.sh
 #   tests/page.sh write
 #
-# The constants of the program have to be the files of crates/tmw_show/page; `write` writes them anew from these. Then tests/page.py opens
-# the page of each trace in a headless Chromium, and compares what it draws with the trace. Without a browser that is skipped, and a line
-# says so. The part of a window of 490 events has to be seen whole, at 1280 pixels at once and at 400 after a click, light and dark.
-# Each row that fails is printed. The last line is 'N passed, M failed'. The exit status is 1 if a row failed.
+# The constants in the program must equal the files of crates/tmw_show/page; `write` regenerates them from these. Then tests/page.py opens
+# the page of each trace in a headless Chromium, and compares its drawing with the trace. Without a browser that is skipped, and a line says
+# so. The counterexample in a window of 490 events must be visible as a whole: at 1280 pixels immediately, and at 400 after a click, light
+# and dark. Each test case that fails is printed. The last line is 'N passed, M failed', and the exit status is 1 if a test case failed.
 # Environment: BROWSER (chromium); PICTURES, a folder that gets the screenshots of that window.
 set -eu
 # shellcheck source=tests/common.sh
@@ -70,6 +70,6 @@ compare_pages() {
 
 compare_pages "${traces[@]}" "${traces[@]/%/ --criterion strict}" "${traces[@]/%/ --why}" "${traces[@]/%/ --why #all}" \
     "$top/examples/two_writers.trace --states 1" "$top/examples/left_open.trace --window 2" "$folder/wide.trace --why #30" \
-    "$top/examples/ghc_stm.trace --why --from 1000000000000000"
+    "$top/examples/ghc_stm.trace --why --skipped 1000000000000000"
 compare_pages --sizes "$pictures" "$folder/wide.trace --why"
 end_rows

@@ -1,12 +1,12 @@
 #!/usr/bin/env python3
-"""Draws the pictures of docs/pictures that are drawings, as SVG, on standard output.
+"""Draws the drawings among the pictures of docs/pictures, as SVG, on standard output.
 
-    tests/pictures.py crates     the groups of crates.txt, and which stands on which
+    tests/pictures.py crates     the groups of crates.txt, and their dependencies
     tests/pictures.py verdict    from a byte of a trace to the report
     tests/pictures.py cut        a cut and a window of a history
     tests/pictures.py moments    why early calls and late answers add no violation
 
-tests/pictures.sh compares and writes the files. Exit status: 0 drawn, 2 other words.
+tests/pictures.sh compares and writes the files. Exit status: 0 if it is drawn, 2 for other arguments.
 """
 import os
 import re

@@ -1,13 +1,14 @@
 #!/usr/bin/env bash
-# Compares each picture of docs/pictures with what it shows.
+# Compares each picture of docs/pictures with the output of today.
 #
 #   tests/pictures.sh
 #   tests/pictures.sh write
 #
-# A picture (.png) of the page of `show` keeps a checksum of its page: it has to be that of the page which the program writes. A drawing
-# (.svg) has to be what tests/pictures.py writes. `write` makes all anew, the pictures by Chromium (tests/page.py).
+# A screenshot (.png) of the page of `show` contains a checksum of that page, which must equal the checksum of the page that the program
+# writes now. A drawing (.svg) must equal the output of tests/pictures.py. `write` makes all of them again, the screenshots with Chromium
+# (tests/page.py).
 #
-# Each row that fails is printed. The last line is 'N passed, M failed', and the exit status is 1 if a row failed.
+# Each test case that fails is printed. The last line is 'N passed, M failed', and the exit status is 1 if a test case failed.
 # Environment: PROGRAM, the program (the built one); BROWSER (chromium), for `write`.
 set -eu
 # shellcheck source=tests/common.sh

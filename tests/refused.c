@@ -1,17 +1,16 @@
 /*
-Refuses what a program asks for, for tests/refused.sh, which loads it with the program (LD_PRELOAD): a growth of memory, a read of
-standard input, a write to standard output, or the start of a thread. A program that Rattle builds takes all of its memory by malloc
-and realloc of the C library, and reads and writes by read and write.
+Makes calls of a program fail, for tests/refused.sh, which loads it with the program (LD_PRELOAD): an allocation, a read of standard input,
+a write to standard output, or the start of a thread. A program that Rattle builds allocates all of its memory with malloc and realloc of
+the C library, and reads and writes with read and write.
 
-    REFUSE   what is refused: growth, growths, read, write, interrupted_read, interrupted_write or thread. All growths from the
-             one of number AT on are refused by growths, and one call by the others
-    AT       the number of the call, from 1 on
-    AFTER    so many bytes have to be read before a call is counted, where it is given
-    LEAST    the least bytes of a growth that is counted, where it is given
-    BYTES    the most bytes that a read or a write moves, where it is given
-    TOLD     a file. It gets a line "refused" for the first call that is refused, a line "read" for each read after it, unless that
-             call was only interrupted, and "start N" where a thread is to be started after N growths, the last of which was for
-             what the thread is given
+    REFUSE   what fails: growth, growths, read, write, interrupted_read, interrupted_write or thread. With growths, all allocations fail
+             from number AT on; with the others, one call does
+    AT       the number of the call, from 1
+    AFTER    if set, the number of bytes that must be read before a call is counted
+    LEAST    if set, the least size in bytes of an allocation that is counted
+    BYTES    if set, the greatest number of bytes that a read or a write moves
+    TOLD     a file. It gets a line "refused" for the first call that fails, a line "read" for each read after it, unless that call was
+             only interrupted, and "start N" when a thread is to be started after N allocations, the last of which was for the thread
 */
 #define _GNU_SOURCE
 #include <dlfcn.h>
@@ -54,7 +53,7 @@ void *__libc_realloc(void *block, size_t size);
 static const struct order *order = &orders[0];
 static unsigned long at, after;
 static size_t least, most = SIZE_MAX;
-static const char *told;
+static const char *result;
 static starts *start_thread;
 static atomic_ulong counts[KINDS], bytes_read;
 /* Whether a call was refused. */
@@ -77,7 +76,7 @@ __attribute__((constructor)) static void read_environment(void)
     after = number_of("AFTER", 0);
     least = number_of("LEAST", 0);
     most = number_of("BYTES", SIZE_MAX);
-    told = getenv("TOLD");
+    result = getenv("TOLD");
     start_thread = (starts *)dlsym(RTLD_NEXT, "pthread_create");
     for (size_t i = 0; i < KINDS; i++)
         atomic_store(&counts[i], 0);
@@ -87,7 +86,7 @@ __attribute__((constructor)) static void read_environment(void)
 static void tell(const char *word, unsigned long number)
 {
     char line[64];
-    int file = told ? open(told, O_WRONLY | O_CREAT | O_APPEND, 0600) : -1;
+    int file = result ? open(result, O_WRONLY | O_CREAT | O_APPEND, 0600) : -1;
     int length = number ? snprintf(line, sizeof line, "%s %lu\n", word, number) : snprintf(line, sizeof line, "%s\n", word);
     if (file >= 0) {
         syscall(SYS_write, file, line, (size_t)length);

@@ -1,27 +1,27 @@
 #!/usr/bin/env bash
-# Refuses each growth of memory in turn, and fails each read, each write and each start of a thread, of the built program. Refuses each
-# growth of the tests that allow it.
+# Lets each allocation, each read, each write and each start of a thread of the built program fail, one in each run. Lets each allocation
+# fail in the tests that allow this.
 #
 #   tests/refused.sh
 #
-# tests/refused.c is loaded with the program, and refuses the call of one number: the first, then the second, up to a run that has no such
-# call. Reads and writes move few bytes each, so that there are many. (`rt try --fail-alloc` refuses the same growths, but builds the
-# program anew for each run.) What a command line has to do:
-# - If a growth is refused, that one alone or all from it on, it writes the line of the fault `memory` alone, with status 4. The fault is
-#   `spawn` if the growth was for the start of a thread, or if the start failed. If that one alone is refused, `show` may ask again for as
-#   much as it needs, and then writes what the plain run writes.
-# - If a read fails, it writes the line of the fault `io` alone, with status 4.
-# - If a write fails, it has written a beginning of what the plain run writes, and not all of it, with status 4.
-# - If a read or write is interrupted, or no call refused, it writes what the plain run writes, with its status.
-# - It reads nothing after a call that was refused or failed.
-# Not each call of long texts, long windows and long logs is refused: only those after a text's first million bytes; and of growths there,
-# and of a log of 2,400 events, those of many bytes. What their plain runs write is known, and compared. A test whose name has
-# `refused_growth` has to pass, or to answer that it lacks the memory to begin with, and to pass at one growth at least. A test that allows
-# no refusal has to fail at each.
+# tests/refused.c is loaded with the program, and makes the call with a given number fail: the first one, then the second, until a run has
+# no such call. Reads and writes move only a few bytes each, so that there are many. (`rt try --fail-alloc` makes the same allocations fail,
+# but builds the program again for each run.) A command line must do the following:
+# - If an allocation fails, or all from some allocation on, it writes only the line of the fault `memory`, with status 4. The fault is
+#   `spawn` if the allocation was for the start of a thread, or if the start failed. If only one allocation fails, `show` may request as
+#   much as it needs again, and then writes the same as the plain run.
+# - If a read fails, it writes only the line of the fault `io`, with status 4.
+# - If a write fails, its output is a beginning of the plain run's, but not all of it, with status 4.
+# - If a read or write is interrupted, or no call fails, it writes the same as the plain run, with the same status.
+# - It reads nothing after a call that failed.
+# For long texts, long windows and long logs, not every call is made to fail, but only those after the first million bytes of a text. Of the
+# allocations there, and of those for a log of 2,400 events, only large ones fail. The output of their plain runs is known, and compared. A
+# test whose name contains `refused_growth` must pass, or report that it lacks the memory to begin with, and must pass with at least one
+# failing allocation. A test that allows no failure must fail at each.
 #
-# A row says how many calls of each kind were refused; one with none has failed. The last line is 'N passed, M failed', of all runs. The
-# exit status is 1 if a run failed.
-# Environment: CC (cc), LIMIT (20, the seconds that a run may take).
+# A test case says how many calls of each kind failed; a kind without any counts as failed. The last line is 'N passed, M failed', over all
+# runs. The exit status is 1 if a run failed.
+# Environment: CC (cc), LIMIT (20), the time limit of a run in seconds.
 set -eu
 ulimit -c 0
 # shellcheck source=tests/common.sh
@@ -182,7 +182,7 @@ drawn_window() {
     printf '%s\n' '    state  0' '    event  thread 0'
     seq "$1" | awk '
         { printf "%9d  %s W 0 %d\n%9d     K\n", 2 * $1 - 1, NR == 1 ? "T1" : "  ", $1, 2 * $1 }
-        END { printf "%9d     R 0\n%9d     V 0    violated, by opacity\n", 2 * NR + 1, 2 * NR + 2 }'
+        END { printf "%9d     R 0\n%9d     V 0    violates opacity\n", 2 * NR + 1, 2 * NR + 2 }'
 }
 
 traced_window() {

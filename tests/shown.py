@@ -1,20 +1,22 @@
 #!/usr/bin/env python3
-"""The commands of a page, in order, as they are written there.
+"""Extracts the commands of a page, in order, and compares their outputs with the page.
 
-    tests/shown.py PAGE script            prints a script for bash: command N writes its output to N in the folder that the script is
-                                          given, and its status to N.status
-    tests/shown.py PAGE compare FOLDER    compares what stands there with what the page shows
+    tests/shown.py PAGE script            prints a script for bash, whose argument is a folder. It writes the output of command N to the
+                                          file N there, and its exit status to N.status
+    tests/shown.py PAGE compare FOLDER    compares these files with the page
 
-A command begins with four spaces and `$ `; a line that ends with `\\` goes on. Below it stands what it prints: digits may be others, ` ..`
-is the rest of a line, and `..` alone any lines. Commands with ` .. ` are sketches, those of gdb are typed, and those in examples/field need
-their systems: they are left out, and `script` says so on standard error. The exit status is 0, or that of the verdict in what is printed,
-or any for `..` alone. If the page shows nothing of a `tmwatch`, or threads run at once, the run may also be violated, or not.
-Exit status: 0, or 1 if a status or an output is another.
+A command begins with four spaces and `$ `, and continues after a line that ends with `\\`. The lines below it are its output. In an output,
+digits may differ, ` ..` is the rest of a line, and a line `..` is any number of lines. Three kinds of commands are left out, which `script`
+reports on standard error: those with ` .. `, because they are sketches; those of gdb, because they are typed; and those in examples/field,
+because they need other systems.
+The exit status of a command must be 0, or that of the verdict in its output. Any status is right if the output begins with `..`. If the
+page shows no output of a `tmwatch`, or threads run at the same time, the run may be violated or not.
+Exit status: 0, or 1 if a status or an output differs.
 """
 import re
 import sys
 
-# What a command ends with, by what the page shows.
+# The exit status of a command whose output has this text.
 STATUS = {'"violated"': 1, "violated at": 1, "undecided": 2, "malformed": 3, "not ok": 1, '"fault"': 4}
 
 
@@ -49,21 +51,21 @@ def script(page):
 
 
 def pattern(lines):
-    """Returns a pattern of what a page shows."""
+    """Returns a regular expression for an output on a page."""
     words = [re.sub(r"\d+", "#", line) for line in lines]
     parts = [".*" if it == ".." else re.escape(it[:-3]) + "[^\\n]*\\n" if it.endswith(" ..") else re.escape(it) + "\\n" for it in words]
     return "".join(parts)
 
 
 def statuses(command, lines):
-    """Returns what a command may end with."""
+    """Returns the exit statuses that a command may have."""
     if not lines and command.startswith("tmwatch ") or " bench " in command:
         return {0, 1}
-    return range(256) if lines == [".."] else {next((STATUS[word] for word in STATUS if any(word in line for line in lines)), 0)}
+    return range(256) if lines[:1] == [".."] else {next((STATUS[word] for word in STATUS if any(word in line for line in lines)), 0)}
 
 
 def compare(page, folder):
-    """Returns whether each command has done what the page shows."""
+    """Returns whether each command had the output and a status of the page."""
     is_right = True
     for number, (command, lines) in enumerate(read(page), 1):
         if is_left_out(command):

@@ -1,15 +1,15 @@
 #!/usr/bin/env python3
-"""Builds unproved what ./build proves first: the program, the library for C, or `judge` alone, on which nobody may rest.
+"""Builds without a proof what ./build proves first: the program, the library for C, or only `judge`. Do not rely on the result.
 
     tests/unproved.py program PROGRAM
-    tests/unproved.py library FOLDER         the library for C, as ./tmwatch-c lays it out (packaging/layout.py)
-    tests/unproved.py judge PROGRAM [EDIT]   it takes --criterion, --first and --summary, and has no checks: edits' instructions are counted by it
+    tests/unproved.py library FOLDER         the library for C, in the layout of ./tmwatch-c (packaging/layout.py)
+    tests/unproved.py judge PROGRAM [EDIT]   has --criterion, --first and --summary, and no checks, to count the instructions of mutants
 
-EDIT is a file as in edits/, whose `file:` is below crates/. `rt try` makes LLVM's code of the sources, with checks, and calls the kit's clang,
-in whose place a script here keeps that code; clang and rattle-link make the program. A fault of the first two ends in a trap. For `judge` the
-checks go out, and functions get the inlining words of their sources, which `rt try` drops. How `rt try` calls clang no kit promises. One to
-three minutes.
-Exit status: 0 it is built; 1 it is not, and why; 2 other words.
+EDIT is a file like those in edits/, whose `file:` is below crates/. `rt try` compiles the sources to LLVM code with checks, and then calls
+the kit's clang. A script that replaces clang stores that code, and clang and rattle-link make the program from it. In the first two kinds,
+a fault ends in a trap. For `judge`, the checks are removed, and functions get the inlining attributes of their sources, which `rt try`
+drops. The kit does not guarantee how `rt try` calls clang. Takes one to three minutes.
+Exit status: 0 if it is built; 1 if not, with the reason; 2 for other arguments.
 """
 import glob
 import os

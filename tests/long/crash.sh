@@ -1,14 +1,15 @@
 #!/usr/bin/env bash
-# Crashes stores on the bench by lines, and has judged whether what was committed is there. PostgreSQL, Redis and SQLite lose nothing by their safe
-# settings, and commits by others.
+# Crashes stores on tmwatch-bench, and judges whether their commits survive. With safe settings, PostgreSQL, Redis and SQLite lose no
+# commit; with other settings they do.
 #
 #   tests/long/crash.sh [NAME..]
 #
-# NAME is postgres, redis or sqlite. A crash of a server is the kill of all its processes. That of SQLite is the loss of power, simulated by
-# synced.c: each file is afterwards as it was when it was synced last. A row says how many crashes there were, and what came of the run. A safe
-# row passes after ten crashes that leave it opaque so far, another one if it is violated.
+# NAME is postgres, redis or sqlite. To crash a server, all its processes are killed. To crash SQLite, synced.c simulates a loss of power:
+# after it, each file is as it was at its last sync. A test case says how many crashes there were, and the result of the run. With safe
+# settings, it passes if the run is opaque so far after ten crashes; with others, if the run is violated.
 #
-# The last line is 'N passed, M failed'. The exit status is 1 if a row failed. A store whose packages are missing is skipped: a line says so.
+# The last line is 'N passed, M failed'. The exit status is 1 if a test case failed. A store whose packages are missing is skipped: a line
+# says so.
 # Environment: CRASHES (10), BUILT (tests/common.sh), TMWATCH_BENCH, the bench (built/bin/tmwatch-bench), CC (cc).
 set -eu
 # shellcheck source=tests/common.sh
@@ -28,7 +29,8 @@ names=" ${*:-postgres redis sqlite} "
 crashes() {
     local name=$1 safe=$2 status=0 many
     shift 2
-    timeout 600 "$TMWATCH_BENCH" --schedule rounds --patience 60 --seconds 240 --rounds $((least * rounds)) "$@" >"$folder/printed" 2>"$folder/said" || status=$?
+    timeout 600 "$TMWATCH_BENCH" --schedule rounds --timeout 60 --seconds 240 --rounds $((least * rounds)) --trace "$folder/trace" "$@" \
+        >"$folder/printed" 2>"$folder/said" || status=$?
     many=$(sed -n 's/.*"crashes":\([0-9]*\).*/\1/p' "$folder/printed")
     case $safe:$status in
     safe:0) [ "${many:-0}" -ge "$least" ] && status=passed || status=FAILED ;;

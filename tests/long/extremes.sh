@@ -1,11 +1,11 @@
 #!/usr/bin/env bash
 # Runs the built program on extreme input: long lines, traces and transactions, many outcomes, slow windows, little memory, closed streams,
-# hostile workloads. A row has the output and the exit status that have to come, and a bound of the memory.
+# hostile workloads. A test case has the required output and exit status, and a limit of the memory.
 #
 #   tests/long/extremes.sh [lines] [length] [reads] [cuts] [aborts] [slow] [limits] [streams] [workloads]
 #
-# Without words all groups run. A row prints its seconds, its peak memory in KiB and its answer. The last line is 'N passed, M failed'. The
-# exit status is 1 if a row failed.
+# Without arguments all groups run. A test case prints its seconds, its peak memory in KiB and its output. The last line is 'N passed, M
+# failed'. The exit status is 1 if a test case failed.
 # Environment: BYTES of a line (1000000000), EVENTS of a trace (2^24; 2147483648 takes minutes), READS of a transaction (10000000), CUTS
 # (10000; 1000000 takes minutes), SLOW reads and windows that are slow (5), LIMIT in seconds of a run (3600; of a slow one 20).
 set -eu
@@ -55,10 +55,10 @@ opaque() {
 
 serial=$'0 W 0 1\n0 K\n0 T\n0 C\n1 R 0\n1 V 1\n1 T\n1 C'
 
-# A fault of a long line, and what `judge` says of it on standard error: what is wrong, and the line's first 80 bytes.
+# A fault of a long line, and what `judge` says of it on standard error: what is wrong, the line's first 80 bytes, and maybe advice.
 long_fault() {
     printf '4 {"fault":%s}' "$1"
-    [ "$command" != judge ] || printf '\nerror: line %s: "%s"...' "$2" "$3"
+    [ "$command" != judge ] || printf '\nerror: line %s: "%s"...%s' "$2" "$3" "${4:-}"
 }
 
 long_lines() {
@@ -67,22 +67,23 @@ long_lines() {
     for command in judge steps; do
         local header='opacity-trace 1 1'
         [ "$command" = judge ] || header='ring-steps 1 4 2 100'
-        run "$command: a header of $bytes bytes" $little "$(long_fault '"bad header"' '1 is no header such as opacity-trace 1 8' "$zeros")" $command \
+        run "$command: a header of $bytes bytes" $little "$(long_fault '"bad header"' '1 is not a header, such as opacity-trace 1 8' "$zeros")" $command \
             < <(copies "$bytes" 0 && echo)
-        run "$command: the same, cut" $little "$(long_fault '"cut","line":1' '1 has no line feed' "$zeros")" $command \
+        run "$command: the same, cut" $little "$(long_fault '"cut","line":1' '1 is incomplete (no newline at the end)' "$zeros")" $command \
             < <(copies "$bytes" 0)
         run "$command: a line of $bytes bytes" $little \
-            "$(long_fault '"bad line","line":2' '2 is no event of version 1' "$zeros")" $command \
+            "$(long_fault '"bad line","line":2' '2 is not an event of a version 1 trace' "$zeros")" $command \
             < <(echo "$header" && copies "$bytes" 0 && echo)
-        run "$command: the same, cut" $little "$(long_fault '"cut","line":2' '2 has no line feed' "$zeros")" $command \
+        run "$command: the same, cut" $little \
+            "$(long_fault '"cut","line":2' '2 is incomplete (no newline at the end)' "$zeros" ". Was the recorder killed? Drop this line with: sed '\$d'")" $command \
             < <(echo "$header" && copies "$bytes" 0)
     done
     command=judge
     run "judge: 1,000 events, and an answer of $bytes digits" $little \
-        "$(long_fault '"bad line","line":1002' '1002 is no event of version 1' "0 V $(copies 76 1)")" judge \
+        "$(long_fault '"bad line","line":1002' '1002 is not an event of a version 1 trace' "0 V $(copies 76 1)")" judge \
         < <(repeated 1000 "$serial" && printf '0 V ' && copies "$bytes" 1 && echo)
     run "judge: a violated run, and a line of $bytes spaces" $little \
-        "$(long_fault '"bad line","line":10' '10 is no event of version 1' "$(copies 80 ' ')")" judge \
+        "$(long_fault '"bad line","line":10' '10 is not an event of a version 1 trace' "$(copies 80 ' ')")" judge \
         < <(cat "$top/examples/dirty_read.trace" && copies "$bytes" ' ' && echo)
 }
 
@@ -132,7 +133,7 @@ outcomes() {
         < <(echo 'opacity-trace 1 8' && yes "$lines" | head -n "$events")
     run 'judge: the same, and one state fewer' $little \
         "2 {\"at\":$at,\"events\":$events,\"verdict\":\"undecided\",\"why\":\"states\"}
-undecided: let all threads wait for one another after a transaction or two, and read what they write (RECORDING)" judge --states 63 \
+undecided: more possible states at a quiescent point than --states allows. Read each register before you write it (docs/RECORDING.md)" judge --states 63 \
         < <(echo 'opacity-trace 1 8' && yes "$lines" | head -n "$events")
 }
 
@@ -240,8 +241,8 @@ limits() {
     done
 }
 
-# The status and what is told of output that could not be written.
-unwritten='4 error: the output could not be written: disk full? Trust no verdict; run again'
+# The status and the message if the output cannot be written.
+unwritten='4 error: cannot write to standard output (disk full?). The output is incomplete; run again'
 
 # A command on a file, with each of its streams closed, full, or no file to read, and what it writes otherwise.
 streams_of() {
@@ -278,8 +279,8 @@ left_by_reader() {
 streams() {
     echo '{"registers":1,"scripts":[[["W 0 5","T"]]],"order":[0,0]}' >"$folder/workload"
     local headless='{"fault":"bad header"}'
-    streams_of "$top/examples/dirty_read.trace" "$headless"$'\nerror: the input is empty or begins with an empty line: no header such as opacity-trace 1 8' judge
-    streams_of "$top/examples/dirty_read.trace" "$headless"$'\nerror: the input is empty or begins with an empty line: no header such as opacity-trace 1 8' show
+    streams_of "$top/examples/dirty_read.trace" "$headless"$'\nerror: the input is empty or begins with an empty line; the first line must be a header, such as opacity-trace 1 8' judge
+    streams_of "$top/examples/dirty_read.trace" "$headless"$'\nerror: the input is empty or begins with an empty line; the first line must be a header, such as opacity-trace 1 8' show
     streams_of "$top/examples/stopped_writer.steps" "$headless" steps
     streams_of "$folder/workload" '{"fault":"json"}' drive --trace
     streams_of "$folder/workload" '{"fault":"json"}' bench --trace

@@ -1,6 +1,6 @@
-"""Random histories, and the plain definitions of a serial order: each permutation with each completion is tried.
+"""Random histories, and the plain definition of a serial order, which tries each permutation with each completion.
 
-For parts.py, verdicts.py and whole.py.
+Used by enough.py, parts.py, verdicts.py and whole.py.
 """
 from collections import namedtuple
 from functools import lru_cache
@@ -115,12 +115,17 @@ def has_order(criterion, states, events):
 
 
 class Memory:
-    """A memory of snapshots that makes mistakes, at rates of its own: in reads, and in what a commit checks."""
+    """A memory of snapshots that makes mistakes, at rates of its own: in reads, and in what a commit checks. A dense one has few values
+    and mistakes, and its transactions are long."""
 
-    def __init__(self, rng, state):
+    def __init__(self, rng, state, dense=False):
         self.rng, self.state, self.running = rng, list(state), {}
-        self.values = rng.choice([range(3), range(9), range(9), FAR])
+        self.values = range(rng.randint(2, 5)) if dense else rng.choice([range(3), range(9), range(9), FAR])
         self.wrong, self.unchecked, self.refused = rng.choice([0, 0.5, 1, 1]), rng.choice([0, 1, 1]), rng.choice([0, 0, 0.1])
+        self.wrong_own, self.ends = self.wrong / 10, 5
+        if dense:
+            self.wrong, self.refused, self.ends = rng.choice([0.01, 0.05, 0.2, 0.5]), 0, rng.choice([0.1, 0.3, 1])
+            self.wrong_own = self.wrong
 
     def commit(self, own):
         """The answer to a commit. One that has written is refused if what it read is no longer there."""
@@ -133,7 +138,7 @@ class Memory:
     def find(self, own, register):
         """What it reads there. A mistake is what is there now, what another one has not committed, or seldom any value."""
         known = own.writes.get(register, own.reads.get(register))
-        if self.rng.random() < (self.wrong if known is None else self.wrong / 10):
+        if self.rng.random() < (self.wrong if known is None else self.wrong_own):
             dirty = [other.writes[register] for other in self.running.values() if register in other.writes]
             known = self.rng.choice([self.state[register], *dirty] * 9 + [self.rng.choice(self.values)])
         found = own.view[register] if known is None else known
@@ -143,7 +148,8 @@ class Memory:
 
     def call(self, own):
         """Its next call. A commit may take effect before it is answered."""
-        letter = self.rng.choices("RWNTX", weights=[6, 6, 1, 5 if own.reads or own.writes else 0.3, 0.2])[0]
+        ending = self.ends if own.reads or own.writes else 0.06 * self.ends
+        letter = self.rng.choices("RWNTX", weights=[6, 6, 1, ending, 0.04 * self.ends])[0]
         more = {"R": (), "W": (self.rng.choice(self.values),), "N": (self.rng.choice([0, 1, TOP - 1]),)}
         own.call = (letter, self.rng.randrange(len(self.state)), *more[letter]) if letter in more else (letter,)
         own.answer = self.commit(own) if letter == "T" and self.rng.random() < 0.6 else None
@@ -161,11 +167,11 @@ class Memory:
         return ("K",) if letter == "W" else ("V", found)
 
 
-def several_states(rng, start):
+def several_states(rng, start, below=9):
     """Events of blind writes at the same time, register by register, and one of the states to which they may lead: up to 64."""
     events, state, left = [], list(start), 64
     for register in range(len(start)):
-        values = [rng.randrange(9) for _ in range(rng.randint(1, min(4, left)))]
+        values = [rng.randrange(below) for _ in range(rng.randint(1, min(4, left)))]
         left //= len(values)
         state[register] = rng.choice(values)
         writers = list(enumerate(values))
@@ -174,21 +180,22 @@ def several_states(rng, start):
     return events, state
 
 
-def random_history(rng, most=MOST, steps=60, from_several=0):
+def random_history(rng, most=MOST, steps=60, from_several=0, dense=False):
     """A start state and events, of at most so many transactions. They begin in bursts, in slow and fast threads. Some stay commit-pending.
 
-    As often as `from_several` says, blind writes come before them, so that they begin from several states."""
+    As often as `from_several` says, blind writes come before them, so that they begin from several states. If dense, all begin in one
+    burst, each in its thread."""
     start = [rng.randrange(3) for _ in range(rng.choice([1, 2, 2, 3]))]
-    pace = [rng.choice([1, 6]) for _ in range(rng.choice([2, 3, 3, 4]))]
-    events, state = several_states(rng, start) if rng.random() < from_several else ([], start)
-    memory, begun, burst = Memory(rng, state), 0, 0
+    pace = [rng.choice([1, 6]) for _ in range(most if dense else rng.choice([2, 3, 3, 4]))]
+    events, state = several_states(rng, start, 3 if dense else 9) if rng.random() < from_several else ([], start)
+    memory, begun, burst = Memory(rng, state, dense), 0, 0
     for _ in range(rng.randint(20, steps)):
         running = memory.running
-        burst = burst if running else min(rng.randint(1, 4), most - begun)
+        burst = burst if running else min(rng.randint(1, 4), most - begun) if not dense else most - begun
         idle = [thread for thread in range(len(pace)) if thread not in running]
         if burst > 0 and idle and (not running or rng.random() < 0.6):
             own = {"view": list(memory.state), "reads": {}, "writes": {}, "call": None, "answer": None}
-            running[rng.choice(idle)] = SimpleNamespace(**own, stays=rng.random() < 0.12)
+            running[rng.choice(idle)] = SimpleNamespace(**own, stays=rng.random() < (0.3 if dense else 0.12))
             begun, burst = begun + 1, burst - 1
         if not running:
             break

@@ -1,12 +1,13 @@
-"""What tests/long/many.sh compares with: verdicts got one after another, and a reading of JSON that is not examples/many/summary's.
+"""The expected results of tests/long/many.sh: verdicts that are computed one after another, and a parser of JSON other than that of
+examples/many/summary.
 
-    many.py expect PROGRAM TRACE..       prints the line of JSON that each trace is to have
+    many.py expect PROGRAM TRACE..       prints the line of JSON that each trace must have
     many.py compare EXPECTED FOLDER SUMMARY REPEATED
-                                         compares FOLDER's *.jsonl, and what SUMMARY prints of it, with the lines of a file EXPECTED
-    many.py cuts LINES SUMMARY FOLDER    writes each cut of each line into FOLDER, and compares what SUMMARY prints
+                                         compares the *.jsonl files of FOLDER, and the output of SUMMARY for it, with the file EXPECTED
+    many.py cuts LINES SUMMARY FOLDER    writes each beginning of each line into FOLDER, and compares the output of SUMMARY
 
-`compare` prints how many lines were repeated and cut; its exit status is 1 if a run lacks its line or has another, or more than REPEATED
-lines were repeated. FOLDER may lack the list.
+`compare` prints how many lines were repeated and cut. Its exit status is 1 if a run has no line or another one, or if more than REPEATED
+lines were repeated. FOLDER need not contain the list.
 """
 import json
 import pathlib

@@ -1,17 +1,18 @@
 #!/usr/bin/env bash
-# Runs examples/many for real: judge-all by GNU parallel, judge.sbatch and hunt.sbatch by Slurm on one node, and summary.
+# Runs examples/many for real: judge-all with GNU parallel, judge.sbatch and hunt.sbatch with Slurm on one node, and summary.
 #
 #   tests/long/many.sh
 #
-# 1,000 small traces and 20 large ones are judged each way, and compared with what `judge` prints of each alone (many.py). Calls and tasks
-# are killed in the middle, lines cut, tasks requeued, arrays submitted again: no verdict may be lost, none counted twice. Hunts have to
-# stop their arrays and keep a violated trace. Those by seed have a stand-in for the bench in C, whose words and report tests/c.sh tests.
+# 1,000 small traces and 20 large ones are judged in each way, and compared with the output of `judge` for each one separately (many.py).
+# Calls and tasks are killed in the middle, lines cut, tasks requeued, arrays submitted again: no verdict may be lost, and none counted
+# twice. Searches must stop their arrays and keep a violated trace. Those by seed use a stand-in for the bench in C, whose options and
+# report tests/c.sh tests.
 #
 # The script starts a munged, a slurmctld and a slurmd of its own, with their files in a temporary folder and their ports on loopback, and
-# stops them at its end. Debian: apt-get install parallel slurm-wlm munge. What is not there is skipped, and a line says so.
+# stops them at its end. Debian: apt-get install parallel slurm-wlm munge. Parts whose tools are missing are skipped, and a line says so.
 #
-# It prints a line a row, and then the traces and events a second of each way. The last line is 'N passed, M failed', and the exit status
-# is 1 if a row has failed, 2 if the program is not built. After LIMIT seconds it ends by itself, and has failed.
+# Prints a line for each test case, and then the traces and events a second in each way. The last line is 'N passed, M failed', and the exit
+# status is 1 if a test case failed, 2 if the program is not built. After LIMIT seconds it ends by itself, and has failed.
 # Environment: LIMIT (540), SMALL (1000), LARGE (20), EVENTS (200000, of a large trace), CC (cc).
 # shellcheck disable=SC2016 # (what stands in single quotes is for other shells)
 set -eu

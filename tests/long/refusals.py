@@ -1,17 +1,18 @@
 #!/usr/bin/env python3
-"""Tells of wrong bodies by what the prover refuses each: a goal of a clause, or no more than a name that is gone, which says nothing of the
-contract, or whether it finds no proof by itself.
+"""Reports why the prover refuses each mutant: because of a goal of a clause, or only because of a name that is gone, which means nothing for
+the contract; or that it finds no proof by itself.
 
     tests/long/refusals.py CRATE|EDIT..
 
-A CRATE's edits are those of edits/CRATE and of crates/CRATE/must-fail. The turned function is checked alone (rt check --only), in a copy,
-over the libraries that are built here. Goals that known values break are a clause's, and so are those that the prover refuses where no proof
-file is at fault. Where an answer is at fault, the function is checked once more without its answers, with the edit and without: a goal whose
-statement the function as it stands doesn't have, or which known values break, is a clause's too. If it is proved so, the edit is not refused.
-If all goals left are left as the function stands too, the edit is open: the prover finds no proof of them by itself. All others are refused
-by a name alone, as far as this can tell: change a value, so that each name stays. 15 seconds to some minutes an edit.
-The last line says how many of each there are. Exit status: 0 all are refused by a clause; 1 not all; 2 other words.
-Environment: JOBS (1), how many at a time.
+The mutants of a CRATE are those of edits/CRATE and of crates/CRATE/must-fail. Only the mutated function is checked (rt check --only), in a
+copy, with the libraries that are built here. A goal belongs to a clause if known values violate it, or if the prover refuses it and no
+proof file is at fault. If an answer to a goal is at fault, the function is checked again without its answers, with the mutation and
+without. Then a goal also belongs to a clause if the original function does not have its statement, or if known values violate it. If the
+mutant is proved this way, it is not refused. If all remaining goals also remain for the original function, the mutant is open: the prover
+finds no proof of them by itself. All other mutants are refused only because of a name, as far as this script can tell. In that case, change
+a value, so that each name remains. Takes 15 seconds to some minutes for each mutant. The last line has the number of each kind.
+Exit status: 0 if all are refused because of a clause, 1 otherwise, 2 for other arguments.
+Environment: JOBS (1), the number of checks at a time.
 """
 import concurrent.futures
 import functools

@@ -1,14 +1,15 @@
 #!/usr/bin/env python3
-"""Writes the imports of a crate anew: what two files or more take from a module comes by one line through a file Shared.antt. There is
-one of proofs, and one of definitions and contracts, which has nothing of the crate's own.
+"""Rewrites the imports of a crate: names that two or more files take from a module are imported in one line, through a file Shared.antt. There
+is one such file for proofs, and one for definitions and contracts, which contains nothing of the crate's own.
 
     tests/long/shared.py CRATE..
 
-Run it at the top of the repository, then `rt fmt` and `rt check` in the crate's folder. It drops what a file names nowhere else, and
-takes a name from the same module in all files. A file keeps lines of its own for the crate's own lemmas and goals, for whole modules,
-for what it renames, and for modules that no other file cites. Definitions and contracts take operators and Prelude's words from where
-they stand, as the gate asks. Of two things of one name the one that more files cite is shared. Where that saves no lines, nothing is
-written. A second run changes nothing, and Proof.antt stays as it is. Output: for each crate how many lines it saved. Exit status: 0.
+Run it at the top of the repository, and then `rt fmt` and `rt check` in the crate's folder. It drops imports that a file does not use, and
+takes a name from the same module in all files. A file keeps its own lines for lemmas and goals of the crate, for whole modules, for names
+that it renames, and for modules that no other file cites. Definitions and contracts import operators and words of Prelude from their
+original modules, because the gate requires that. Of two things with one name, the one that more files cite is shared. If sharing saves no
+lines, nothing is written. A second run changes nothing, and Proof.antt is never changed. Prints for each crate the number of lines saved.
+Exit status: 0.
 """
 import functools
 import re

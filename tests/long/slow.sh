@@ -1,11 +1,12 @@
 #!/usr/bin/env bash
-# Plants slowness into the judge, one edit of tests/long/slow after the other, that no verdict shows: a row of tests/speed.sh has to fail.
+# Slows the judge down with the mutants of tests/long/slow, one after the other. No verdict shows that, but a test case of tests/speed.sh
+# must fail.
 #
 #   tests/long/slow.sh [NAME..]
 #
-# Each is built unproved (unproved.py), in a minute or two, and so is the tree as it is: what that counts, and 3 %, are the limits here. A row
-# names an edit, and below it those rows of tests/speed.sh that fail. The last line is 'N passed, M failed', and the exit status is 1 if an
-# edit fails none.
+# Each mutant is built unproved (unproved.py), in a minute or two, and so is the original. The limits here are the counts of the original
+# plus 3 %. A test case names a mutant, and below it the test cases of tests/speed.sh that fail. The last line is 'N passed, M failed', and
+# the exit status is 1 if a mutant makes none fail.
 # Environment: that of tests/speed.sh.
 set -eu
 # shellcheck source=tests/common.sh

@@ -1,9 +1,9 @@
 #!/usr/bin/env python3
-"""Counts traces by the plain definitions, for tests/long/summary.sh, which says what is compared and what comes out.
+"""Counts traces by the plain definitions, for tests/long/summary.sh, whose head describes the checks and the output.
 
     tests/long/summary.py TOP PROGRAM RUNS SEED
 
-TOP is the repository's folder. Nothing is counted as the events come: each count looks at all transactions, or at each prefix anew.
+TOP is the repository's folder. Nothing is counted incrementally: each count examines all transactions, or each prefix, from the beginning.
 """
 import json
 import random
@@ -53,19 +53,19 @@ def overlap(one, other):
 
 
 def counts_of(events):
-    """The eight counts of these events."""
+    """Returns the eight counts of these events."""
     all_of = transactions(events)
     cuts = [length for length in range(1, len(events) + 1) if all(map(ended, transactions(events[:length])))]
     windows = [events[begin:end] for begin, end in pairwise([0, *cuts, len(events)])]
     return {
         "aborted": sum(letters(one)[-1] == "A" for one in all_of),
         "committed": sum(letters(one)[-1] == "C" for one in all_of),
+        "concurrent": sum(any(overlap(one, other) for other in all_of) for one in all_of),
         "cuts": len(cuts),
+        "forced_aborts": sum(letters(one)[-1] == "A" and letters(one)[-2:] != "XA" for one in all_of),
         "live": sum(not ended(one) for one in all_of),
-        "overlapping": sum(any(overlap(one, other) for other in all_of) for one in all_of),
+        "max_window": max(len(transactions(window)) for window in windows),
         "transactions": len(all_of),
-        "unasked": sum(letters(one)[-1] == "A" and letters(one)[-2:] != "XA" for one in all_of),
-        "widest": max(len(transactions(window)) for window in windows),
     }
 
 
@@ -77,21 +77,21 @@ def counted(report):
 
 
 def summary_of(trace, reports):
-    """The line of counts that belongs after these reports on the trace; and, if nothing is wrong, one of what the run lacks, if it lacks any."""
+    """Returns the line of counts that belongs after these reports on the trace and, if nothing is wrong, the line of what the run did not test, if any."""
     events = trace.splitlines()[1:]
     part = events[: max(counted(json.loads(report)) for report in reports)]
     counts = counts_of(part)
-    lacks = lacks_of(counts, {event[0] for event in events}) if all("so far" in report for report in reports) else []
-    lines = [counts] + ([{"lacks": lacks}] if lacks else [])
+    untested = untested_by(counts, {event[0] for event in events}) if all("so far" in report for report in reports) else []
+    lines = [counts] + ([{"untested": untested}] if untested else [])
     return "\n".join(json.dumps(line, sort_keys=True, separators=(",", ":")) for line in lines)
 
 
-def lacks_of(counts, threads):
-    """Why a run of these threads can't show much."""
-    lacks = ["threads"] if len(threads) < 2 else ["overlap"] if counts["overlapping"] == 0 else []
+def untested_by(counts, threads):
+    """Returns what a run of these threads did not test."""
+    untested = ["threads"] if len(threads) < 2 else ["overlap"] if counts["concurrent"] == 0 else []
     if counts["committed"] == 0:
-        return [*lacks, "commits"]
-    return [*lacks, "progress"] if counts["transactions"] // 20 > counts["committed"] else lacks
+        return [*untested, "commits"]
+    return [*untested, "progress"] if counts["transactions"] // 20 > counts["committed"] else untested
 
 
 def rows_of(top):
@@ -195,17 +195,23 @@ def judged(program, words, trace):
     return run.returncode, run.stdout, run.stderr
 
 
-NOTHING = "no two transactions overlapped: this run shows nothing\n"
-UNDECIDED = "undecided: let all threads wait for one another after a transaction or two, and read what they write (RECORDING)\n"
+NOTHING = "warning: no two transactions overlapped, so this run tests nothing\n"
+UNDECIDED = {
+    "transactions": "undecided: more transactions than --window allows without a quiescent point. "
+    "Put a barrier after every transaction or two (docs/RECORDING.md)\n",
+    "states": "undecided: more possible states at a quiescent point than --states allows. "
+    "Read each register before you write it (docs/RECORDING.md)\n",
+}
 
 
 def remark_on(trace, reports, counts):
     """What standard error is told of a run whose lines are these."""
-    verdicts = [json.loads(report)["verdict"] for report in reports]
+    reports = [json.loads(report) for report in reports]
+    verdicts = [report["verdict"] for report in reports]
     threads = {line.split()[0] for line in trace.splitlines()[1:]}
-    shows_nothing = json.loads(counts.split("\n")[0])["overlapping"] == 0 and len(threads) > 1
+    shows_nothing = json.loads(counts.split("\n")[0])["concurrent"] == 0 and len(threads) > 1
     if "undecided" in verdicts:
-        return UNDECIDED
+        return UNDECIDED[reports[verdicts.index("undecided")]["why"]]
     return NOTHING if shows_nothing and all(verdict.endswith("so far") for verdict in verdicts) else ""
 
 
@@ -237,7 +243,9 @@ def main():
         reports = plain.splitlines()
         try:
             counts = summary_of(trace, reports)
-            wanted = (status, f"{plain}{counts}\n", remark_on(trace, reports, counts))
+            # (a warning about an event that fits no run comes without --summary too, and comes first)
+            remark = errors if errors.startswith("warning: event ") else remark_on(trace, reports, counts)
+            wanted = (status, f"{plain}{counts}\n", remark)
             first = judged(program, [*words, "--summary"], first_part(trace, reports))
             for report in map(json.loads, reports):
                 found[" ".join(filter(None, [report["verdict"], report.get("why")]))] += 1

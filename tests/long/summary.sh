@@ -1,18 +1,18 @@
 #!/usr/bin/env bash
-# Compares the counts of `tmwatch judge --summary` with counts made from the trace's text by the plain definitions.
+# Compares the counts of `tmwatch judge --summary` with counts that are made from the trace's text by the plain definitions.
 #
 #   tests/long/summary.sh [RUNS]
 #
-# First tests/long/summary.py counts the traces of tests/rows/summary.rows, whose counts were worked out by hand. Then it makes RUNS (2000)
-# random histories: right ones, and ones with wrong reads, open transactions or an event that fits no run. Each is judged by a random
-# criterion within random bounds:
-# - With --summary the output and the status are those without it. The counts' line is that of the longest part that a verdict covers, and
-#   standard error says that nothing overlapped exactly if that is so.
-# - With --first the output is that of the trace up to the event of the last final verdict.
+# First tests/long/summary.py counts the traces of tests/rows/summary.rows, whose counts were computed by hand. Then it makes RUNS (2000)
+# random histories: correct ones, and ones with wrong reads, open transactions or an event that cannot occur in any run. Each is judged
+# under a random criterion with random limits:
+# - With --summary, the output and the status are the same as without it. The line of counts is that of the longest part that a verdict
+#   covers, and standard error says that nothing overlapped if and only if that is so.
+# - With --first, the output is that of the trace up to the event at which the last verdict is final.
 # With 0 RUNS nothing is built.
 #
-# Each row and each history that fails is printed. Then come how many reports had each verdict; a verdict that none had has failed. The last
-# line is 'N passed, M failed'. The exit status is 1 if one failed.
+# Each test case and each history that fails is printed. Then come the numbers of reports with each verdict; a verdict that none had has
+# failed. The last line is 'N passed, M failed'. The exit status is 1 if one failed.
 # Environment: SEED (1).
 set -eu
 # shellcheck source=tests/common.sh

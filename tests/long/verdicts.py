@@ -1,5 +1,5 @@
 #!/usr/bin/env python3
-"""Compares what `tmwatch judge` says with the plain definitions, for tests/long/verdicts.sh, which says what is compared.
+"""Compares the output of `tmwatch judge` with the plain definitions, for tests/long/verdicts.sh, whose head describes the checks.
 
     tests/long/verdicts.py PROGRAM HISTORIES SEED [PEER]
 """

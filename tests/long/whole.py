@@ -1,10 +1,11 @@
 #!/usr/bin/env python3
-"""Finds the first prefix of a whole trace that no serial order explains, by trying all orders and completions.
+"""Finds the first prefix of a whole trace that has no serial order, by trying all orders and completions.
 
     whole.py opacity|strict < run.trace
 
-Prints its length, or `none`. The trace is cut wherever all transactions have ended, and from the end states of one part all orders of the
-next are tried. Only what may take an order away is looked at: a prefix that ends in an answer. The definitions are those of histories.py.
+Prints its length, or `none`. The trace is divided at each cut, and all serial orders of a part are tried from the end states of the part
+before it. Only prefixes that end in an answer are checked, because no other event can take an order away. The definitions are those of
+histories.py.
 Exit status: 0.
 """
 import sys

@@ -97,7 +97,7 @@ show_in rows = do
   criterion ← criterion_in rows
   form ← form_in rows
   why ← flag_in (codes "why") rows
-  before ← number_in 0 1000000000000000 (codes "from") rows
+  before ← number_in 0 1000000000000000 (codes "skipped") rows
   bounds ← bounds_in rows
   Some (Show (record { criterion = criterion; form = form; why = why; before = before; bounds = bounds }))
 

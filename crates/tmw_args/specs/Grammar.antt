@@ -65,7 +65,7 @@ with_counts app = with_rule (with_rule (with_rule app (value_rule (codes "ring")
 
 -- with how many events of the run come before the trace
 abbrev pub with_before : App → App
-with_before app = with_rule app (value_rule (codes "from") (Unsigned 0 1000000000000000) (codes "0"))
+with_before app = with_rule app (value_rule (codes "skipped") (Unsigned 0 1000000000000000) (codes "0"))
 
 -- `judge`, by one of these criteria
 abbrev pub judge_among : ValueParser → App

@@ -19,143 +19,144 @@ static SHOWN: [&str; 2] = ["opacity", "strict"];
 
 // A line of help has at most 80 columns, and a command's help 40 lines: nothing here wraps a text.
 
-const JUDGE_CRITERION_HELP: &str = "By opacity, strict or both";
+const JUDGE_CRITERION_HELP: &str = "opacity, strict or both";
 
 const SUMMARY_HELP: &str = "Also count transactions, overlaps and cuts";
 
-const FIRST_HELP: &str = "End once every verdict is final";
+const FIRST_HELP: &str = "Stop reading once the verdict is final";
 
-const SHOW_CRITERION_HELP: &str = "By opacity or strict, not both";
+const SHOW_CRITERION_HELP: &str = "opacity or strict";
 
-const MEMORY_HELP: &str = "Memory: norec, lock or torn (faulty)";
+const MEMORY_HELP: &str = "norec, lock or torn (has a bug)";
 
-const TRACE_HELP: &str = "Write the run's trace before the report";
+const TRACE_HELP: &str = "Print the trace before the report";
 
-const TRACE_ONLY_HELP: &str = "Write only the run's trace";
+const TRACE_ONLY_HELP: &str = "Print only the trace";
 
-const SHOW_TRACE_HELP: &str = "Write only the window, as traces";
+const SHOW_TRACE_HELP: &str = "Print the window as traces instead";
 
-const SHOW_PAGE_HELP: &str = "Write the window as a page of HTML";
+const SHOW_PAGE_HELP: &str = "Print an HTML page instead";
 
-const WHY_HELP: &str = "Show a part that is violated by itself";
+const WHY_HELP: &str = "Show only events that matter, and say why";
 
-const FROM_HELP: &str = "Events before the trace, 0 to 10^15";
+const SKIPPED_HELP: &str = "Events before the trace, 0 to 10^15";
 
-const BENCH_SHOW_HELP: &str = "Write what `show` writes in place of the report";
+const BENCH_SHOW_HELP: &str = "Print what `show` prints instead of the report";
 
-const QUIET_HELP: &str = "Show no progress on a terminal";
+const QUIET_HELP: &str = "Do not show progress on a terminal";
 
-const RING_HELP: &str = "Cells, from one per script to 4096";
+const RING_HELP: &str = "Ring cells, one per script to 4096";
 
-const PATIENCE_HELP: &str = "Tries if the ring is full, 1 to 10^9";
+const PATIENCE_HELP: &str = "Tries on a full ring, 1 to 10^9";
 
-const ROUNDS_HELP: &str = "Runs of the workload, 1 to 10^9";
+const ROUNDS_HELP: &str = "Times to run the workload, 1 to 10^9";
 
 const WINDOW_HELP: &str = "Most transactions per window, 1 to 8";
 
-const STATES_HELP: &str = "Most outcomes at a cut, 1 to 64";
+const STATES_HELP: &str = "Most states at a cut, 1 to 64";
 
-const PROGRAM_HELP: &str = "Each command reads standard input and writes standard output.
-`tmwatch COMMAND --help` says what, and gives an example.
+const PROGRAM_HELP: &str = "Every command reads standard input and writes standard output.
+`tmwatch COMMAND --help` describes both, with an example.
 
 Exit status:
-  0  opaque (or strict) so far; also after help, the version and `steps`
+  0  opaque (or strict) so far; also --help, --version and a good `steps`
   1  violated
-  2  undecided: a window or a cut passed a bound
-  3  malformed: the events fit no run
-  4  fault: of the command line, the input, memory, reading or writing
-One line on standard output names the fault. If the output could not be written,
-standard error says so.";
+  2  undecided: the run exceeded --window or --states
+  3  malformed: no run can have these events
+  4  fault: bad options or input, out of memory or threads, or failed I/O
+
+A fault is reported as one line of JSON on standard output. If standard output
+cannot be written, standard error says so.";
 
 const JUDGE_HELP: &str =
-    "Reads a trace from standard input. Its first line is `opacity-trace 1 R`, for R
-registers that start at 0, or `opacity-trace 2 R V ..`, with each start value.
-Every further line is one event, such as `0 W 1 5`: thread 0 writes 5 to
-register 1. docs/FORMATS.md lists the events.
+    "Reads a trace from standard input. Its first line is `opacity-trace 1 R` for R
+registers that start at 0, or `opacity-trace 2 R V ..` with their start values.
+Each further line is one event: `0 W 1 5` means that thread 0 writes 5 to
+register 1. docs/FORMATS.md lists all events.
 
-Writes one line of JSON, with `both` one per criterion: the verdict, how many
-events there are, and at which of them it went wrong.
---summary adds a line of counts up to that event, a malformed one left out, or
-to the last: transactions, how they ended, overlaps, cuts, the widest window.
---first ends at the event that makes the verdict violated, undecided or
-malformed, with `both` both of them, and parses no more. So a long run stops
-at its violation: `producer | tmwatch judge --first`.
+Prints one line of JSON, with `both` one line per criterion: the verdict, the
+number of events and, if the run went wrong, the event at which it did.
 
-A cut is where no transaction is open, and a window begins at a cut. One that
-passes its bound makes the verdict `undecided`.
+--summary adds a line of counts: transactions and how they ended, overlaps,
+cuts, and the largest window. It counts up to the event at which the run went
+wrong (if malformed, without that event), or to the end. If nothing is wrong, a
+line `untested` may follow, which names what the run did not test.
+--first stops at the event that makes the verdict final: violated, undecided or
+malformed (with `both`, at the event that makes both final). Use it to stop a
+long run at its violation: `producer | tmwatch judge --first`.
+
+A cut is a point at which no transaction is open; a window begins at a cut. If a
+window has more than --window transactions, or if more than --states states of
+the registers are possible at a cut, the verdict is `undecided`.
 
 Exit status: 0 opaque (or strict) so far, 1 violated, 2 undecided, 3 malformed,
-4 for a fault, which one line on standard output names.
+4 fault.
 
 Example: tmwatch judge --criterion both < run.trace";
 
 const SHOW_HELP: &str =
-    "Reads a trace from standard input, as `judge` does. `both` is a wrong criterion
-here: two windows seldom begin and end at the same events. Run `show` for each.
+    "Reads a trace from standard input, like `judge`, and prints the same first line.
+Below it come the states of the registers in which the last window may start,
+one per line, and the window's events in one column per thread. The event at
+which the run went wrong is marked with what is wrong. If nothing is wrong, the
+window ends with the trace.
 
-Writes the line that `judge` writes; the states of the registers from which the
-last window may begin, one per line; and the window's events, numbered, in one
-column per thread. The window begins where no transaction was open, and ends at
-the event where the run went wrong, or at the last event. Beside that event
-stands what is wrong; if malformed, which rule it broke.
+--why shows only events that suffice for the violation, and explains why no
+serial order of their transactions is possible.
+--page prints an HTML page that draws the window; it needs no network.
+--trace prints a trace of the window for each state in which it may start, and
+nothing else.
+--skipped numbers events as in the whole run, if the trace is only the end of
+it. The bench in C prints the number to use. The JSON line and standard error
+still count from 1.
 
-With --why it writes, of a violated window, a part that is violated by itself,
-of as few transactions and calls as it finds, and says why it is violated.
-
-With --trace it writes, for each state, a trace that starts with this state and
-has the events shown, and nothing else. With --page it writes one page of HTML
-that draws the window, for a browser; it needs no network.
-
-With --from N events are numbered in the whole run, of which N come before the
-trace; the report line and standard error count from 1. The bench in C writes
-this N in FILE.run.
+`--criterion both` is not allowed here, because the two windows usually differ.
+Run `show` twice instead.
 
 Exit status: 0 opaque (or strict) so far, 1 violated, 2 undecided, 3 malformed,
-4 for a fault, which one line on standard output names.
+4 fault.
 
 Example: tmwatch show --why < run.trace";
 
 const DRIVE_HELP: &str =
-    "Reads a workload in JSON from standard input: the number of registers, a script
-of transactions per thread, and the order in which threads make their calls:
+    "Reads a workload as JSON from standard input: the number of registers, a list of
+transactions for each thread, and the order in which the threads make calls:
   {\"registers\":1,\"scripts\":[[[\"W 0 5\",\"T\"]]],\"order\":[0,0]}
 
-Writes the verdict by opacity, as one line of JSON; with --trace the run's trace
-before it, and with --summary the counts of `judge --summary` behind it. With
---trace-only it writes the run's trace and nothing else, whatever other flags
-there are, so that `judge` or `show` can read it.
+Prints the verdict on opacity as one line of JSON. --trace prints the trace
+before it; --summary prints the counts of `judge --summary` after it.
+--trace-only prints the trace alone, ready for `judge` or `show`, and overrides
+the other two.
 
-Exit status: 0 opaque so far, 1 violated, 2 undecided,
-4 for a fault, which one line on standard output names.
+Exit status: 0 opaque so far, 1 violated, 2 undecided, 4 fault.
 
 Example: tmwatch drive --memory torn --trace < workload.json";
 
 const BENCH_HELP: &str =
-    "Reads a workload in JSON from standard input, as `drive` does. Its order is not
-used: each script has its own thread.
+    "Reads a workload as JSON from standard input (see `drive --help`). Each script
+runs in a thread of its own, so the order is ignored. Stops after the round in
+which the verdict becomes final.
 
-Writes the verdict by opacity, as one line of JSON, then how each thread ended;
-with --trace the run's trace before both, and with --summary the counts of
-`judge --summary` behind both. With --show it writes what `show` writes of the
-run, with --why what `show --why` does, then the ends, and the counts if asked
-for; with --trace too only the traces that `show` writes. With --trace-only it
-writes the run's trace and nothing else, whatever other flags there are, so that
-`judge` or `show` can read it. A thread that has found the ring full as often as
---patience says stops; its end is `full`.
+Prints the verdict on opacity as one line of JSON, then how each thread ended.
+If one of its events finds the ring full --patience times, a thread stops and
+ends `full`.
+--trace prints the trace before the report; --summary prints the counts last.
+--show and --why draw the last window; with --trace they print only traces of
+it. --trace-only prints the trace of the run alone, ready for `judge` or `show`,
+and overrides all of these.
 
-Exit status: 0 opaque so far, 1 violated, 2 undecided,
-4 for a fault, which one line on standard output names.
+Exit status: 0 opaque so far, 1 violated, 2 undecided, 4 fault.
 
 Example: tmwatch bench --memory norec --rounds 1000 < workload.json";
 
 const STEPS_HELP: &str =
-    "Reads from standard input a line `ring-steps 1 CELLS WRITERS LIMIT`, then one
+    "Reads a line `ring-steps 1 CELLS WRITERS LIMIT` from standard input, then one
 step per line, such as `front 0 W 0 5`. docs/FORMATS.md lists the steps.
 
-Writes the reply to each step, one per line, then how many places were claimed
-and how many events taken, such as `log 2 taken 1`.
+Prints one reply per step, then the number of places claimed and of events
+taken: `log 2 taken 1`.
 
-Exit status: 0, or 4 for a fault, which one line on standard output names.
+Exit status: 0, or 4 for a fault.
 
 Example: tmwatch steps < stopped_writer.steps";
 
@@ -186,7 +187,7 @@ fn with_command<'a>(
 fn bare_program<'a>(alloc: Global) -> Command<'a>
     ensures { app_of result ≡ wanting (new_app (codes "tmwatch")) }
 {
-    let about = "Judge runs of transactional memories by opacity or strict serializability";
+    let about = "Check runs of transactional memories for opacity or strict serializability";
     described(alloc, "tmwatch", about, PROGRAM_HELP)
         .version("0.1.0")
         .subcommand_required(true)
@@ -197,7 +198,7 @@ fn bare_program<'a>(alloc: Global) -> Command<'a>
 fn new_judge<'a>(alloc: Global, criteria: &'a [&'a str]) -> Result<Command<'a>, AllocError>
     ensures { IfOk result (λ command. app_of command ≡ judge_among (Names criteria.entry)) }
 {
-    let about = "Judge a trace by opacity or strict serializability";
+    let about = "Check a trace for opacity or strict serializability";
     let judge = described(alloc, "judge", about, JUDGE_HELP);
     let judged = with_criterion(alloc, judge, criteria, JUDGE_CRITERION_HELP)?;
     let counted = with_flag(alloc, judged, "summary", SUMMARY_HELP)?;
@@ -208,7 +209,7 @@ fn new_judge<'a>(alloc: Global, criteria: &'a [&'a str]) -> Result<Command<'a>, 
 fn new_show<'a>(alloc: Global, criteria: &'a [&'a str]) -> Result<Command<'a>, AllocError>
     ensures { IfOk result (λ command. app_of command ≡ show_among (Names criteria.entry)) }
 {
-    let about = "Judge a trace, and draw its last window, where it went wrong";
+    let about = "Check a trace, and draw the window in which it went wrong";
     let show = described(alloc, "show", about, SHOW_HELP);
     let judged = with_criterion(alloc, show, criteria, SHOW_CRITERION_HELP)?;
     let traced = with_flag(alloc, judged, "trace", SHOW_TRACE_HELP)?;
@@ -223,7 +224,7 @@ fn new_show<'a>(alloc: Global, criteria: &'a [&'a str]) -> Result<Command<'a>, A
 fn new_drive<'a>(alloc: Global, memories: &'a [&'a str]) -> Result<Command<'a>, AllocError>
     ensures { IfOk result (λ command. app_of command ≡ drive_among (Names memories.entry)) }
 {
-    let about = "Run a workload on a memory in one thread, and judge the run";
+    let about = "Run a workload on a built-in memory in one thread, and check the run";
     let drive = described(alloc, "drive", about, DRIVE_HELP);
     with_bounds(alloc, with_memory(alloc, drive, memories)?)
 }
@@ -232,7 +233,7 @@ fn new_drive<'a>(alloc: Global, memories: &'a [&'a str]) -> Result<Command<'a>, 
 fn new_bench<'a>(alloc: Global, memories: &'a [&'a str]) -> Result<Command<'a>, AllocError>
     ensures { IfOk result (λ command. app_of command ≡ bench_among (Names memories.entry)) }
 {
-    let about = "Run a workload on a memory in threads, and judge the run";
+    let about = "Run a workload on a built-in memory in threads, and check the run";
     let bench = described(alloc, "bench", about, BENCH_HELP);
     let remembered = with_memory(alloc, bench, memories)?;
     let shown = with_flag(alloc, remembered, "show", BENCH_SHOW_HELP)?;
@@ -245,7 +246,7 @@ fn new_bench<'a>(alloc: Global, memories: &'a [&'a str]) -> Result<Command<'a>, 
 fn new_steps<'a>(alloc: Global) -> Command<'a>
     ensures { app_of result ≡ steps }
 {
-    let about = "Run a ring step by step, and write each reply";
+    let about = "Run the lock-free ring step by step";
     described(alloc, "steps", about, STEPS_HELP)
 }
 
@@ -338,11 +339,18 @@ fn with_counts<'a>(alloc: Global, command: Command<'a>) -> Result<Command<'a>, A
         .arg(count_option(alloc, "rounds", 1, 1_000_000_000, "1", ROUNDS_HELP))
 }
 
-/// The command with how many events of the run come before the trace as an option.
+/// Returns the command with the option for the number of events of the run before the trace.
 fn with_before<'a>(alloc: Global, command: Command<'a>) -> Result<Command<'a>, AllocError>
     ensures { IfOk result (λ given. app_of given ≡ with_before (app_of command.entry)) }
 {
-    command.arg(count_option(alloc, "from", 0, 1_000_000_000_000_000, "0", FROM_HELP))
+    command.arg(count_option(
+        alloc,
+        "skipped",
+        0,
+        1_000_000_000_000_000,
+        "0",
+        SKIPPED_HELP,
+    ))
 }
 
 /// The command with the two bounds of judging as options.

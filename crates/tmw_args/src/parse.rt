@@ -149,7 +149,7 @@ fn show_of(show: &ArgMatches<'_>) -> Option<Order>
     let criterion = criterion_of(show)?;
     let form = form_of(show)?;
     let why = flag_of(show, "why")?;
-    let before = count_of(show, "from", 0, MOST_BEFORE)?;
+    let before = count_of(show, "skipped", 0, MOST_BEFORE)?;
     let bounds = bounds_of(show)?;
     Some(Order::Show(ShowOptions {
         criterion,

@@ -1,6 +1,7 @@
 -- What `judge` answers, by its options: from the bytes that its source tells to the lines that its sink takes and the exit status.
 use Rattle.tmw_judge.specs.Shared.{AnswersTextFault, AreEvents, Asked, Bounds, EndsSoon, Event, FailsBehind, Fault, FromSource, HasFirstLineFault, HasTextFault, Header, IsRemarkedRun, IsVerdict, Memory, RemarksTrace, Summary, TellsBroken, TextFault, ToSink, Verdict, trace_grammar, trace_text}
-use Rattle.std.specs.Prelude.{◌≡◌, ◌⊎◌, ◌++◌, ◌&&◌, ◌||◌, ◌<◌, ◌≤◌, ℕ, Bool, true, false, List, [], length, take, Option, Some, None, Result, Ok, Err, if◌then◌else◌}
+use Rattle.std.specs.Prelude.{◌≡◌, ◌⊎◌, ◌++◌, ◌&&◌, ◌<◌, ◌≤◌, ℕ, Bool, true, false, List, [], length, take, Option, Some, None, Result, Ok, Err, if◌then◌else◌}
+use Rattle.tmw_defs.specs.declared.verdict.Why.{Why}
 use Rattle.tmw_defs.specs.declared.verdict.Verdict.TheVariants.{OpaqueSoFar, StrictSoFar, Malformed, Undecided}
 use Rattle.tmw_monitor.specs.declared.broken_rule.BrokenRule.{BrokenRule}
 use Rattle.tmw_report.specs.declared.remark.Remark.{Remark}
@@ -107,12 +108,13 @@ abbrev pub summary_lines : Option Summary → List ℕ
 summary_lines None = []
 summary_lines (Some summary) = summary_text summary.counts
 
--- Of counts, why the run can't show much, if it can't and nothing is wrong.
+-- The line of what the run did not test, if there are counts and nothing is wrong.
 abbrev pub lacking_lines : Bool → Option Summary → List ℕ
 lacking_lines is_fine None = []
 lacking_lines is_fine (Some summary) = lacks_if is_fine summary
 
--- The lines of the reports, and behind them that of the counts, if there are counts, and what lacks. The status is the reports'.
+-- The lines of the reports, then that of the counts, if there are counts, and that of what the run did not test. The status is the
+-- reports'.
 abbrev pub judged_lines : JudgeResult → List ℕ
 judged_lines answer =
     (report_lines answer.reports ++ summary_lines answer.summary) ++ lacking_lines (all_open (told_verdicts answer.reports)) answer.summary
@@ -120,12 +122,12 @@ judged_lines answer =
 abbrev pub judged_status : JudgeResult → ℕ
 judged_status answer = report_status answer.reports
 
--- There are counts, which tell that no two transactions overlapped although there are two threads or more.
+-- There are counts, and by them no two transactions overlapped although there are two threads or more.
 abbrev pub none_overlapped : Option Summary → Bool
 none_overlapped None = false
 none_overlapped (Some summary) = summary.none_overlapped
 
--- By each criterion that is asked for nothing is wrong, and the counts tell that no two transactions overlapped.
+-- Nothing is wrong by any requested criterion, and by the counts no two transactions overlapped.
 abbrev pub shows_nothing : JudgeResult → Bool
 shows_nothing answer = all_open (told_verdicts answer.reports) && none_overlapped answer.summary
 
@@ -139,21 +141,26 @@ are_malformed (Opacity verdict) = is_malformed verdict
 are_malformed (Strict verdict) = is_malformed verdict
 are_malformed (Both opacity strict) = is_malformed opacity && is_malformed strict
 
-abbrev pub is_undecided : Verdict → Bool
-is_undecided (Undecided at why) = true
-is_undecided _ = false
+-- The bound that the history exceeds, if it is undecided by this verdict.
+abbrev pub why_undecided : Verdict → Option Why
+why_undecided (Undecided at why) = Some why
+why_undecided _ = None
 
--- One of these says that the history is undecided.
-abbrev pub any_undecided : ByCriterion Verdict → Bool
-any_undecided (Opacity verdict) = is_undecided verdict
-any_undecided (Strict verdict) = is_undecided verdict
-any_undecided (Both opacity strict) = is_undecided opacity || is_undecided strict
+-- The bound that it exceeds by one of these verdicts, opacity's first.
+abbrev pub any_undecided : ByCriterion Verdict → Option Why
+any_undecided (Opacity verdict) = why_undecided verdict
+any_undecided (Strict verdict) = why_undecided verdict
+any_undecided (Both opacity strict) = either (why_undecided opacity)
+  where
+    either : Option Why → Option Why
+    either (Some why) = Some why
+    either None = why_undecided strict
 
 -- The remark on a run whose events all fit: it shows nothing, or it is undecided.
-abbrev pub remark_on : Bool → Bool → Option Remark
-remark_on true undecided = Some NothingShown
-remark_on false true = Some IsUndecided
-remark_on false false = None
+abbrev pub remark_on : Bool → Option Why → Option Remark
+remark_on true exceeded = Some NothingShown
+remark_on false (Some why) = Some (IsUndecided why)
+remark_on false None = None
 
 abbrev pub remark_on_fit : JudgeResult → Option Remark
 remark_on_fit answer = remark_on (shows_nothing answer) (any_undecided (told_verdicts answer.reports))
@@ -167,7 +174,7 @@ remark_by (Some broken) answer =
 abbrev pub remark_of : JudgeResult → Option Remark
 remark_of answer = remark_by answer.broken answer
 
--- What a run of `judge` does. The sink for errors is told a remark on the run, or which line has a fault.
+-- What a run of `judge` does. It writes to the sink for errors a remark on the run, or which line has a fault.
 abbrev pub JudgesWith : {S K E : Type 0} → FromSource S → ToSink K → ToSink E → JudgeOptions → S → S → K → K → E → E → ℕ → Type 0
 JudgesWith From To Errors options =
     IsRemarkedRun From To (Answers options) judged_lines judged_status (RemarksTrace Errors remark_of)

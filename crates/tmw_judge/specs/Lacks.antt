@@ -1,4 +1,4 @@
--- Why a run in which nothing is wrong can't show much, by the words of the bench in C.
+-- What a run in which nothing is wrong did not test, with the names that the bench in C prints.
 use Rattle.tmw_judge.specs.Shared.{Summary}
 use Rattle.std.specs.Prelude.{ℕ, ◌==◌, ◌/◌, Bool, true, false, List, [], codes, nat_lt, if◌then◌else◌}
 use Rattle.tmw_defs.specs.declared.counts.Counts.{Counts}
@@ -18,16 +18,16 @@ progress_of counts =
     if counts.committed == 0 then Nothing
     else (if nat_lt counts.committed (counts.transactions / 20) then Little else Enough)
 
--- What lacks, in a line of compact JSON, if anything does.
+-- What the run did not test, in a line of compact JSON, if there is anything.
 abbrev pub lacks_line : Meeting → Progress → List ℕ
-lacks_line Alone Nothing = codes "{\"lacks\":[\"threads\",\"commits\"]}\n"
-lacks_line Alone Little = codes "{\"lacks\":[\"threads\",\"progress\"]}\n"
-lacks_line Alone Enough = codes "{\"lacks\":[\"threads\"]}\n"
-lacks_line Apart Nothing = codes "{\"lacks\":[\"overlap\",\"commits\"]}\n"
-lacks_line Apart Little = codes "{\"lacks\":[\"overlap\",\"progress\"]}\n"
-lacks_line Apart Enough = codes "{\"lacks\":[\"overlap\"]}\n"
-lacks_line Together Nothing = codes "{\"lacks\":[\"commits\"]}\n"
-lacks_line Together Little = codes "{\"lacks\":[\"progress\"]}\n"
+lacks_line Alone Nothing = codes "{\"untested\":[\"threads\",\"commits\"]}\n"
+lacks_line Alone Little = codes "{\"untested\":[\"threads\",\"progress\"]}\n"
+lacks_line Alone Enough = codes "{\"untested\":[\"threads\"]}\n"
+lacks_line Apart Nothing = codes "{\"untested\":[\"overlap\",\"commits\"]}\n"
+lacks_line Apart Little = codes "{\"untested\":[\"overlap\",\"progress\"]}\n"
+lacks_line Apart Enough = codes "{\"untested\":[\"overlap\"]}\n"
+lacks_line Together Nothing = codes "{\"untested\":[\"commits\"]}\n"
+lacks_line Together Little = codes "{\"untested\":[\"progress\"]}\n"
 lacks_line Together Enough = []
 
 -- That line, of a run in which nothing is wrong.

@@ -1,7 +1,7 @@
 ghost use Rattle.std.specs.Prelude.{◌≡◌, IfOk, string_bytes};
 ghost use Rattle.tmw_judge.specs.Judge.{report_lines, report_status};
 ghost use Rattle.tmw_judge.specs.Tally.{all_open};
-ghost use Rattle.tmw_judge.specs.Answer.{any_undecided, are_malformed, is_malformed, is_undecided, judged_lines, remark_of, remark_on, shows_nothing, told_verdicts};
+ghost use Rattle.tmw_judge.specs.Answer.{any_undecided, are_malformed, is_malformed, judged_lines, remark_of, remark_on, shows_nothing, told_verdicts, why_undecided};
 
 use crate::by_criterion::ByCriterion;
 use crate::judge_result::JudgeResult;
@@ -9,6 +9,7 @@ use crate::lacks::lacks_if;
 use crate::report::Report;
 use std::alloc::{AllocError, Global};
 use tmw_counts::is_open;
+use tmw_defs::Why;
 use tmw_monitor::Verdict;
 use tmw_report::{Remark, both_status, report_strict, report_text, status_of, summary_text};
 
@@ -28,7 +29,8 @@ pub fn report_lines(alloc: Global, reports: &ByCriterion<Report>) -> Result<Stri
     }
 }
 
-/// Makes the reports' lines; behind them that of the counts, if there are counts; and what lacks, if nothing is wrong.
+/// Returns the reports' lines; then that of the counts, if there are counts; and then what the run did not test, if nothing
+/// is wrong.
 pub fn judged_lines(alloc: Global, answer: &JudgeResult) -> Result<String, AllocError>
     ensures { IfOk result (λ lines. string_bytes lines ≡ judged_lines answer.now) }
 {
@@ -51,8 +53,8 @@ pub const fn status_of_reports(reports: &ByCriterion<Report>) -> u8
     }
 }
 
-/// Returns what is remarked of the run: that it shows nothing, that it was undecided, or which event fits no run although not
-/// each line reports it.
+/// Returns the remark on the run: that it shows nothing, that it is undecided, or which event fits no run although not each
+/// line reports it.
 pub fn remark_of(answer: &JudgeResult) -> Option<Remark>
     ensures { result ≡ remark_of answer.now }
 {
@@ -62,37 +64,40 @@ pub fn remark_of(answer: &JudgeResult) -> Option<Remark>
     }
 }
 
-/// Returns the remark on a run whose events all fit.
-const fn remark_on(shows_nothing: bool, is_undecided: bool) -> Option<Remark>
-    ensures { result ≡ remark_on shows_nothing is_undecided }
+/// Returns the remark on a run whose events all fit. If it is undecided, it exceeded the bound `exceeded`.
+const fn remark_on(shows_nothing: bool, exceeded: Option<Why>) -> Option<Remark>
+    ensures { result ≡ remark_on shows_nothing exceeded }
 {
-    if shows_nothing {
-        Some(Remark::NothingShown)
-    } else if is_undecided {
-        Some(Remark::Undecided)
-    } else {
-        None
+    match (shows_nothing, exceeded) {
+        (true, _) => Some(Remark::NothingShown),
+        (false, Some(why)) => Some(Remark::Undecided(why)),
+        (false, None) => None,
     }
 }
 
-/// Returns whether a report says that the run is undecided.
-const fn any_undecided(reports: &ByCriterion<Report>) -> bool
+/// Returns the bound that the run exceeded, if a report is undecided; of two, the report by opacity counts.
+const fn any_undecided(reports: &ByCriterion<Report>) -> Option<Why>
     ensures { result ≡ any_undecided (told_verdicts reports.now) }
 {
     match reports {
         ByCriterion::Opacity(report) | ByCriterion::Strict(report) => {
-            is_undecided(&report.verdict)
+            why_undecided(&report.verdict)
         }
-        ByCriterion::Both(opacity, strict) => {
-            is_undecided(&opacity.verdict) || is_undecided(&strict.verdict)
-        }
+        ByCriterion::Both(opacity, strict) => match why_undecided(&opacity.verdict) {
+            Some(why) => Some(why),
+            None => why_undecided(&strict.verdict),
+        },
     }
 }
 
-const fn is_undecided(verdict: &Verdict) -> bool
-    ensures { result ≡ is_undecided verdict.now }
+/// Returns the bound that the run exceeded, if this verdict is undecided.
+const fn why_undecided(verdict: &Verdict) -> Option<Why>
+    ensures { result ≡ why_undecided verdict.now }
 {
-    matches!(verdict, Verdict::Undecided(_, _))
+    match *verdict {
+        Verdict::Undecided(_at, why) => Some(why),
+        _ => None,
+    }
 }
 
 /// Returns whether each report says that the run is malformed.
@@ -113,7 +118,7 @@ const fn is_malformed(verdict: &Verdict) -> bool
     matches!(verdict, Verdict::Malformed(_))
 }
 
-/// Returns whether nothing is wrong by any criterion, and the counts tell that no two transactions overlapped.
+/// Returns whether nothing is wrong by any criterion, and by the counts no two transactions overlapped.
 const fn shows_nothing(answer: &JudgeResult) -> bool
     ensures { result ≡ shows_nothing answer.now }
 {

@@ -39,9 +39,14 @@ number_of _ = None
 
 -- what is wrong with that line, in a trace of the version with this digit
 abbrev pub wrong_of : Fault → ℕ → List ℕ
-wrong_of BadHeader version = codes " is no header such as opacity-trace 1 8: "
-wrong_of (Cut number) version = codes " has no line feed: "
-wrong_of _ version = codes " is no event of version " ++ (version ∷ codes ": ")
+wrong_of BadHeader version = codes " is not a header, such as opacity-trace 1 8: "
+wrong_of (Cut number) version = codes " is incomplete (no newline at the end): "
+wrong_of _ version = codes " is not an event of a version " ++ (version ∷ codes " trace: ")
+
+-- what the message advises after the quoted line, if anything: without its first line, a trace is empty
+abbrev pub advice_of : Fault → List ℕ
+advice_of (Cut number) = if nat_lt 1 number then codes ". Was the recorder killed? Drop this line with: sed '$d'" else []
+advice_of _ = []
 
 -- a first line that is empty, as that of no bytes at all is, has nothing to quote
 abbrev pub is_empty_header : Fault → List ℕ → Bool
@@ -49,14 +54,15 @@ is_empty_header BadHeader text = length text == 0
 is_empty_header _ text = false
 
 abbrev pub empty_text : List ℕ
-empty_text = codes "error: the input is empty or begins with an empty line: no header such as opacity-trace 1 8"
+empty_text =
+    codes "error: the input is empty or begins with an empty line; the first line must be a header, such as opacity-trace 1 8"
 
 -- the whole line that is told
 abbrev pub quote_text : ℕ → Fault → ℕ → List ℕ → List ℕ
 quote_text number fault version text =
     if is_empty_header fault text
     then empty_text
-    else (((codes "error: line " ++ decimal number) ++ wrong_of fault version) ++ quoted text)
+    else ((((codes "error: line " ++ decimal number) ++ wrong_of fault version) ++ quoted text) ++ advice_of fault)
 
 -- the digit of the version, which a trace's header tells behind its first word
 abbrev pub version_in : List ℕ → ℕ

@@ -1,19 +1,28 @@
--- What a command tells on the sink for errors of a run beside its report.
+-- The message about a run that a command writes to the sink for errors beside its report.
 use Rattle.tmw_report.specs.Shared.{FromSource, ToSink, decimal}
 use Rattle.std.specs.Prelude.{◌≡◌, ◌++◌, ℕ, Bool, List, Option, Some, None, Result, Ok, Err, codes, if◌then◌else◌}
+use Rattle.tmw_defs.specs.declared.verdict.Why.{Why}
+use Rattle.tmw_defs.specs.declared.verdict.Why.TheVariants.{Transactions, States}
 use Rattle.tmw_report.specs.CommandRun.{IsCommandRun}
 use Rattle.tmw_report.specs.SendText.{IsSent}
 use Rattle.tmw_report.specs.declared.fault.Fault.{Fault}
 use Rattle.tmw_report.specs.declared.remark.Remark.{Remark}
 use Rattle.tmw_report.specs.declared.remark.Remark.TheVariants.{NothingShown, Undecided, Broken}
 
--- No two transactions overlapped; or the run is undecided, and what to do; or the event of this number fits no run.
+-- The run exceeded this bound, and what to do.
+abbrev pub undecided_text : Why → List ℕ
+undecided_text Transactions =
+    codes "undecided: more transactions than --window allows without a quiescent point. Put a barrier after every transaction or two (docs/RECORDING.md)\n"
+undecided_text States =
+    codes "undecided: more possible states at a quiescent point than --states allows. Read each register before you write it (docs/RECORDING.md)\n"
+
+-- No two transactions overlapped; or the run exceeded a bound; or the event of this number fits no run.
 abbrev pub remark_text : Remark → List ℕ
-remark_text NothingShown = codes "no two transactions overlapped: this run shows nothing\n"
-remark_text Undecided =
-    codes "undecided: let all threads wait for one another after a transaction or two, and read what they write (RECORDING)\n"
+remark_text NothingShown = codes "warning: no two transactions overlapped, so this run tests nothing\n"
+remark_text (Undecided why) = undecided_text why
 remark_text (Broken at) =
-    (codes "event " ++ decimal at) ++ codes " fits no run, so the record may be wrong from the start (RECORDING)\n"
+    (codes "warning: event " ++ decimal at)
+    ++ codes " is impossible in any run, so the recorder may be wrong (docs/RECORDING.md); don't trust the verdict\n"
 
 abbrev pub nothing_shown_if : Bool → Option Remark
 nothing_shown_if shows_nothing = if shows_nothing then Some NothingShown else None

@@ -1,4 +1,4 @@
--- The line that tells what a history has shown: compact JSON with its keys in byte order, and a line feed.
+-- The line of the counts: compact JSON with its keys in byte order, and a line feed.
 use Rattle.tmw_report.specs.Shared.{decimal}
 use Rattle.std.specs.Prelude.{ℕ, List, ◌++◌, codes}
 use Rattle.serde_json.specs.Data.{Data, Members, member, no_members, number, object, unsigned}
@@ -8,12 +8,12 @@ abbrev pub summary_text : Counts → List ℕ
 summary_text counts =
     codes "{\"aborted\":" ++ (decimal counts.aborted
     ++ (codes ",\"committed\":" ++ (decimal counts.committed
+    ++ (codes ",\"concurrent\":" ++ (decimal counts.overlapping
     ++ (codes ",\"cuts\":" ++ (decimal counts.cuts
+    ++ (codes ",\"forced_aborts\":" ++ (decimal counts.unasked
     ++ (codes ",\"live\":" ++ (decimal counts.live
-    ++ (codes ",\"overlapping\":" ++ (decimal counts.overlapping
-    ++ (codes ",\"transactions\":" ++ (decimal counts.transactions
-    ++ (codes ",\"unasked\":" ++ (decimal counts.unasked
-    ++ (codes ",\"widest\":" ++ (decimal counts.widest ++ codes "}\n")))))))))))))))
+    ++ (codes ",\"max_window\":" ++ (decimal counts.widest
+    ++ (codes ",\"transactions\":" ++ (decimal counts.transactions ++ codes "}\n")))))))))))))))
 
 -- a member whose value is a number, and those behind it
 abbrev pub counted : List ℕ → ℕ → Members → Members
@@ -24,9 +24,9 @@ abbrev pub summary_object : Counts → Data
 summary_object counts = object (
     counted (codes "aborted") counts.aborted (
     counted (codes "committed") counts.committed (
+    counted (codes "concurrent") counts.overlapping (
     counted (codes "cuts") counts.cuts (
+    counted (codes "forced_aborts") counts.unasked (
     counted (codes "live") counts.live (
-    counted (codes "overlapping") counts.overlapping (
-    counted (codes "transactions") counts.transactions (
-    counted (codes "unasked") counts.unasked (
-    counted (codes "widest") counts.widest no_members))))))))
+    counted (codes "max_window") counts.widest (
+    counted (codes "transactions") counts.transactions no_members))))))))

@@ -2,7 +2,7 @@ ghost use Rattle.tmw_report.specs.Shared.{Puts, front_of, version_digit};
 ghost use Rattle.std.specs.Prelude.{◌≡◌, ◌<◌};
 ghost use Rattle.tmw_lines.specs.Lines.{format_by, unread_bytes};
 ghost use Rattle.tmw_report.specs.SendText.{fault_of};
-ghost use Rattle.tmw_report.specs.Quote.{escaped, escaped_byte, hex_digit, is_empty_header, number_of, quote_end, quoted, wrong_of};
+ghost use Rattle.tmw_report.specs.Quote.{advice_of, escaped, escaped_byte, hex_digit, is_empty_header, number_of, quote_end, quoted, wrong_of};
 ghost use Rattle.tmw_report.specs.QuotesHeld.{QuotesHeld, text_of};
 
 use crate::fault::Fault;
@@ -15,9 +15,9 @@ use tmw_trace::{TraceLines, Version};
 /// The most bytes of a line that are quoted.
 const MOST_QUOTED: usize = 80;
 
-/// What is told of an empty first line.
+/// The message for an empty first line.
 const EMPTY: &[u8] =
-    b"error: the input is empty or begins with an empty line: no header such as opacity-trace 1 8";
+    b"error: the input is empty or begins with an empty line; the first line must be a header, such as opacity-trace 1 8";
 
 /// A line of a trace that has a fault.
 #[derive(Drop)]
@@ -40,7 +40,8 @@ impl Texts<Quote<'_>> for QuoteTexts {
         }
         let wrong = wrong_of(quote.fault, quote.version);
         put_numbered(sink, b"error: line ", quote.number, wrong)?;
-        put_quoted(sink, quote.line)
+        put_quoted(sink, quote.line)?;
+        put_all(sink, advice_of(quote.fault))
     }
 }
 
@@ -97,10 +98,22 @@ fn wrong_of(fault: Fault, version: Version) -> &'static [u8]
     ensures { result.now ≡ wrong_of fault (version_digit version) }
 {
     match (fault, version) {
-        (Fault::BadHeader, _) => b" is no header such as opacity-trace 1 8: ",
-        (Fault::Cut(_), _) => b" has no line feed: ",
-        (_, Version::One) => b" is no event of version 1: ",
-        (_, Version::Two) => b" is no event of version 2: ",
+        (Fault::BadHeader, _) => b" is not a header, such as opacity-trace 1 8: ",
+        (Fault::Cut(_), _) => b" is incomplete (no newline at the end): ",
+        (_, Version::One) => b" is not an event of a version 1 trace: ",
+        (_, Version::Two) => b" is not an event of a version 2 trace: ",
+    }
+}
+
+/// Returns what the message advises after the quoted line, if anything. Without its first line, a trace is empty.
+fn advice_of(fault: Fault) -> &'static [u8]
+    ensures { result.now ≡ advice_of fault }
+{
+    match fault {
+        Fault::Cut(number) if number > 1 => {
+            b". Was the recorder killed? Drop this line with: sed '$d'"
+        }
+        _ => b"",
     }
 }
 

@@ -6,8 +6,8 @@ use serde_json::{Value, json};
 use std::alloc::{AllocError, Global};
 use tmw_defs::Counts;
 
-/// Makes the line that tells what a history has shown: an object in compact JSON, with its keys in byte order and then a
-/// line feed. It fails only if an allocation fails.
+/// Returns the line of the counts: an object in compact JSON, with its keys in byte order and then a line feed. Fails only
+/// if an allocation fails.
 pub fn summary_text(alloc: Global, counts: &Counts) -> Result<String, AllocError>
     ensures { IfOk result (λ line. string_bytes line ≡ summary_text counts.now) }
 {
@@ -22,11 +22,11 @@ fn object_of(alloc: Global, counts: &Counts) -> Result<Value, AllocError>
     json!(in alloc; {
         "aborted": counts.aborted,
         "committed": counts.committed,
+        "concurrent": counts.overlapping,
         "cuts": counts.cuts,
+        "forced_aborts": counts.unasked,
         "live": counts.live,
-        "overlapping": counts.overlapping,
-        "transactions": counts.transactions,
-        "unasked": counts.unasked,
-        "widest": counts.widest
+        "max_window": counts.widest,
+        "transactions": counts.transactions
     })
 }

@@ -34,19 +34,19 @@ event_row names values place number event =
 
 -- the words for what the prefix that ends here is, by the verdict
 abbrev pub violated_text : Criterion → List ℕ
-violated_text Opacity = codes "violated, by opacity"
-violated_text Strict = codes "violated, by strict serializability"
+violated_text Opacity = codes "violates opacity"
+violated_text Strict = codes "violates strict serializability"
 
 abbrev pub undecided_text : Why → List ℕ
-undecided_text Transactions = codes "undecided, by transactions"
-undecided_text States = codes "undecided, by states"
+undecided_text Transactions = codes "undecided: too many transactions"
+undecided_text States = codes "undecided: too many initial states"
 
 -- and for the rule that its last event broke
 abbrev pub rule_text : Fault → List ℕ
-rule_text Register = codes "malformed: the register is not one of the run's"
-rule_text Busy = codes "malformed: the thread has a pending call already"
-rule_text Idle = codes "malformed: no call of the thread is pending"
-rule_text Mismatch = codes "malformed: the answer does not fit the call"
+rule_text Register = codes "malformed: the run has no such register"
+rule_text Busy = codes "malformed: this thread already has a pending call"
+rule_text Idle = codes "malformed: this thread has no pending call"
+rule_text Mismatch = codes "malformed: the answer does not match the call"
 
 abbrev pub malformed_text : Option BrokenRule → List ℕ
 malformed_text (Some broken) = rule_text broken.rule

@@ -46,10 +46,10 @@ abbrev pub told_of : Criterion → ℕ → ShownTrace → RunVerdict
 told_of criterion before shown =
     record { criterion = criterion; before = before; verdict = shown.showing.verdict; broken = shown.showing.broken }
 
--- that event, and what is told of it
+-- that event, and the text of the verdict beside it
 abbrev pub mark_at : RunVerdict → Option ℕ → List ℕ
 mark_at told None = []
-mark_at told (Some at) = codes ",\"mark\":" ++ (decimal at ++ (codes ",\"told\":\"" ++ (wrong_text told ++ codes "\"")))
+mark_at told (Some at) = codes ",\"mark\":" ++ (decimal at ++ (codes ",\"verdict_text\":\"" ++ (wrong_text told ++ codes "\"")))
 
 abbrev pub mark_json : RunVerdict → List ℕ
 mark_json told = mark_at told (marked_at told)

@@ -1,5 +1,5 @@
 -- What `show` promises: from the bytes that its source tells to what its sink takes and the exit status.
-use Rattle.tmw_show.specs.Shared.{AnswersTextFault, AreEvents, BrokenRule, Criterion, Drawing, Event, Header, IsRemarkedRun, Malformed, Page, RemarksTrace, ShowOptions, Traces, Verdict, kept_of, long_values, members, report_by, rules_for, states_text, trace_grammar, trace_text, traces_text, verdict_status}
+use Rattle.tmw_show.specs.Shared.{AnswersTextFault, AreEvents, BrokenRule, Criterion, Drawing, Event, Header, IsRemarkedRun, Malformed, Page, RemarksTrace, ShowOptions, Traces, Undecided, Verdict, kept_of, long_values, members, report_by, rules_for, states_text, trace_grammar, trace_text, traces_text, verdict_status}
 use Rattle.std.specs.Prelude.{Err, List, None, Ok, Option, Result, Some, ℕ, ◌++◌, ◌+◌, ◌≡◌}
 use Rattle.tmw_lines.specs.TextFault.{HasTextFault}
 use Rattle.tmw_report.specs.declared.fault.Fault.{Fault}
@@ -13,7 +13,7 @@ use Rattle.tmw_show.specs.NeededEvents.{IsNeededOf, marks_of, needed_text, reaso
 use Rattle.tmw_show.specs.Page.{page_text, told_of}
 use Rattle.tmw_show.specs.Sentences.{found_text}
 use Rattle.tmw_show.specs.declared.frame.Frame.TheVariants.{Line}
-use Rattle.tmw_report.specs.declared.remark.Remark.TheVariants.{Broken as IsBroken}
+use Rattle.tmw_report.specs.declared.remark.Remark.TheVariants.{Broken as IsBroken, Undecided as IsUndecided}
 
 -- The bytes are the text of a trace, and this is what is shown of its history.
 pub record IsShownOf (options : ShowOptions) (bytes : List ℕ) (shown : ShownTrace) : Type 0 where
@@ -57,9 +57,10 @@ shown_text criterion before Page shown = page_text criterion before shown
 abbrev pub shown_status : ShownTrace → ℕ
 shown_status shown = verdict_status shown.showing.verdict
 
--- An event after the one that the verdict names fits no run.
+-- An event after the one that the verdict names fits no run; or else the run is undecided.
 abbrev pub remark_by : Option BrokenRule → Verdict → Option Remark
-remark_by None verdict = None
+remark_by None (Undecided at why) = Some (IsUndecided why)
+remark_by None _ = None
 remark_by (Some broken) (Malformed at) = None
 remark_by (Some broken) _ = Some (IsBroken broken.at)
 

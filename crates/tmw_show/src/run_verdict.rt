@@ -56,8 +56,8 @@ fn violated_of(criterion: Criterion) -> &'static str
     ensures { result.now ≡ violated_text criterion }
 {
     match criterion {
-        Criterion::Opacity => "violated, by opacity",
-        Criterion::Strict => "violated, by strict serializability",
+        Criterion::Opacity => "violates opacity",
+        Criterion::Strict => "violates strict serializability",
     }
 }
 
@@ -66,8 +66,8 @@ fn undecided_of(why: Why) -> &'static str
     ensures { result.now ≡ undecided_text why }
 {
     match why {
-        Why::Transactions => "undecided, by transactions",
-        Why::States => "undecided, by states",
+        Why::Transactions => "undecided: too many transactions",
+        Why::States => "undecided: too many initial states",
     }
 }
 
@@ -86,9 +86,9 @@ fn rule_of(rule: Malformed) -> &'static str
     ensures { result.now ≡ rule_text rule }
 {
     match rule {
-        Malformed::Register => "malformed: the register is not one of the run's",
-        Malformed::Busy => "malformed: the thread has a pending call already",
-        Malformed::Idle => "malformed: no call of the thread is pending",
-        Malformed::Mismatch => "malformed: the answer does not fit the call",
+        Malformed::Register => "malformed: the run has no such register",
+        Malformed::Busy => "malformed: this thread already has a pending call",
+        Malformed::Idle => "malformed: this thread has no pending call",
+        Malformed::Mismatch => "malformed: the answer does not match the call",
     }
 }

@@ -40,12 +40,14 @@ pub fn answer_shown<K: Sink, E: Sink>(
     }
 }
 
-/// Returns the remark that an event after the one which the verdict names fits no run, if one does not.
+/// Returns the remark on the run: which event after the one that the verdict names fits no run, or else that it is undecided.
 fn remark_of(showing: &ShownWindow) -> Option<Remark>
     ensures { result ≡ remark_by showing.now.broken showing.now.verdict }
 {
     match (showing.broken, showing.verdict) {
-        (None, _) | (Some(_), Verdict::Malformed(_)) => None,
+        (Some(_), Verdict::Malformed(_)) => None,
         (Some(broken), _) => Some(Remark::Broken(broken.at)),
+        (None, Verdict::Undecided(_, why)) => Some(Remark::Undecided(why)),
+        (None, _) => None,
     }
 }

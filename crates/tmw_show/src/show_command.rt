@@ -17,7 +17,8 @@ use tmw_streams::{Sink, Source};
 /// the page number events in the whole run, of which `before` come before the trace; the report's line and the sink for
 /// errors number them in the trace. The trace is read once. Returns the exit status: 0 if nothing is wrong so far, 1 for
 /// violated, 2 for undecided, 3 for malformed, 4 for any fault, whose line alone is written. The sink for errors is told
-/// which line of the trace has a fault, or the first event that fits no run, if it comes after the event of the verdict.
+/// which line of the trace has a fault, or the first event that fits no run, if it comes after the event of the verdict, or
+/// else what to do if the run is undecided.
 pub fn run_show<S: Source, K: Sink, E: Sink>(
     alloc: Global,
     source: &mut S,

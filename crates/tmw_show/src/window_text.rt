@@ -39,7 +39,7 @@ pub fn push_window(
     text.extend_from_slice(heads)?;
     text.push(b'\n')?;
     push_rows(text, told, heads.len(), legend, before, marks, events)?;
-    push_names(text, &values)
+    push_names(text, values.values())
 }
 
 /// The heads of the columns up to this thread's.

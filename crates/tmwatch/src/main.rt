@@ -27,13 +27,13 @@ use tmw_tm::Tm;
 /// How many registers each memory has: as many as a workload may have.
 const REGISTERS: Registers = Registers { number: 8 };
 
-/// What standard error is told of a word that is not UTF-8.
+/// The message for an argument that is not UTF-8.
 const NOT_UTF8: &[u8] =
-    b"error: a word of the command line is not UTF-8\n\nFor more information, try '--help'.\n";
+    b"error: an argument is not valid UTF-8\n\nFor more information, try '--help'.\n";
 
-/// What standard error is told of a failed write to standard output.
+/// The message for a failed write to standard output.
 const NOT_WRITTEN: &[u8] =
-    b"error: the output could not be written: disk full? Trust no verdict; run again\n";
+    b"error: cannot write to standard output (disk full?). The output is incomplete; run again\n";
 
 fn main(rt: HostRuntime) -> ExitCode {
     let mut source = StdSource::new(rt.stdin());

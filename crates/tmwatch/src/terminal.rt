@@ -59,5 +59,5 @@ fn put_line(line: &mut BoundedSink, rounds: u64, events: u64, unasked: u64) -> R
     put_with_number(line, b"", rounds)?;
     put_with_number(line, b" rounds, ", events)?;
     put_with_number(line, b" events, ", unasked)?;
-    put_all(line, b" unasked aborts")
+    put_all(line, b" forced aborts")
 }

@@ -154,7 +154,7 @@ const MOST = 400, LISTED = 24, SEARCHED = 1000, WIDE = 10, ENDS = 4, TOP = 24, B
 
 // What the program has written: values stay texts, since 64 bits do not fit a number. An event is its line of the trace.
 const run = JSON.parse(document.getElementById('run').textContent);
-const { report, criterion, registers, before: earlier, mark, told: wrong } = run;
+const { report, criterion, registers, before: earlier, mark, verdict_text: wrong } = run;
 const states = run.states.map(values => values.trim().split(' '));
 const events = run.events.map(line => {
   const [t, k, ...rest] = line.split(' '), event = { t: Number(t), k };
@@ -387,7 +387,7 @@ const rest = () => tell('How to read it', [
   'Point at a transaction, or reach it by Tab, to see what it comes before and after in real time.',
   'Click a read, or press Enter on it, to see where its value was written. Escape, or a click elsewhere, goes back.',
   'Arrow keys go from operation to operation.',
-  'Events are numbered from the first of the trace, or with --from N behind the N before it. The bench in C writes N in FILE.run.'], 'soft');
+  'Events are numbered from 1 or, with --skipped N, from N + 1. The bench in C prints the N to use.'], 'soft');
 function relate(tx) {
   chart.classList.toggle('related', tx !== null && picked === null);
   if (picked) return;

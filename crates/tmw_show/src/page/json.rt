@@ -128,13 +128,13 @@ impl ItemText<Event> for EventString {
     }
 }
 
-/// Adds the number of the event at which something is wrong, and what is told of it, if the verdict names one.
+/// Adds the number of the event at which something is wrong, and the text of the verdict, if the verdict names an event.
 fn push_mark(text: &mut Vec<u8>, told: RunVerdict) -> Result<(), AllocError>
     ensures { OnOk result (text.new.items ≡ text.old.items ++ mark_json told) }
 {
     if let Some(at) = marked_at(told) {
         let wrong = wrong_of(told);
-        let mark = format!(in *text.allocator(); ",\"mark\":{at},\"told\":\"{wrong}\"")?;
+        let mark = format!(in *text.allocator(); ",\"mark\":{at},\"verdict_text\":\"{wrong}\"")?;
         text.extend_from_slice(mark.as_bytes())?;
     }
     Ok(())
