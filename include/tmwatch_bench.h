@@ -1,63 +1,81 @@
 /*
-tmwatch_bench: a bench for a transactional memory in C or C++. It runs rounds of random transactions in threads and records them, and a
-watch (tmwatch.h) judges them meanwhile.
+tmwatch_bench: tests a transactional memory that is written in C or C++. It runs rounds of random transactions in threads and records them,
+while a watch (tmwatch.h) judges the record.
 
     static const tmwatch_memory memory = {&words, sizeof(struct my_tx), my_begin, my_read, my_write, NULL, my_commit, my_abort, NULL};
 
     TMWATCH_BENCH_MAIN(memory)
 
-That is a whole program, or by one call from a program of your own:
+This is a complete program. Or call the bench from a program of your own:
 
     tmwatch_plan plan = TMWATCH_PLAN;
-    tmwatch_benched benched;
-    if (tmwatch_bench(&memory, &plan, &benched) == TMWATCH_DONE)
-        tmwatch_bench_print(stdout, &benched);
+    tmwatch_bench_result result;
+    if (tmwatch_bench(&memory, &plan, &result) == TMWATCH_OK)
+        tmwatch_bench_print(stdout, &result);
 
-Link libtmwatch_bench.a before libtmwatch.a; pkg-config has the words (tmwatch_bench, tmwatch_steps). No proof covers the bench; the verdict
-is the watch's.
+Link libtmwatch_bench.a before libtmwatch.a. The packages tmwatch_bench and tmwatch_steps of pkg-config have the options. No proof covers
+the bench; the verdict is the watch's.
 
-In a round each thread makes its share of transactions, and then all wait for one another. A transaction that is rolled back is attempted
-again, and a round has at most eight attempts, so that its run is decided. In an even round each thread makes one transaction; in a mixed
-one, one thread makes a long transaction, and others several short ones.
+ROUNDS. In each round, every thread runs its share of transactions, and then all threads wait for one another. A transaction that is rolled
+back is retried, but a round has at most eight attempts, because a watch decides a run only if at most eight transactions lie between two
+quiescent points. In an even round, each thread runs one transaction. In a mixed round, one thread runs one long transaction, and others run
+several short ones.
 
-By steps, one thread runs at a time. Beside each call, and at each TMWATCH_PAUSE, it may hand over to another: the seed says when and to
-which. A round goes by walk, which hands over often, or by priorities, which starve a thread for long (PCT, by Burckhardt, Kothari,
-Musuvathi and Nagarakatte, ASPLOS 2010). If the memory decides nothing by time, address or chance, the same plan gives the same trace if
-neither `rescues` nor `waits` is above 0. A thread that waits for another has TMWATCH_PAUSE in its loop; or it waits by a lock, a condition,
-a sleep, a yield or a futex of the system, and the program is linked with the words of pkg-config, which wrap these. Else a rescue lets
-another thread go too, once the one that runs has made no step for a quarter of a second of a processor, or has slept for fifty milliseconds;
-after two rescues, for five of either. A memory that asks another process says so itself (tmwatch_asks).
+SCHEDULES. With TMWATCH_ROUNDS, the threads of a round run in parallel.
 
-By permits, the threads run freely, each attempt takes one of eight permits (tmwatch_permits.h), and a transaction is attempted as often
-as it takes.
+TMWATCH_STEPS is a controlled scheduler, which lets only one thread run at a time. Before and after each call of the memory, and at each
+TMWATCH_PAUSE, it may switch to another thread; the seed decides when, and to which one. Some rounds are a random walk, which switches
+often. The others use priorities, which starve a thread for a long time (PCT, by Burckhardt, Kothari, Musuvathi and Nagarakatte, ASPLOS
+2010). The same plan gives the same trace, unless the memory's behaviour depends on time, addresses or chance, or `stalls` or `waits` of
+the result is above 0.
 
-By all, legs of up to 1000 rounds follow one another: twenty by steps, and then of twenty one in rounds, one by permits, and all others by
-steps. One in rounds or by permits takes a tenth of a second at most. If the memory has no step of its own, three of four go in rounds or by
-permits. If it asks elsewhere (tmwatch_asks), legs go by time: after one by steps that has taken five seconds, those in rounds come, and take
-twice as long as one by steps. In half of the legs but the first, what the plan leaves to be drawn is drawn anew. The threads are the same in
-all legs.
+This scheduler has to see when a thread waits for another one. Therefore put TMWATCH_PAUSE into each loop that waits. If a thread waits with
+a lock, a condition variable, a sleep, a yield or a futex of the system, link the program with the options of pkg-config, which wrap these
+functions. Otherwise the scheduler stalls: when the running thread has made no step for a quarter of a second of processor time, or has
+slept for fifty milliseconds, it lets another thread run as well. After two stalls, five milliseconds of either are enough. A memory that
+sends requests to another process has to report that (tmwatch_external_call).
 
-No pause has to be placed by hand if the memory is compiled with -fsanitize=thread and linked without it, with libtmwatch_steps.a first:
-each atomic access is then a step, and by plan.plain each other one. By plan.orders an atomic store that isn't sequentially consistent
-may be delayed, as in the store buffers of x86; or each atomic load returns what C++20 lets it return, as the seed draws; by all, each in one
-leg by steps of four. Stores to a thread's own bytes, its stack and `tx`, are never delayed, and those to a block only if the program is
-linked with the words of tmwatch_steps, which show when it is given back. What inline assembly and code compiled elsewhere do isn't seen.
+With TMWATCH_PERMITS, the threads run freely. Each attempt takes one of eight permits (tmwatch_permits.h), and a transaction is retried until
+it ends.
 
-A call is recorded before the memory is asked, and its answer after it has answered; a transaction's first call, before the memory begins
-it. Each is recorded by turns (tmwatch_next, tmwatch_answered), so that no record is malformed. No two writes have the same value, and
-values have all 64 bits; a register is read before it is written, but in blind transactions, which do nothing but write; an addend is any
-number below 2^64 - 1. At first, after each 64th round and at the end, one thread looks: it reads all registers while the others wait; by
-permits, some time after each 512 attempts, and at the end. If no attempt to write a register has committed since the last look, it is
-written then, alone. A look that is rolled back is tried again for plan.patience seconds, up to tens of thousands of times: then the memory
-has lost progress.
+With TMWATCH_ALL, phases of up to 1000 rounds follow one another. The first twenty use TMWATCH_STEPS. Of each twenty after that, one uses
+TMWATCH_ROUNDS, one TMWATCH_PERMITS, and the others TMWATCH_STEPS; but if the memory has no steps of its own, three of each four use
+TMWATCH_ROUNDS or TMWATCH_PERMITS. A phase with one of these two ends after a tenth of a second at the latest. In half of the phases after
+the first, random values replace those that the plan leaves open (TMWATCH_RANDOM). All phases run in the same threads.
 
-What the program owes beside the duties of tmwatch.h. Nothing of it is tested:
+If the memory sends requests to another process (tmwatch_external_call), 1000 rounds may take long, so phases of TMWATCH_ALL end by time
+instead. At the beginning, phases with TMWATCH_STEPS follow one another until one has run for five seconds. Later ones end after one second,
+and those with TMWATCH_ROUNDS or TMWATCH_PERMITS take twice as long as the last one with TMWATCH_STEPS.
 
-1. The memory has words of 64 bits, which hold what plan.start says, and nobody else uses it while the bench runs.
-2. All threads may call its functions at once, each with a `tx` of its own.
-3. Each function returns, and throws nothing. It calls nothing of the bench but tmwatch_begins, tmwatch_calls, tmwatch_thread and
-   TMWATCH_PAUSE.
-4. By permits, tmwatch_begins may wait until other threads' attempts have ended: `run` calls it with no lock held that they may wait for.
+STEPS WITHOUT PAUSES. You need not place TMWATCH_PAUSE if you compile the memory with -fsanitize=thread, and link without that option but
+with libtmwatch_steps.a first. Then each atomic access is a step, and with plan.plain every other access too. plan.orders chooses the memory
+model. With TMWATCH_X86, an atomic store that is not sequentially consistent may be delayed, as in the store buffers of x86, at the latest
+until its thread yields or sleeps. With TMWATCH_CXX, an atomic load may return any value that C++20 allows; the seed chooses it. TMWATCH_ALL
+uses each of these two in one of four phases with steps. Stores to a thread's own bytes (its stack and `tx`) are never delayed. Stores to a
+block of the heap are delayed only if the program is linked with the options of tmwatch_steps, because the bench has to see when the block
+is freed. The bench does not see the accesses of inline assembly, or of code that was compiled without -fsanitize=thread.
+
+RECORDING. The bench records a call before it calls the memory, and the answer after the memory has returned. The first call of a
+transaction is recorded before the memory begins the transaction. All events are recorded with tmwatch_record_next_call and
+tmwatch_record_answer, so no record is malformed. No two writes have the same value, and values use all 64 bits. A register is read before
+it is written, except in blind transactions, which only write. An addend is any number below 2^64 - 1.
+
+AUDITS. An audit is a transaction that reads all registers while no other thread runs one. The bench makes one at the beginning, after each
+64th round and at the end; with TMWATCH_PERMITS, some time after each 512 attempts and at the end. If attempts to write a register were
+rolled back since the last audit, and none committed, the bench first writes that register, in a transaction that runs by itself too. If
+such a transaction is rolled back, it is retried for plan.timeout seconds, up to tens of thousands of times. Then the
+status is TMWATCH_NO_PROGRESS.
+
+The program has the following duties, in addition to those of tmwatch.h. The bench checks none of them:
+
+1. The memory has registers of 64 bits (with plan.small, fewer suffice) with the initial values plan.start, and nothing else uses it while
+   the bench runs.
+2. All threads may call its functions at the same time, each with its own `tx`.
+3. Each of its functions returns, unless it calls tmwatch_bench_fail, and throws no exception. The only other functions of the bench that it
+   calls are tmwatch_begin_attempt, tmwatch_run_body, tmwatch_thread, tmwatch_pause, tmwatch_external_call, tmwatch_external_blocked and
+   tmwatch_bench_crash.
+4. With TMWATCH_PERMITS, tmwatch_begin_attempt may wait until attempts of other threads have ended. So when `run` calls it, the thread holds
+   no lock that these may wait for.
 */
 #ifndef TMWATCH_BENCH_H
 #define TMWATCH_BENCH_H
@@ -69,23 +87,23 @@ What the program owes beside the duties of tmwatch.h. Nothing of it is tested:
 extern "C" {
 #endif
 
-/* A transaction that `run` makes, in one attempt or several. */
+/* A transaction that `run` executes, in one or several attempts. */
 typedef struct tmwatch_attempt tmwatch_attempt;
 
 /*
-A memory. `tx` points to tx_size bytes of the calling thread's own, aligned as malloc does. They are all 0 before the thread's first
-transaction, and later as it left them. A register is a number below plan.registers.
+The memory to test. A register is a number below plan.registers. `tx` points to tx_size bytes that belong to the calling thread, aligned
+like a block of malloc. They are all 0 before the thread's first transaction, and later as the thread left them.
 
-A function answers true when it is done. It answers false when the transaction has aborted and is rolled back: no other call of that
-transaction follows. `abort` rolls back.
+`begin`, `read`, `write`, `add` and `commit` return true on success. They return false if the transaction is aborted and rolled back; then
+no other function is called for it. `abort` rolls back.
 
-A memory that itself attempts a transaction again, by longjmp or in a loop, has `run` in place of begin, commit and abort. `run` calls
-tmwatch_begins(attempt) before the memory begins an attempt; after a roll-back, again, before it begins the next one. If that answers
-false, `run` begins no attempt and answers false. Within the attempt it calls tmwatch_calls(attempt), which calls the reads and writes
-here, once an attempt. If that answers true, it commits; if false, it aborts. `run` answers whether the transaction has committed.
+A memory that retries a transaction itself, with longjmp or in a loop, has `run` instead of `begin`, `commit` and `abort`. `run` calls
+tmwatch_begin_attempt(attempt) before the memory begins an attempt, and after a rollback again, before the next one. If that returns false,
+`run` begins no attempt, and returns false. Within the attempt, it calls tmwatch_run_body(attempt) once, which calls `read`, `write` and
+`add`. If that returns true, `run` commits; otherwise it aborts. `run` returns whether the transaction committed.
 */
 typedef struct tmwatch_memory {
-    void *memory; /* what each function gets as `memory` */
+    void *memory; /* passed to each function as `memory` */
     size_t tx_size;
     bool (*begin)(void *memory, void *tx);
     bool (*read)(void *memory, void *tx, unsigned reg, uint64_t *value);
@@ -96,193 +114,218 @@ typedef struct tmwatch_memory {
     bool (*run)(void *memory, void *tx, tmwatch_attempt *attempt); /* or null */
 } tmwatch_memory;
 
-/* How the threads run together. */
+/* How the threads are scheduled. */
 enum tmwatch_schedule {
     TMWATCH_ROUNDS = 0,  /* in rounds, each thread with its share of at most eight attempts */
-    TMWATCH_PERMITS = 1, /* freely, each attempt by one of eight permits */
-    TMWATCH_STEPS = 2,   /* in rounds, one thread at a time: at each step the seed says which */
-    TMWATCH_ALL = 3      /* in legs: mostly by steps, and by each of these in turn */
+    TMWATCH_PERMITS = 1, /* freely, each attempt with one of eight permits */
+    TMWATCH_STEPS = 2,   /* in rounds, one thread at a time, which the seed chooses at each step */
+    TMWATCH_ALL = 3      /* in phases, most of them with TMWATCH_STEPS, the others with each of these */
 };
 
-/* How the atomic accesses are ordered of a memory that is compiled for libtmwatch_steps.a. */
+/* The memory model for atomic accesses, if the memory is compiled for libtmwatch_steps.a. */
 enum tmwatch_orders {
-    TMWATCH_SEQUENTIAL = 0, /* all in the order of the steps */
-    TMWATCH_X86 = 1,        /* by steps: stores are delayed, as in the store buffers of x86 */
-    TMWATCH_CXX = 2         /* by steps: a load returns what C++20 lets it return */
+    TMWATCH_SEQUENTIAL = 0, /* sequentially consistent, in the order of the steps */
+    TMWATCH_X86 = 1,        /* with TMWATCH_STEPS: stores are delayed, as in the store buffers of x86 */
+    TMWATCH_CXX = 2         /* with TMWATCH_STEPS: a load may return any value that C++20 allows */
 };
 
-/* A number of a plan that is the usual one, or, by TMWATCH_ALL, another one in each leg but the first. */
-#define TMWATCH_DRAWN UINT64_MAX
+/* Leaves a number of a plan open: it is then the default, or with TMWATCH_ALL a random one in half of the phases after the first. */
+#define TMWATCH_RANDOM UINT64_MAX
 
-/* What is run. Those with two stars may be TMWATCH_DRAWN, which is the usual number in brackets. */
+/* What to run. Fields with two stars may be TMWATCH_RANDOM; their defaults are in brackets. */
 typedef struct tmwatch_plan {
-    uint64_t rounds;    /* how many at most, 1 or more; by permits, transactions of each thread */
-    uint64_t seed;      /* what transactions, pauses and steps are drawn from */
-    uint64_t threads;   /* ** (4) 1 to 8 */
-    uint64_t registers; /* ** (3) 1 to 8 */
-    uint64_t calls;     /* ** (3) how many registers a transaction reads, reads and writes, or adds to: 1 to 16 */
-    uint64_t attempts;  /* of each transaction, at most: threads * attempts is at most 8; 0: as many as that allows. By permits: any number;
-                           0: as many as it takes */
-    uint64_t writes;    /* ** (50) of 100 registers that are read, how many are written then */
-    uint64_t adds;      /* ** (20) of 100 calls, how many add instead, if the memory has `add` */
-    uint64_t aborts;    /* ** (12) of 100 transactions, how many ask to abort at their end */
-    uint64_t pause;     /* ** (100) beside a call, one time in two, a thread waits fewer turns of a loop than this, at most 2^20;
-                           0: never */
-    uint64_t seconds;   /* after this time no round begins, and by permits no attempt; 0: the rounds alone count */
-    uint64_t schedule;  /* a tmwatch_schedule */
-    uint64_t start[8];  /* what the registers hold at first */
-    FILE *trace;        /* or null: here the run's end is written as a trace, maybe of no event */
-    uint64_t mixes;     /* ** (50) of 100 rounds, how many are mixed: one thread makes one long transaction, others several short
-                           ones, of eight attempts in all */
-    uint64_t round;     /* by steps: before this round tmwatch_break is called; by all, one of the first 20000; 0: never */
-    uint64_t orders;    /* ** (0) a tmwatch_orders; another than TMWATCH_SEQUENTIAL only by steps, or by all in its legs by steps */
-    uint64_t plain;     /* 1: plain accesses are steps too (libtmwatch_steps.a); or 0 */
-    uint64_t patience;  /* after so many seconds without an event, under load later, or of a look that is rolled back, the run is given up;
-                           0: never */
-    FILE *progress;     /* or null: here a line says twice a second how far the run is */
-    uint64_t blinds;    /* ** (10) of 100 transactions, how many do nothing but write, unless `writes` is 0 */
-    uint64_t event;     /* with `round`: tmwatch_break is called before this event of the round instead; 0: before the round */
-    FILE *legs;         /* or null: here a line for each leg has the words of its plan */
-    FILE *listing;      /* or null: here the steps of the round that is wrong are listed: how many events of it precede the step, the
-                           thread, and the address in its program or library, with that library's name; or the trace that would be
-                           violated, if a load were delayed (benched->delayed) */
-    uint64_t races;     /* 1: a race on plain data is wrong, as a violation is; or 0 */
-    uint64_t small;     /* 1: values are small, and addends below 2^16, for words of fewer than 64 bits; or 0 */
-    uint64_t goes_on;   /* 1: in one leg, rounds go on after what is wrong, for who records the whole run; or 0 */
-    uint64_t crashes;   /* 1: the memory calls tmwatch_bench_crash, so that a thread and one of eight attempts are left free; or 0 */
-    uint64_t look;      /* 1: with `round`, a look comes before that, so that a trace of it begins there; or 0 */
+    uint64_t rounds;       /* maximum number of rounds, at least 1; with TMWATCH_PERMITS, of transactions of each thread */
+    uint64_t seed;         /* of the random transactions, pauses and steps */
+    uint64_t threads;      /* ** (4) 1 to 8 */
+    uint64_t registers;    /* ** (3) 1 to 8 */
+    uint64_t accesses;     /* ** (3) number of registers that a transaction accesses: it reads each, reads and writes it, or adds to it; 1 to
+                              16 */
+    uint64_t attempts;     /* maximum number of attempts of each transaction, where threads * attempts is at most 8; 0: as many as that
+                              allows. With TMWATCH_PERMITS: any number; 0: no maximum */
+    uint64_t writes;       /* ** (50) percentage of the registers read that are written afterwards */
+    uint64_t adds;         /* ** (20) percentage of accesses that add instead, if the memory has `add` */
+    uint64_t aborts;       /* ** (12) percentage of transactions that request an abort at their end */
+    uint64_t pause;        /* ** (100) before and after a call, one time in two, a thread waits for a random number of iterations of a loop,
+                              which is below this; at most 2^20; 0: never */
+    uint64_t seconds;      /* no round, or with TMWATCH_PERMITS no attempt, begins after this many seconds; 0: no limit of time */
+    uint64_t schedule;     /* a tmwatch_schedule */
+    uint64_t start[8];     /* initial values of the registers */
+    FILE *trace;           /* or null: the end of the run is written here as a trace, perhaps without events */
+    uint64_t mixed_rounds; /* ** (50) percentage of rounds that are mixed: one thread runs one long transaction, others several short ones,
+                              in eight attempts in all */
+    uint64_t round;        /* with TMWATCH_STEPS: tmwatch_breakpoint is called before this round; with TMWATCH_ALL, one of the first 20000;
+                              0: never */
+    uint64_t orders;       /* ** (0) a tmwatch_orders; others than TMWATCH_SEQUENTIAL need TMWATCH_STEPS, or apply to such phases of
+                              TMWATCH_ALL */
+    uint64_t plain;        /* 1: plain accesses are steps too (libtmwatch_steps.a); or 0 */
+    uint64_t timeout;      /* the run is given up after this many seconds without an event (more under load), or of an audit that is rolled
+                              back; 0: never */
+    FILE *progress;        /* or null: a line of progress is written here twice a second */
+    uint64_t blind_writes; /* ** (10) percentage of transactions that only write, unless `writes` is 0 */
+    uint64_t event;        /* with `round`: tmwatch_breakpoint is called before this event of the round instead; 0: before the round */
+    FILE *phases_file;     /* or null: the options of each phase are written here, a line each */
+    FILE *steps_file;      /* or null: the steps of the wrong round are listed here: the number of its events before the step, the thread,
+                              and the address in its program or library, with the library's name. If a delayed load would violate the run
+                              (result->delayed), that trace is written instead */
+    uint64_t races;        /* 1: a data race is wrong, like a violation; or 0 */
+    uint64_t small;        /* 1: values are small, and addends below 2^16, for registers of fewer than 64 bits; or 0 */
+    uint64_t keep_going;   /* 1: a phase continues after a violation, for a caller that records the whole run; or 0 */
+    uint64_t crashes;      /* 1: the memory calls tmwatch_bench_crash; a thread and one of eight attempts are reserved for an audit then; or
+                              0 */
+    uint64_t audit_first;  /* 1: with `round`, an audit precedes that round, so that a trace of it begins there; or 0 */
 } tmwatch_plan;
 
 /* clang-format off */
-#define TMWATCH_PLAN                                                                                                                     \
-    {100000, 1, TMWATCH_DRAWN, TMWATCH_DRAWN, TMWATCH_DRAWN, 0, TMWATCH_DRAWN, TMWATCH_DRAWN, TMWATCH_DRAWN, TMWATCH_DRAWN, 0,             \
-     TMWATCH_ALL, {0, 0, 0, 0, 0, 0, 0, 0}, NULL, TMWATCH_DRAWN, 0, TMWATCH_DRAWN, 0, 5, NULL, TMWATCH_DRAWN, 0, NULL, NULL, 0, 0, 0, 0, 0}
+#define TMWATCH_PLAN                                                                                                                      \
+    {100000, 1, TMWATCH_RANDOM, TMWATCH_RANDOM, TMWATCH_RANDOM, 0, TMWATCH_RANDOM, TMWATCH_RANDOM, TMWATCH_RANDOM, TMWATCH_RANDOM, 0,     \
+     TMWATCH_ALL, {0, 0, 0, 0, 0, 0, 0, 0}, NULL, TMWATCH_RANDOM, 0, TMWATCH_RANDOM, 0, 5, NULL, TMWATCH_RANDOM, 0, NULL, NULL, 0, 0, 0, 0,\
+     0}
 /* clang-format on */
 
-/* How many bytes tell what the orders of C++20 have shown, and a race or a delayed load. */
-enum { TMWATCH_MOST_SHOWN = 4096, TMWATCH_MOST_RACE = 1024 };
+/* Sizes in bytes of the texts in a tmwatch_bench_result. */
+enum { TMWATCH_MAX_STALE_LOADS = 4096, TMWATCH_MAX_RACE = 1024 };
 
-/* What was met that may order threads, and that the bench doesn't see: bits. */
-enum tmwatch_unseen {
-    TMWATCH_UNSEEN_STORES = 1, /* unmarked code, or a thread that isn't the bench's, stores to what marked code loads */
-    TMWATCH_UNSEEN_LOCKS = 2,  /* a lock or a wait of unmarked code; or one that the linker would have to wrap */
-    TMWATCH_UNSEEN_WAITS = 4,  /* a thread was blocked: benched->rescues */
-    TMWATCH_UNSEEN_BLOCKS = 8  /* stores to blocks of the heap weren't delayed, since nothing shows when these are given back */
+/* Bits: synchronization that the bench cannot observe. */
+enum tmwatch_untracked {
+    TMWATCH_UNTRACKED_STORES = 1, /* unmarked code, or a thread that isn't the bench's, stores to what marked code loads */
+    TMWATCH_UNTRACKED_LOCKS = 2,  /* a lock or a wait of unmarked code, whose instructions leave no orders but sequential ones; or one that
+                                     the linker would have to wrap */
+    TMWATCH_UNTRACKED_WAITS = 4,  /* a thread was blocked: result->stalls */
+    TMWATCH_UNTRACKED_BLOCKS = 8  /* stores to blocks of the heap weren't delayed, since nothing shows when these are freed */
 };
 
-/* A further `why` of TMWATCH_UNDECIDED: the run is violated by the orders of x86 or C++20, and what the bench hasn't seen may forbid it. */
-enum { TMWATCH_UNSEEN = 3 };
+/* A further `why` of TMWATCH_UNDECIDED: the run is violated under the memory model of x86 or C++20, but untracked synchronization may forbid
+   that run. */
+enum { TMWATCH_UNTRACKED = 3 };
 
-/* What came out. */
-typedef struct tmwatch_benched {
-    tmwatch_told told;     /* the verdict on all that was recorded */
-    tmwatch_counts counts; /* what it covers: if none_overlapped is 1, no two transactions met, and the run shows nothing */
-    uint64_t rounds;       /* how many rounds were run, by steps up to the one that is wrong; by permits, how many transactions each thread
-                              has begun, at least */
-    uint64_t from;         /* how many events precede the trace, if one was written */
-    uint64_t foreign;      /* the most commits of other threads within one attempt, at least */
-    uint64_t stores;       /* how many writes and adds were recorded */
-    uint64_t steps;        /* by steps: at how many a thread might hand over, */
-    uint64_t switches;     /* how many times one did, */
-    uint64_t rescues;      /* and how many times a thread was blocked, so that another went too: if any, the run need not come again */
-    uint64_t waits;        /* how many times one waited by tmwatch_waits: if any, likewise */
-    uint64_t crashes;      /* how many times the memory has crashed: if any, likewise */
-    tmwatch_plan again;    /* a plan that makes the run's end again, */
-    bool is_certain;       /* for sure, if the memory decides nothing by time, address or chance; else it may go otherwise */
-    uint64_t event;        /* by steps: which event of its round the wrong one is, from 1 on */
-    uint64_t rejected;     /* how many times a transaction that ran alone was rolled back, if the memory has lost progress; or 0 */
-    tmwatch_plan leg;      /* the plan of the last leg */
-    uint64_t unseen;       /* what was met that the bench doesn't see: bits of tmwatch_unseen */
-    char race[TMWATCH_MOST_RACE];    /* by the orders of C++20, if all is seen: the first race on plain data, and where it is; or empty */
-    char shown[TMWATCH_MOST_SHOWN];  /* by the orders of C++20, lines: which loads of a violated round did not return the newest value, where
-                                       in the program, and which stores they missed; what isn't seen */
-    char delayed[TMWATCH_MOST_RACE]; /* by the orders of C++20, if nothing is wrong: a load that might be delayed past later stores, so that
-                                       it returned what another thread stores, which would be a violation; and where both are; or empty */
-} tmwatch_benched;
+/* The result of a run. */
+typedef struct tmwatch_bench_result {
+    tmwatch_result result; /* the verdict on all recorded events */
+    tmwatch_counts counts; /* their statistics: if none_overlapped is 1, no two transactions overlapped, so the run tests nothing */
+    uint64_t rounds;       /* number of rounds that were run, with TMWATCH_STEPS up to the wrong one; with TMWATCH_PERMITS, the least number of
+                              transactions that a thread began */
+    uint64_t skipped;      /* number of events before the trace, if one was written */
+    uint64_t max_interleaved_commits; /* the most commits of other threads during one attempt, at least */
+    uint64_t stores;                  /* number of recorded writes and adds */
+    uint64_t steps;                   /* with TMWATCH_STEPS: number of steps, at which the scheduler could switch, */
+    uint64_t context_switches;        /* of context switches, */
+    uint64_t stalls;                  /* and of stalls: a thread was blocked, so another one ran too, or its delayed stores were made. If
+                                         there are any, the run may not be reproducible */
+    uint64_t waits;                   /* number of waits in tmwatch_external_blocked: if there are any, likewise */
+    uint64_t crashes;                 /* number of crashes of the memory: if there are any, likewise */
+    tmwatch_plan reproducer;          /* a plan that reproduces the end of the run; */
+    bool is_deterministic;            /* it is deterministic, unless the memory's behaviour depends on time, addresses or chance */
+    uint64_t event;                   /* with TMWATCH_STEPS: number of the wrong event within its round, from 1 */
+    uint64_t solo_rollbacks;          /* if the memory makes no progress: how many times a transaction that ran by itself was rolled back;
+                                         or 0 */
+    tmwatch_plan phase;               /* the plan of the last phase */
+    uint64_t untracked;               /* untracked synchronization: bits of tmwatch_untracked */
+    char race[TMWATCH_MAX_RACE];      /* with TMWATCH_CXX, if no synchronization is untracked: the first data race, and where it is; or
+                                         empty */
+    char stale_loads[TMWATCH_MAX_STALE_LOADS]; /* with TMWATCH_CXX, lines: the loads of a violated round that did not return the newest value,
+                                                  where they are in the program, and the stores that they missed; untracked
+                                                  synchronization; or where interrupted threads are */
+    char delayed[TMWATCH_MAX_RACE]; /* with TMWATCH_CXX, if nothing is wrong: a load that would violate the run if it were delayed past later
+                                       stores and returned another thread's store, and where both are; or empty */
+} tmwatch_bench_result;
 
-/* Further statuses of the bench: no event came for plan.patience seconds; a transaction that ran alone was rolled back again and again; the
-   memory has called tmwatch_bench_fail. */
-enum { TMWATCH_STUCK = 32, TMWATCH_NO_PROGRESS = 33, TMWATCH_FAILED = 34 };
-
-/*
-Runs the plan's rounds on the memory, and tells in *benched what came out. Once the verdict is another than opaque so far, no further
-round begins, and by permits no attempt; some may have been run by then. The statuses come in this order; but for TMWATCH_DONE,
-TMWATCH_STUCK, TMWATCH_FAILED and TMWATCH_NO_PROGRESS, *benched stays.
-
-TMWATCH_MISSING: a function that the memory has to have is null. TMWATCH_BAD_SIZE: not 1 to 8 threads. TMWATCH_BAD_REGISTERS: not 1 to 8.
-TMWATCH_BAD_START: as in tmwatch_open. TMWATCH_BAD_BOUNDS: the rounds, the calls, the attempts, a part of 100, the pause, the schedule, the
-round or the event are out of their range; or orders are asked for that this schedule hasn't, or the memory isn't compiled for
-libtmwatch_steps.a, or takes locks that the linker hasn't wrapped. TMWATCH_MEMORY: a growth of memory or a thread was refused, before or
-while the rounds ran. TMWATCH_MISFIT: `run` has answered true where tmwatch_calls has not. TMWATCH_OUT_OF_TURN: `run` has called
-tmwatch_calls twice in one attempt. TMWATCH_STUCK: no event came for plan.patience seconds, or for half a second after tmwatch_bench_end.
-Standard error then tells where each thread is; the threads go on, so that neither they nor what they use is given back. TMWATCH_FAILED: the
-same, after tmwatch_bench_fail. TMWATCH_NO_PROGRESS: nothing was wrong, and a look was rolled back again and again; standard error says
-which transaction.
-Another status: as the watch answered.
-
-The trace ends with the event at length `at`, or with the last one if nothing is wrong, or with the first attempts of the look that was
-rolled back again and again. If something is, it begins after the last reading
-of all registers, whose values are its start; else with the leg, or with the earliest such reading among the last 131,072 events. Its `at`
-is the run's less benched->from.
-
-Memory: some 3 MiB and what the watch takes, which are given back. By TMWATCH_CXX a child process is forked before the run, and waited for
-after it: there delayed loads are looked for.
-*/
-TMWATCH_LOOK uint32_t tmwatch_bench(const tmwatch_memory *memory, const tmwatch_plan *plan, tmwatch_benched *benched);
-
-/* For `run`, as said above. */
-TMWATCH_PURE bool tmwatch_begins(tmwatch_attempt *attempt);
-TMWATCH_PURE bool tmwatch_calls(tmwatch_attempt *attempt);
+/* Further statuses of the bench: no event was recorded for plan.timeout seconds; a transaction that ran by itself was rolled back again and
+   again; the memory called tmwatch_bench_fail; the run was interrupted, and a thread did not return; a required function of the memory is
+   null. */
+enum { TMWATCH_HANG = 32, TMWATCH_NO_PROGRESS = 33, TMWATCH_FAILED = 34, TMWATCH_INTERRUPTED = 35, TMWATCH_MISSING_FUNCTION = 36 };
 
 /*
-Prints lines of JSON: the report as `tmwatch judge` prints it; how the rounds went; the counts as `judge --summary` prints them; and, if
-something is wrong, the words that make it again, which are certain only if the plan has no start of its own. docs/FORMATS.md has them.
-Standard error then says those too, and the words of the leg; or, if nothing is wrong, why the run can't show much; if the very first
-transaction is wrong, as from another start; and what the bench hasn't seen.
+Runs the plan on the memory, and stores the result in *result. When the verdict is no longer opaque so far, no further round begins, or with
+TMWATCH_PERMITS no further attempt; some may have run by then.
+
+It returns the first of these statuses that applies:
+- TMWATCH_MISSING_FUNCTION: a required function of the memory is null.
+- TMWATCH_BAD_SIZE: the number of threads is not 1 to 8 (with plan.crashes, 1 to 7).
+- TMWATCH_BAD_REGISTERS: the number of registers is not 1 to 8.
+- TMWATCH_BAD_START: as for tmwatch_open.
+- TMWATCH_BAD_BOUNDS: another number of the plan is out of its range. Or plan.orders is not available, because of the schedule, because the
+  memory is not compiled for libtmwatch_steps.a, or because it takes locks that the linker did not wrap.
+- TMWATCH_NO_MEMORY: an allocation or the start of a thread failed, before or during the run.
+- TMWATCH_WRONG_ANSWER: `run` returned true although tmwatch_run_body had not.
+- TMWATCH_WRONG_PHASE: `run` called tmwatch_run_body twice in one attempt.
+- TMWATCH_HANG: no event was recorded for plan.timeout seconds. Standard error then reports where each thread is. The threads keep running,
+  so neither they nor the memory that they use is freed.
+- TMWATCH_FAILED: the same, after tmwatch_bench_fail.
+- TMWATCH_INTERRUPTED: the same, because no event was recorded for half a second that ended after tmwatch_bench_stop. This says nothing about
+  the memory's progress: *result is as after TMWATCH_OK, and result->stale_loads says where each thread is.
+- TMWATCH_NO_PROGRESS: nothing was wrong, but a transaction of an audit was rolled back again and again. Standard error reports which one.
+- TMWATCH_OK, or any other status that the watch returned.
+
+*result is changed only by TMWATCH_OK, TMWATCH_HANG, TMWATCH_FAILED, TMWATCH_INTERRUPTED and TMWATCH_NO_PROGRESS.
+
+The trace ends with the event at length `at`; if nothing is wrong, with the last event, or with the first attempts of the transaction that was
+rolled back again and again. If something is wrong, it begins after the last audit before that, whose values are its initial state. Otherwise
+it begins with the phase, or with the earliest audit among the last 131,072 events. Its own `at` is that of the run minus result->skipped.
+
+Allocates some 3 MiB and the memory of a watch, and frees them before it returns. With TMWATCH_CXX it forks a child process before the run, and
+waits for it after the run; delayed loads are searched for there.
 */
-void tmwatch_bench_print(FILE *file, const tmwatch_benched *benched);
+TMWATCH_NODISCARD uint32_t tmwatch_bench(const tmwatch_memory *memory, const tmwatch_plan *plan, tmwatch_bench_result *result);
 
-/* Prints the words of a plan for tmwatch_bench_main: its seed, and what isn't the default. */
-void tmwatch_bench_words(FILE *file, const tmwatch_plan *plan);
+/* Called by `run`, as tmwatch_memory says. */
+TMWATCH_PURE bool tmwatch_begin_attempt(tmwatch_attempt *attempt);
+TMWATCH_PURE bool tmwatch_run_body(tmwatch_attempt *attempt);
 
-/* Prints the options of tmwatch_bench_main, a line each. */
-void tmwatch_bench_options(FILE *file);
+/*
+Prints lines of JSON to `file` (docs/FORMATS.md): the report, as `tmwatch judge` prints it; a line on the rounds; the counts, as `tmwatch judge
+--summary` prints them; and, if something is wrong, the options that reproduce it. These are marked as deterministic only if the plan has no
+initial values of its own.
 
-/* Waits as beside a call, in a thread of a bench, and else not at all. By steps, another thread may go on there. */
+Then prints to standard error, if something is wrong, the options again and those of the phase, and whether the very first transaction is
+wrong, which points to other initial values; if nothing is wrong, why the run cannot show much; and untracked synchronization.
+*/
+void tmwatch_bench_print(FILE *file, const tmwatch_bench_result *result);
+
+/* Prints a plan as options of tmwatch_bench_main: its seed, and all values that are not the default. */
+void tmwatch_bench_print_options(FILE *file, const tmwatch_plan *plan);
+
+/* Prints the options of tmwatch_bench_main, a line each, under headings. The first heading, "What to run:", is left to the caller. */
+void tmwatch_bench_print_help(FILE *file);
+
+/* Pauses a thread of a bench as before and after a call. With TMWATCH_STEPS, the scheduler may switch to another thread here. In any other
+   thread it does nothing. */
 TMWATCH_PURE void tmwatch_pause(void);
 
 /*
-A memory whose functions ask another process says by these where its thread is, until the thread's next step, which comes after the function
-has returned. In rounds, its threads sleep while they wait for one another.
+For a memory that sends requests to another process. Its functions report with these calls where their thread is, until the thread's next
+step, which follows when the function has returned. With such a memory, threads sleep while they wait for one another between rounds.
 
-tmwatch_asks: it asks elsewhere, and no rescue comes however long that takes. It answers whether the thread goes by steps beside others.
-tmwatch_waits: what it asks for, another thread's transaction holds there. The others go on, and nothing is drawn for this one. In a thread that
-doesn't go by steps beside others it does nothing.
+tmwatch_external_call: the thread sends a request, so the scheduler does not stall, however long that takes. Returns whether TMWATCH_STEPS
+schedules this thread among others (not so during an audit).
+
+tmwatch_external_blocked: another thread's transaction blocks the request. The other threads continue, and no random choice is made for this
+one. Does nothing in a thread for which tmwatch_external_call returns false.
 */
-TMWATCH_PURE bool tmwatch_asks(void);
-TMWATCH_PURE void tmwatch_waits(void);
+TMWATCH_PURE bool tmwatch_external_call(void);
+TMWATCH_PURE void tmwatch_external_blocked(void);
 
-/* The number of this thread among those of its bench, from 0 on; 0 in any other thread. */
+/* Returns the number of this thread among those of its bench, from 0; 0 in any other thread. */
 TMWATCH_PURE unsigned tmwatch_thread(void);
 
-/* Ends all benches of the process, and those that begin later, as if their time were over. A signal handler may call it. */
-void tmwatch_bench_end(void);
+/* Ends all benches of the process, and those that begin later, as if their time were up. A signal handler may call it. */
+void tmwatch_bench_stop(void);
 
-/* Says why the memory can't answer this thread's call, which then has no answer: the run ends, and standard error has the line `why` of the
-   first thread that says so. It doesn't return. */
+/* Ends the run because the memory cannot answer this thread's call, which then has no answer. The `why` of the first thread that calls it is
+   printed to standard error. Does not return. */
 __attribute__((noreturn)) void tmwatch_bench_fail(const char *why);
 
-/* Says, within a call, that the memory crashes now. By plan.crashes, and not by permits: no further event of this leg is recorded, so that calls
-   without an answer stay so, whatever the functions answer. When all have returned, `restart` is called, and a look by a thread that had no
-   part in the leg shows whether what has committed is there. Another leg follows, if the look has. */
+/* Reports, within a call, that the memory crashes now. Needs plan.crashes, and another schedule than TMWATCH_PERMITS. No further event of this
+   phase is recorded, so calls that have no answer yet never get one in the record, whatever the functions return. When all of them have
+   returned, `restart` is called. Then a thread that took no part in the phase runs an audit, which shows whether the committed values are
+   still there. If the audit commits, another phase follows. */
 void tmwatch_bench_crash(void (*restart)(void *memory));
 
-/* Does nothing. By steps it is called before the round plan.round, or before event plan.event of it, so that a debugger may stop there. The
-   first look is of round 1. */
-void tmwatch_break(void);
+/* Does nothing. With TMWATCH_STEPS it is called before the round plan.round, or before event plan.event of that round, so that a debugger can
+   stop there. The first audit belongs to round 1. */
+void tmwatch_breakpoint(void);
 
-/* Stands in the memory between two of its own steps, where threads are to meet under test. It is nothing unless TMWATCH_PAUSES is defined
-   before this header, as by the compiler's -DTMWATCH_PAUSES. */
+/* A step. Put it into the memory wherever other threads may run between two of its steps, if that is under test. It compiles to nothing unless
+   TMWATCH_PAUSES is defined before this header, for example with the compiler's -DTMWATCH_PAUSES. */
 #ifdef TMWATCH_PAUSES
 #define TMWATCH_PAUSE() tmwatch_pause()
 #else
@@ -290,24 +333,41 @@ void tmwatch_break(void);
 #endif
 
 /*
-Runs the bench by a program's words, prints what came out, and answers with the exit status of `tmwatch judge`: the verdict's number, or 4
-where the words are wrong, something was refused, no event came for long, progress was lost, or a file can't be written. Standard error then
-says what. --help and --version alone print what they say, with 0. Beside a trace, a file with .run after its name gets what is printed, and
-the words, and one with .steps the steps of the round that is wrong, or one with .delayed the trace with a delayed load. The first SIGINT or
-SIGTERM that isn't ignored ends the rounds, and a second one the program; what was set for them before is so again at the end. After
-TMWATCH_STUCK and TMWATCH_FAILED the program ends at once, by _Exit, since threads still use what it would destroy. The memory's registers
-hold 0 at first.
+Runs the bench with the options of a command line, and prints the result. Returns the exit status of `tmwatch judge`: the number of the
+verdict, or 4 if an option is wrong, an allocation failed, the memory failed, hung or made no progress, or a file cannot be written. Standard
+error then gives the reason. --help and --version, if given by themselves, print their text and return 0. The memory's registers are 0 at first.
+
+A file with .report after the name of the trace receives the printed result and the options; one with .steps, the steps of the wrong round; one
+with .delayed, the trace with a delayed load.
+
+The first SIGINT or SIGTERM that is not ignored ends the rounds, and a second one ends the program. The handlers that were set before are
+restored at the end. After TMWATCH_HANG, TMWATCH_FAILED and TMWATCH_INTERRUPTED the program ends at once with _Exit, because threads
+still use the objects that it would destroy.
 */
 int tmwatch_bench_main(const tmwatch_memory *memory, int count, char **words);
 
+/* Opens /dev/null for each of the descriptors 0 to 2 that is closed, so that no file that is opened later receives output that is meant for one
+   of them. Returns whether all three are open. Reading from 0 then fails, and so does writing to 1, as before. tmwatch_bench_main calls this
+   first, and does nothing else if one stays closed. A program that opens files before that calls it itself. */
+bool tmwatch_bench_open_standard(void);
+
 /*
-By several jobs, or to make a run smaller, tmwatch_bench_main runs the memory in processes of their own, forked from this one, whose memory
-stays as it was. It doesn't if there are other threads, a debugger, or bytes, files or sockets that are shared and may be written. A program whose
-memory is made anew in each process defines this function: it is called there before the run, with the number of the job, and false ends that.
+With several jobs, or to shrink a run, tmwatch_bench_main runs the memory in child processes. They are forked from this one, so that its own
+memory is unchanged. It does not fork if there are other threads, a debugger, or shared bytes, files or sockets that may be written. A program
+that creates a new memory in each process defines this function; shared bytes and files do not matter then. It is called before the run in
+each process that runs the memory, with the number of the job. If it returns false, that process ends.
 */
 bool tmwatch_bench_job(unsigned job, const tmwatch_plan *plan);
 
-/* A whole main for a tmwatch_memory; no semicolon follows. */
+/*
+A program whose memory is in another process defines this function, too. It returns whether that process computes or waits for a disk now.
+Only a tenth of such time counts for plan.timeout. A violation is then deterministic only if a second run, in a process of its own, has
+reproduced it. The trace of any other violation is written to tmwatch-bench.trace, or if that file exists, to one with the next number, unless
+another file gets it.
+*/
+bool tmwatch_bench_computes(void);
+
+/* Defines main for a tmwatch_memory. No semicolon follows. */
 #define TMWATCH_BENCH_MAIN(memory)                          \
     int main(int count, char **words)                       \
     {                                                       \

@@ -1,7 +1,7 @@
 /*
-What the C library costs: nanoseconds of a record, beside a recorder in C that appends to an array by one addition, and beside the same
-atomic steps of the ring made by a few lines of C, of one, two and three threads; of an event that is judged; and the heap's bytes after few
-and many events.
+The cost of the C library: nanoseconds for recording an event, compared with a recorder in C that appends to an array with one addition, and
+with the same atomic steps of the ring in a few lines of C, for one, two and three threads; for judging an event; and the bytes of the heap
+after few and many events.
 
     c [EVENTS]
 */
@@ -137,7 +137,7 @@ static void empty_all(void)
     uint64_t judged;
     recorded = 0;
     words[FRONT] = words[TAIL];
-    if (tmwatch_pump(&watch, UINT64_MAX, &judged) != TMWATCH_DONE)
+    if (tmwatch_pump(&watch, UINT64_MAX, &judged) != TMWATCH_OK)
         abort();
 }
 
@@ -170,15 +170,15 @@ static double measure(void (*of)(unsigned, unsigned), unsigned count)
 static void open_watch(size_t count)
 {
     tmwatch_settings settings = TMWATCH_SETTINGS(1);
-    if (tmwatch_open(&watch, recorders, count, &settings) != TMWATCH_DONE)
+    if (tmwatch_open(&watch, recorders, count, &settings) != TMWATCH_OK)
         abort();
 }
 
 /* Closes the watch, whose verdict has to be this one. */
 static void close_watch(size_t count, uint32_t verdict)
 {
-    tmwatch_told told;
-    if (tmwatch_close(&watch, recorders, count, &told) != TMWATCH_DONE || told.verdict != verdict)
+    tmwatch_result result;
+    if (tmwatch_close(&watch, recorders, count, &result) != TMWATCH_OK || result.verdict != verdict)
         abort();
 }
 
@@ -209,7 +209,7 @@ static double measure_pump(unsigned threads)
         uint64_t judged;
         records_in_turn(threads, BURST / 12 * 12);
         double began = now();
-        if (tmwatch_pump(&watch, UINT64_MAX, &judged) != TMWATCH_DONE || judged != BURST / 12 * 12)
+        if (tmwatch_pump(&watch, UINT64_MAX, &judged) != TMWATCH_OK || judged != BURST / 12 * 12)
             abort();
         all[time] = (now() - began) / (double)judged;
     }
@@ -220,17 +220,17 @@ static double measure_pump(unsigned threads)
 /* The heap's bytes after so many events, and the seconds in which they were recorded and judged. */
 static void show_heap(uint64_t count)
 {
-    tmwatch_told told = {0, 0, 0, 0};
+    tmwatch_result result = {0, 0, 0, 0};
     double began = now();
     size_t before = mallinfo2().uordblks;
     open_watch(THREADS);
-    while (told.events < count) {
+    while (result.events < count) {
         records_in_turn(THREADS, BURST / 12 * 12);
         empty_all();
-        if (tmwatch_report(&watch, &told) != TMWATCH_DONE)
+        if (tmwatch_report(&watch, &result) != TMWATCH_OK)
             abort();
     }
-    printf("heap after %12llu events: %8zu bytes, in %.1f seconds\n", (unsigned long long)told.events, mallinfo2().uordblks - before,
+    printf("heap after %12llu events: %8zu bytes, in %.1f seconds\n", (unsigned long long)result.events, mallinfo2().uordblks - before,
            (now() - began) / 1e9);
     close_watch(THREADS, TMWATCH_OPAQUE_SO_FAR);
 }

@@ -1,8 +1,8 @@
 /*
-What calls by lines cost at least.
+The least cost of the calls of tmwatch-bench.
 
-    lines echo                    answers each call at once: a read by 0, and each commit is done
-    lines ask COUNT PROGRAM..     asks a program over two pipes, so many times, and prints how many calls a second that makes
+    lines echo                    answers each call at once: 0 to a read, and success to each commit
+    lines ask COUNT PROGRAM..     sends COUNT requests to a program over two pipes, and prints how many calls a second that makes
 */
 #define _GNU_SOURCE
 #include <stdio.h>

@@ -1,4 +1,4 @@
-/* What recording an event costs by include/tmwatch/recorder.h: nanoseconds, of one thread and of four, the median of 51 times. */
+/* The cost of recording an event with include/tmwatch/recorder.h: nanoseconds, with one thread and with four, the median of 51 measurements. */
 #include "tmwatch/recorder.h"
 #include <pthread.h>
 #include <time.h>

@@ -1,4 +1,5 @@
-//! What recording an event costs by examples/recorders/recorder.rs: nanoseconds, of one thread and of four, the median of 51 times.
+//! The cost of recording an event with examples/recorders/recorder.rs: nanoseconds, with one thread and with four, the median of 51
+//! measurements.
 
 #[allow(dead_code)]
 #[path = "../examples/recorders/recorder.rs"]

@@ -1,18 +1,18 @@
 /*
-Makes the rounds of `tmwatch bench --memory norec` by plain threads that meet at a barrier, for measure/bench.sh. Nobody judges.
+Makes the rounds of `tmwatch bench --memory norec` with plain threads that meet at a barrier, for measure/bench.sh. Nothing is judged.
 
     rounds ROUNDS [trace] < WORKLOAD
 
-WORKLOAD is a workload's JSON (docs/FORMATS.md), of which the scripts alone are read. Each script has a thread, which lives for all
-rounds. The threads meet at a barrier before each round, and then each carries its script out on one memory: NOrec (Dalessandro,
-Spear and Scott, PPoPP 2010), step by step as crates/tmw_memories/src/norec.rt has it. A thread stores an event before it asks the
-memory and one behind the answer, in a list, at the place that an atomic counter gives. Where the list may have no room for the next
-round, one thread counts what stands in it while the others wait.
+WORKLOAD is a workload's JSON (docs/FORMATS.md), of which only the scripts are read. Each script has a thread, which lives for all rounds.
+The threads meet at a barrier before each round, and then each one runs its script on one memory: NOrec (Dalessandro, Spear and Scott, PPoPP
+2010), with the same steps as crates/tmw_memories/src/norec.rt. A thread stores an event in a list before it calls the memory, and one after
+the answer, at the place that an atomic counter gives. If the list may have no room for the next round, one thread counts its events while
+the others wait.
 
-A line comes out: rounds, events, seconds, unasked aborts, each an `A` that answers another call than `X`, and changes of thread, each
-an event whose thread is another than that of the event before. The seconds are those from the first thread's start to the last one's
-end, less those of counting. With `trace` the trace of all events comes before that line. The exit status is 0; 1 where a thread can't
-be started, and 2 where the words or the workload are others.
+Prints a line: rounds, events, seconds, forced aborts (each an `A` that answers another call than `X`), and changes of thread (each an event
+whose thread differs from that of the event before). The seconds are those from the first thread's start to the last one's end, minus those
+of counting. With `trace`, the trace of all events precedes that line. The exit status is 0; 1 if a thread cannot be started; 2 if the
+arguments or the workload are wrong.
 */
 #define _POSIX_C_SOURCE 200809L
 #include <inttypes.h>

@@ -1,10 +1,10 @@
-/* Writes a trace of a run that is opaque, or of `doomed` strictly serializable alone, for measure/ and tests/speed.sh.
+/* Writes a trace of a run that is opaque (with `doomed`, only strictly serializable), for measure/ and tests/speed.sh.
  *
  *   traces PROFILE SEED EVENTS
  *
- * The run is that of a memory that keeps what a transaction writes until it commits, and aborts it where a value that it has read is
- * another by then. Some threads run a transaction each, step by step in turns that are drawn; when all have ended the next ones begin.
- * The trace ends behind the first such round that has brought it to so many events.
+ * It is the run of a memory that buffers the writes of a transaction until it commits, and aborts the transaction if a value that it read
+ * has changed. Some threads run a transaction each, step by step, in a random order. When all have ended, the next ones begin. The trace
+ * ends after the first such round in which it has reached EVENTS events.
  */
 #include <inttypes.h>
 #include <stdbool.h>

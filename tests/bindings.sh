@@ -1,10 +1,10 @@
 #!/usr/bin/env bash
-# Builds and tests the package of Rust in bindings/rust over the library for C, offline.
+# Builds and tests the Rust package in bindings/rust with the library for C, offline.
 #
 #   tests/bindings.sh
 #
-# A line for each row. The last one is 'N passed, M failed', and the exit status is 1 if a row failed. Without cargo nothing is tested: a
-# line says so, and the status is 0.
+# Prints a line for each test case, and 'N passed, M failed' as the last line. The exit status is 1 if a test case failed. Without cargo,
+# nothing is tested: a line says so, and the status is 0.
 # Environment: CARGO (cargo), BUILT (tests/common.sh).
 set -eu
 # shellcheck source=tests/common.sh
@@ -40,7 +40,7 @@ ends 'the pages, each access a step' 0 env TMWATCH_LIB="$library" "$cargo" doc -
 ends 'the pages' 0 env TMWATCH_LIB="$library" "$cargo" doc --offline --locked
 ends 'a program on the bench' 0 env TMWATCH_LIB="$library" "$cargo" run --offline --locked --release --example lock -- --schedule steps \
     --rounds 500
-has_told 'a program on the bench: no rescue' '"rescues":0,"rounds":500,'
+has_told 'a program on the bench: no stall' '"rounds":500,"stalls":0,'
 ends 'a program on the bench: each wait is seen' 1 sh -c 'nm -D "$1" | grep __real_sched_yield' sh "$folder/target/release/examples/lock"
 # (each pause is a step)
 ends 'a program of one thread' 0 env TMWATCH_LIB="$library" "$cargo" run --offline --locked --release --example lock -- --schedule steps --rounds 20 \
@@ -52,7 +52,7 @@ in_order() {
         --schedule steps --orders c++ "$@"
 }
 ends 'a sequence lock by the orders of C++20' 0 in_order --rounds 2000
-has_told 'a sequence lock by the orders of C++20: no rescue' '"rescues":0,"rounds":2000,'
+has_told 'a sequence lock by the orders of C++20: no stall' '"rounds":2000,"stalls":0,'
 # (the copy is linked as another's program is, without the linker's words)
 cp -r "$top/bindings/rust" "$folder/rust"
 cd "$folder/rust"
@@ -66,10 +66,10 @@ for change in 's/sequence.load(Acquire)/sequence.load(Relaxed)/' 's/^        fen
     ends "$change: planted" 1 cmp -s "$top/bindings/rust/examples/sequence.rs" examples/sequence.rs
     ends "$change: found" 1 in_order
     cp "$folder/output" "$folder/told"
-    ends "$change: no word on locks, since there is none" 1 grep -q 'wrapped\|unseen\|of pthread' "$folder/told"
+    ends "$change: no word on locks, since there is none" 1 grep -q 'wrapped\|untracked\|of pthread' "$folder/told"
     cp "$folder/told" "$folder/output"
     if has addr2line 'lines of the source'; then
-        has_told "$change: the lines" -E '^  stale load: thread [0-3] at sequence.rs:[0-9]+ .* does not see the store of thread [0-3] at sequence.rs:'
+        has_told "$change: the lines" -E "^  stale load: thread [0-3] at sequence.rs:[0-9]+ .* missed thread [0-3]'s store at sequence.rs:"
     fi
 done
 cd "$top/bindings/rust"
@@ -81,7 +81,7 @@ by_steps() {
 }
 if by_steps build >"$folder/output" 2>&1; then
     ends 'each access a step' 0 by_steps run -- --schedule steps --rounds 500 --orders x86
-    has_told 'each access a step: no rescue' '"rescues":0,"rounds":500,'
+    has_told 'each access a step: no stall' '"rounds":500,"stalls":0,'
 else
     echo "each access a step: skipped, since the compiler has it not: $(tail -n 1 "$folder/output")"
 fi

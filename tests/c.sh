@@ -1,13 +1,13 @@
 #!/usr/bin/env bash
-# Compiles the programs of tests/c and examples/c over the library for C, without a warning, and runs them; then runs tests/c_steps.sh,
-# tests/c_waits.sh, tests/runs.sh, tests/jobs.sh, tests/orders.sh and tests/bindings.sh over the same library.
+# Compiles the programs of tests/c and examples/c with the library for C, without warnings, and runs them. Then runs tests/c_steps.sh,
+# tests/c_waits.sh, tests/runs.sh, tests/jobs.sh, tests/orders.sh and tests/bindings.sh with the same library.
 #
 #   tests/c.sh [--alone]
 #
-# With --alone it runs no other script. A line for each row. The last one is 'N passed, M failed', and the exit status is 1 if a row failed. Without a C compiler nothing is
-# tested: a line says so, and the status is 0.
-# Environment: CC (cc), CXX (c++), BUILT (tests/common.sh), FLAGS (further flags of the compiler), RUN (a command that runs each program),
-# ROUNDS (2000, of the examples).
+# With --alone, it runs no other script. Prints a line for each test case, and 'N passed, M failed' as the last line. The exit status is 1
+# if a test case failed. Without a C compiler, nothing is tested: a line says so, and the status is 0.
+# Environment: CC (cc), CXX (c++), BUILT (tests/common.sh), FLAGS (additional flags of the compiler), RUN (a command that runs each
+# program), ROUNDS (2000, of the examples).
 set -eu
 # shellcheck source=tests/common.sh
 . "$(dirname "${BASH_SOURCE[0]}")/common.sh"
@@ -40,7 +40,7 @@ program misuse_shared "$top/tests/c/misuse.c" 0 '' "${shared[@]}"
 readelf -W -d "$folder/misuse_shared" >"$folder/dynamic"
 ends 'a program loads the shared library by its number' 0 grep -q '(NEEDED).*\[libtmwatch\.so\.[0-9]*\]' "$folder/dynamic"
 program threads "$top/tests/c/threads.c" 0 '' "${static[@]}"
-program turns "$top/tests/c/turns.c" 0 '' "${static[@]}"
+program scripted "$top/tests/c/scripted.c" 0 '' "${static[@]}"
 program permits "$top/tests/c/permits.c" 0 '' "${static[@]}"
 # Permits that are wrong: what is wrong, and the change of their header.
 wrong_permits() {
@@ -127,7 +127,7 @@ bench=(-DTMWATCH_PAUSES "$folder/lib/libtmwatch_bench.a" "${static[@]}" "$waits"
 # less as precede the trace.
 is_same_report() {
     local from first
-    from=$(sed -n 's/^{"foreign":.*"from":\([0-9]*\),.*/\1/p' "$1")
+    from=$(sed -n 's/.*"skipped":\([0-9]*\)[,}].*/\1/p' "$1")
     first=$(grep -m1 '^{' "$1" | sed 's/^{"[a-z]*":\([0-9]*\),.*/\1/')
     diff <(grep -m1 '^{' "$1" | sed "s/:[0-9][0-9]*/:$((first - ${from:-0}))/g") <(head -n 1 "$2")
 }
@@ -145,12 +145,12 @@ on_bench() {
         row="$name${schedule:+ by $schedule}, seed $seed"
         ends "$row" "$wanted" "${run[@]}" "$folder/$name" --rounds "$most" --seed "$seed" --trace "$folder/trace" \
             --schedule "${schedule:-rounds}" "${words[@]}"
-        has_told "$row, has met" '"overlapping":[1-9]'
+        has_told "$row, has met" '"concurrent":[1-9]'
         "$folder/bench_replay" <"$folder/trace" >"$folder/replayed" 2>/dev/null || true
         ends "$row, by the library" 0 is_same_report "$folder/told" "$folder/replayed"
         if [ -x "$program" ]; then
             "$program" judge --summary <"$folder/trace" >"$folder/judged" || true
-            ends "$row, by the program" 0 diff <(sed '2d; 4d' "$folder/replayed") <(sed '/^{"lacks"/d' "$folder/judged")
+            ends "$row, by the program" 0 diff <(sed '2d; 4d' "$folder/replayed") <(sed '/^{"untested"/d' "$folder/judged")
         fi
     done
 }
@@ -166,7 +166,7 @@ program bench_plans "$top/tests/c/bench_plans.c" 0 '' "${bench[@]}"
 [ ! -x "$folder/bench_plans" ] || "$folder/bench_plans" print >"$folder/lines" 2>&1 || true
 ends 'what a bench prints' 0 diff "$folder/lines" "$top/tests/c/bench_plans.lines"
 program bank "$top/examples/c/bank.c" 0 "$rounds" "${bench[@]}"
-has_told 'bank: has met' '"overlapping":[1-9]'
+has_told 'bank: has met' '"concurrent":[1-9]'
 program bank_broken "$top/examples/c/bank.c" 1 "$rounds broken" "${bench[@]}"
 ends 'bank: output that can not be written' 4 sh -c '"$@" >/dev/full' sh "${run[@]}" "$folder/bank" 9
 program bench_memory "$top/tests/c/bench_memory.c" 0 '' "${bench[@]}" "${wrapped[@]}" -Wl,--wrap=pthread_create,--wrap=tmwatch_room
@@ -202,7 +202,7 @@ on_memory versions NONE 0
 on_memory versions CLOCK 1
 on_memory undo NONE 0
 on_memory undo UNLOCK 1
-options='--threads 8 --registers 1 --calls 2 --aborts 80' on_memory undo VERSION 1
+options='--threads 8 --registers 1 --accesses 2 --aborts 80' on_memory undo VERSION 1
 on_memory locks NONE 0
 on_memory locks EARLY 1
 if command -v "$cxx" >/dev/null; then
@@ -210,6 +210,15 @@ if command -v "$cxx" >/dev/null; then
     on_each lock 0 1 2 3
     # Of this run not all events are kept for the trace.
     rounds=$((3 * rounds)) on_bench lock 0 4
+fi
+# While the result of a stuck run is written, a thread comes back: ThreadSanitizer, whatever the flags are, finds no race.
+if has_thread_sanitizer "$cc" 'a thread that comes back'; then
+    ends 'a thread that comes back compiles' 0 "$cc" -std=c11 -g -O1 -pthread -fsanitize=thread -Wno-tsan -DTMWATCH_PAUSES "-I$top/include" \
+        -o "$folder/late" "$top/tests/c/bench_late.c" "$top/bench-c/tmwatch_bench.c" "$top/bench-c/instrumented/waits.c" "${static[@]}"
+    for words in 0 1 2 '0 wrong' '1 wrong' '2 wrong'; do
+        read -r -a given <<<"$words"
+        ends "a thread that comes back, $words" 0 env TSAN_OPTIONS=halt_on_error=1 "$folder/late" "${given[@]}"
+    done
 fi
 # A memory that is a class: the faults that it may have, and its exit status. A member that throws ends the program.
 on_class() {
@@ -244,7 +253,7 @@ wrong_bench() {
     sed -i "$2" "$folder"/bench-c/*.c
     ends "a bench that $1 compiles" 0 "$cc" -std=c11 "${strict[@]}" -o "$folder/wrong" \
         "$top/examples/c/norec.c" "$folder/bench-c/tmwatch_bench.c" "$folder/lib/libtmwatch_bench.a" "${static[@]}"
-    ends "a bench that $1" "$3" until_met "${run[@]}" "$folder/wrong" --rounds "$rounds" --mixes 0 --schedule "${schedule:-rounds}"
+    ends "a bench that $1" "$3" until_met "${run[@]}" "$folder/wrong" --rounds "$rounds" --mixed-rounds 0 --schedule "${schedule:-rounds}"
 }
 
 wrong_bench 'records that a transaction has committed before it commits' \
@@ -254,17 +263,21 @@ wrong_bench 'records no call to commit' '/has_asked = a->now.calls/{n;s/note_cal
 wrong_bench 'records no abort' 's/    record(a, &(tmwatch_call){has_committed ? .*/    if (has_committed)\n    &/' 3
 # Without its permits, threads that run freely are undecided. Nothing then keeps room for their events, so that the ring has cells for all.
 rounds=20 schedule=permits wrong_bench 'takes no permit and gives none' 's/tmwatch_permits_[a-z_]*(&[^;]*);/(void)0;/' 2
-for words in --rounds '--rounds x' '--rounds 0' '--mixes 101' '--schedule rounds --round 3' '--threads 9' '--registers 0' '--calls 17' \
+for words in --rounds '--rounds x' '--rounds 0' '--mixed-rounds 101' '--schedule rounds --round 3' '--threads 9' '--registers 0' '--accesses 17' \
     '--writes 101' '--seed 18446744073709551616' '--none 1' '--schedule x' 3; do
     read -r -a given <<<"$words"
     ends "wrong words, $words" 4 "${run[@]}" "$folder/norec_NONE" "${given[@]}"
     has_told "wrong words, $words: what is told" -x '{"fault":"usage"}'
     case $words in
-    --threads* | --registers* | --calls* | --writes* | '--rounds 0' | --mixes* | *--round\ 3) reason='a number is out of its range' ;;
-    --none*) reason='wrong, or without its value: --none' ;;
-    *) reason="wrong, or without its value: ${given[-1]}" ;;
+    --rounds | 3) reason=": \(the value is missing\|no such option\)" ;;
+    '--rounds 0') reason='--rounds: 0 is not 1 or more' ;;
+    *--round\ 3) reason='--round: only with --schedule steps, or with all up to 20000' ;;
+    --none*) reason='--none: no such option' ;;
+    --schedule*) reason="--schedule: 'x' is not one of steps, rounds, permits, all" ;;
+    --rounds* | --seed*) reason="${given[0]}: '${given[1]}' is not a number" ;;
+    *) reason="${given[0]}: ${given[1]} is not in [01] to [0-9]*" ;;
     esac
-    ends "wrong words, $words: why" 0 grep -qxF -- "$reason" "$folder/told"
+    ends "wrong words, $words: why" 0 grep -q -- "$reason\$" "$folder/told"
 done
 ends 'an empty word' 4 "${run[@]}" "$folder/norec_NONE" --rounds 9 --adds ''
 ends 'the words there are' 0 "${run[@]}" "$folder/norec_NONE" --help
@@ -272,13 +285,24 @@ sed 's/ norec_commit, / NULL, /; /^static bool norec_commit/,/^}/d' "$top/exampl
 ends 'a memory without a function compiles' 0 "$cc" -std=c11 -O2 -pthread "-I$built/include" "-I$top/examples/c" "${flags[@]}" \
     -o "$folder/lacking" "$folder/lacking.c" "${bench[@]}"
 ends 'a memory without a function' 4 "${run[@]}" "$folder/lacking"
-has_told 'a memory without a function: which' -x "the memory's function \`commit\` is null"
-ends 'all words' 0 "${run[@]}" "$folder/norec_NONE" --rounds 9 --seed 3 --threads 2 --registers 2 --calls 2 \
-    --writes 90 --adds 0 --aborts 0 --mixes 9 --pause 9 --seconds 9 --schedule permits --patience 9 --quiet --plain
+has_told 'a memory without a function: which' -x "tmwatch_memory: the function \`commit\` is null"
+ends 'all words' 0 "${run[@]}" "$folder/norec_NONE" --rounds 9 --seed 3 --threads 2 --registers 2 --accesses 2 \
+    --writes 90 --adds 0 --aborts 0 --mixed-rounds 9 --pause 9 --seconds 9 --schedule permits --timeout 9 --quiet --plain
 ends 'a trace that can not be opened' 4 "${run[@]}" "$folder/norec_NONE" --rounds 9 --trace "$folder/none/trace"
 has_told 'a trace that can not be opened: which' "none/trace\$"
 ends 'a trace that can not be written' 4 "${run[@]}" "$folder/norec_NONE" --rounds 9 --trace /dev/full
 ends 'output that can not be written' 4 sh -c '"$@" >/dev/full' sh "${run[@]}" "$folder/norec_NONE" --rounds 9
+# Descriptors 0 to 2 that are closed: the trace receives nothing that is written to them, and is the same.
+sed 's/memory_begin(tx);/static int file;\n    for (; file < 3; file++)\n        dprintf(file, "begun\\n");\n    &/' "$top/examples/c/norec.c" >"$folder/writes.c"
+ends 'a memory that writes to each descriptor compiles' 0 "$cc" -std=gnu11 "${strict[@]}" "-I$top/examples/c" -DFAULT=READS \
+    -o "$folder/writes" "$folder/writes.c" "${bench[@]}"
+ends 'a trace' 1 "$folder/writes" --schedule steps --trace "$folder/trace"
+for closed in '<&-' '>&-' '2>&-' '<&- >&-' '<&- 2>&-' '>&- 2>&-' '<&- >&- 2>&-'; do
+    # (a verdict that can't be printed is a fault)
+    case $closed in '>'* | *' >'*) wanted=4 ;; *) wanted=1 ;; esac
+    ends "a trace, $closed" $wanted sh -c "exec \"\$@\" $closed" sh "$folder/writes" --schedule steps --print-phases --trace "$folder/closed"
+    ends "a trace, $closed: the same" 0 cmp "$folder/trace" "$folder/closed"
+done
 ends 'no pause compiles' 0 "$cc" -std=c11 "${strict[@]}" -c -o "$folder/plain.o" "$top/examples/c/norec.c"
 ends 'a pause is nothing unless it is under test' 1 grep -q tmwatch_pause "$folder/plain.o"
 
@@ -294,7 +318,7 @@ fi
 ends 'the bench by steps' 0 "$top/tests/c_steps.sh"
 ends 'what threads wait for' 0 "$top/tests/c_waits.sh"
 ends 'what the bench writes' 0 "$top/tests/runs.sh"
-ends 'jobs and smaller runs' 0 "$top/tests/jobs.sh"
+ends 'jobs and shrunk runs' 0 "$top/tests/jobs.sh"
 ends 'the orders of C++20' 0 "$top/tests/orders.sh"
 ends 'the bindings' 0 "$top/tests/bindings.sh"
 end_rows

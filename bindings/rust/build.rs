@@ -1,9 +1,9 @@
-//! Finds what `./tmwatch-c FOLDER` has made: by TMWATCH_LIB, which is FOLDER/lib, or else by pkg-config.
+//! Finds the libraries that `./tmwatch-c FOLDER` builds: in TMWATCH_LIB, which is FOLDER/lib, or otherwise with pkg-config.
 
 use std::path::{Path, PathBuf};
 use std::process::Command;
 
-/// Asks pkg-config for the folder of the libraries.
+/// Returns the folder of the libraries from pkg-config.
 fn by_package() -> Option<PathBuf> {
     let words = ["--variable=libdir", "tmwatch_bench"];
     let output = Command::new("pkg-config").args(words).output().ok()?;
@@ -20,7 +20,7 @@ fn find() -> Option<PathBuf> {
     folder.canonicalize().ok()
 }
 
-/// The libraries in the order in which the linker takes them: each calls those after it.
+/// Returns the libraries in the order of the linker: each calls only those after it.
 fn libraries() -> &'static [&'static str] {
     match std::env::var_os("CARGO_FEATURE_STEPS") {
         Some(_) => &["tmwatch_steps", "tmwatch_bench", "tmwatch"],
@@ -32,7 +32,7 @@ fn has_archives(folder: &Path) -> bool {
     libraries().iter().all(|name| folder.join(format!("lib{name}.a")).is_file())
 }
 
-/// The word by which the linker wraps what a thread waits for, as the package for pkg-config has it.
+/// Returns the linker's option that wraps all functions in which a thread waits, as in the package for pkg-config.
 fn wraps(folder: &Path) -> String {
     let package = std::fs::read_to_string(folder.join("pkgconfig/tmwatch_bench.pc")).unwrap_or_default();
     package.split_whitespace().find(|word| word.starts_with("-Wl,--wrap=")).unwrap_or("-Wl,--wrap=syscall").into()
@@ -49,7 +49,7 @@ fn main() {
     for name in libraries() {
         println!("cargo:rustc-link-lib=static={name}");
     }
-    // So that the bench sees by steps that a thread waits for a lock of the standard library, in what is built here.
+    // In the programs that are built here, so that the bench sees a thread wait for a lock of the standard library.
     for kind in ["tests", "examples"] {
         println!("cargo:rustc-link-arg-{kind}={}", wraps(&folder));
     }

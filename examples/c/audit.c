@@ -40,7 +40,7 @@ struct tx {
 /* Whether an event has to be recorded again, since there was no room for it. This memory holds no lock then, so that it may wait. */
 static bool is_full(uint32_t status)
 {
-    if (status != TMWATCH_DONE && status != TMWATCH_FULL) {
+    if (status != TMWATCH_OK && status != TMWATCH_FULL) {
         fprintf(stderr, "audit: an event was answered %u\n", (unsigned)status);
         exit(4);
     }
@@ -80,7 +80,7 @@ static void write_account(struct tx *tx, int account, uint64_t value)
     RECORD(tmwatch_write(tx->recorder, (uint64_t)account, value));
     tx->account[tx->writes] = account;
     tx->value[tx->writes++] = value;
-    RECORD(tmwatch_stored(tx->recorder));
+    RECORD(tmwatch_written(tx->recorder));
 }
 
 static bool commit(struct tx *tx)
@@ -172,14 +172,14 @@ int main(int count, char **words)
 {
     static const char *const verdicts[] = {"opaque so far", "violated", "undecided", "malformed"};
     tmwatch_settings settings = TMWATCH_SETTINGS(ACCOUNTS);
-    tmwatch_told told;
+    tmwatch_result result;
     tmwatch_counts counts;
     pthread_t threads[THREADS];
     rounds = count > 1 ? strtoul(words[1], NULL, 10) : 1000;
     is_broken = count > 2 && strcmp(words[2], "broken") == 0;
     for (int account = 0; account < ACCOUNTS; account++)
         settings.start[account] = START;
-    if (tmwatch_open(&watch, recorders, THREADS, &settings) != TMWATCH_DONE || pthread_barrier_init(&barrier, NULL, THREADS) != 0)
+    if (tmwatch_open(&watch, recorders, THREADS, &settings) != TMWATCH_OK || pthread_barrier_init(&barrier, NULL, THREADS) != 0)
         return 4;
     for (int i = 0; i < THREADS; i++)
         if (pthread_create(&threads[i], NULL, work, &recorders[i]) != 0)
@@ -187,10 +187,10 @@ int main(int count, char **words)
     judge();
     for (int i = 0; i < THREADS; i++)
         pthread_join(threads[i], NULL);
-    if (tmwatch_summary(&watch, &counts) != TMWATCH_DONE || tmwatch_close(&watch, recorders, THREADS, &told) != TMWATCH_DONE)
+    if (tmwatch_summary(&watch, &counts) != TMWATCH_OK || tmwatch_close(&watch, recorders, THREADS, &result) != TMWATCH_OK)
         return 4;
-    printf("%s at %llu of %llu events; %llu of %llu transactions overlapped; %lu wrong audits\n", verdicts[told.verdict],
-           (unsigned long long)told.at, (unsigned long long)told.events, (unsigned long long)counts.overlapping,
+    printf("%s at %llu of %llu events; %llu of %llu transactions overlapped; %lu wrong audits\n", verdicts[result.verdict],
+           (unsigned long long)result.at, (unsigned long long)result.events, (unsigned long long)counts.concurrent,
            (unsigned long long)counts.transactions, (unsigned long)wrong_sums);
-    return (int)told.verdict;
+    return (int)result.verdict;
 }

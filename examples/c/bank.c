@@ -90,18 +90,18 @@ int main(int count, char **words)
     static struct bank bank;
     const tmwatch_memory memory = {&bank, sizeof(struct tx), begin, read, write, add, commit, cancel, NULL};
     tmwatch_plan plan = TMWATCH_PLAN;
-    tmwatch_benched benched;
+    tmwatch_bench_result result;
     plan.rounds = count > 1 ? strtoull(words[1], NULL, 10) : 1000;
     plan.registers = ACCOUNTS;
     plan.adds = 60;
     bank.is_broken = count > 2 && strcmp(words[2], "broken") == 0;
     for (unsigned account = 0; account < ACCOUNTS; account++)
         bank.accounts[account] = plan.start[account] = START;
-    uint32_t status = tmwatch_bench(&memory, &plan, &benched);
-    if (status != TMWATCH_DONE) {
+    uint32_t status = tmwatch_bench(&memory, &plan, &result);
+    if (status != TMWATCH_OK) {
         fprintf(stderr, "bank: the bench was answered %u\n", (unsigned)status);
         return 4;
     }
-    tmwatch_bench_print(stdout, &benched);
-    return fflush(stdout) == 0 && !ferror(stdout) ? (int)benched.told.verdict : 4;
+    tmwatch_bench_print(stdout, &result);
+    return fflush(stdout) == 0 && !ferror(stdout) ? (int)result.result.verdict : 4;
 }

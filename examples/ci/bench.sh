@@ -3,16 +3,16 @@
 #
 #   bench.sh OUT PROGRAM..
 #
-# A PROGRAM is a memory on the bench (examples/c/norec.c), which by a time alone runs a job on each processor. What is found is made smaller.
-# First come the lines of AGAIN, which found a violation once: a program and the words that repeat it, as `./norec --seed 1 --round 7`.
-# Comments begin with #. A test passes if its run is opaque so far and shows enough: the bench says by `lacks` if it doesn't. That nothing
+# A PROGRAM is a memory on the bench (examples/c/norec.c), which by a time alone runs a job on each processor. A violation is shrunk.
+# First come the lines of REPRODUCERS, which found a violation once: a program and the options that reproduce it, as `./norec --seed 1 --round 7`.
+# Comments begin with #. A test passes if its run is opaque so far and tests enough: the bench names in `untested` what it did not test. That nothing
 # was aborted is no failure.
 #
-# OUT gets, of test N: N.json, what the bench printed; N.log, its standard error; N.trace, and N.trace.run beside it; N.html, the window of
+# OUT gets, of test N: N.json, what the bench printed; N.log, its standard error; N.trace, and N.trace.report beside it; N.html, the window of
 # a violation as a page, if tmwatch is there. junit.xml has all tests, as CI systems read them. Standard output has them as TAP.
 #
 # Exit status: 0 all pass; 1 a run is violated; 2 another failure, and none violated; 4 wrong words.
-# Environment: EACH (60), the seconds of a test; SEED (today, as 20261128); AGAIN, a file; TMWATCH (tmwatch), the program.
+# Environment: EACH (60), the seconds of a test; SEED (today, as 20261128); REPRODUCERS, a file; TMWATCH (tmwatch), the program.
 set -eu
 if [ $# -lt 2 ]; then
     echo 'usage: bench.sh OUT PROGRAM..' >&2
@@ -23,8 +23,8 @@ shift
 mkdir -p "$out"
 : >"$out/junit.new"
 tests=()
-if [ -n "${AGAIN:-}" ]; then
-    mapfile -t tests < <(sed 's/ *\(#.*\)\?$//; /^$/d' "$AGAIN")
+if [ -n "${REPRODUCERS:-}" ]; then
+    mapfile -t tests < <(sed 's/ *\(#.*\)\?$//; /^$/d' "$REPRODUCERS")
 fi
 for program; do
     tests+=("$program --seed $seed --seconds $each")
@@ -33,9 +33,9 @@ done
 # What is wrong with a run, by its exit status and what the bench printed; nothing if the test passes.
 failure_of() {
     case $1:$(<"$out/$2.json") in
-    [01]:*'"opaque so far"'*'"race"'*) echo 'a race on plain data: see race' ;;
-    0:*'"lacks":["aborts"]'*) ;; # (a memory that locks aborts nothing)
-    0:*'"lacks"'*) echo 'nothing is wrong, but the run shows little: see lacks' ;;
+    [01]:*'"opaque so far"'*'"race"'*) echo 'a data race: see race' ;;
+    0:*'"untested":["aborts"]'*) ;; # (a memory that locks aborts nothing)
+    0:*'"untested"'*) echo 'nothing is wrong, but the run tests little: see untested' ;;
     0:*'"opaque so far"'*) ;;
     1:*'"violated"'*) echo violated ;;
     2:*'"undecided"'*) echo undecided ;;
@@ -63,18 +63,18 @@ number=0 failures=0 status=0
 for words in "${tests[@]}"; do
     number=$((number + 1)) ended=0 began=$SECONDS
     read -r -a command <<<"$words"
-    # (a run ends by itself, also if it is stuck: this is for one that does not)
-    timeout -k 10 $((each + 120)) "${command[@]}" --smaller --quiet --trace "$out/$number.trace" >"$out/$number.json" 2>"$out/$number.log" || ended=$?
+    # (a run ends by itself, even if it hangs: this is for one that does not)
+    timeout -k 10 $((each + 120)) "${command[@]}" --shrink --quiet --trace "$out/$number.trace" >"$out/$number.json" 2>"$out/$number.log" || ended=$?
     why=$(failure_of $ended $number)
     echo "${why:+not }ok $number - $words"
     if [ -n "$why" ]; then
         failures=$((failures + 1))
-        printf '# %s\n' "$why" "$(grep '"again"' "$out/$number.json" || echo "see $number.log")"
+        printf '# %s\n' "$why" "$(grep '"reproduce"' "$out/$number.json" || echo "see $number.log")"
         [ "$why" = violated ] && status=1 || status=$((status == 1 ? 1 : 2))
     fi
     if [ "$why" = violated ] && command -v "$tmwatch" >/dev/null; then
-        from=$(sed -n 's/.*"from":\([0-9]*\).*/\1/p' "$out/$number.json")
-        "$tmwatch" show --page --why --from "${from:-0}" <"$out/$number.trace" >"$out/$number.html" || true
+        skipped=$(sed -n 's/.*"skipped":\([0-9]*\).*/\1/p' "$out/$number.json")
+        "$tmwatch" show --page --why --skipped "${skipped:-0}" <"$out/$number.trace" >"$out/$number.html" || true
     fi
     report $number "$words" $((SECONDS - began)) "$why" >>"$out/junit.new"
 done

@@ -1,8 +1,8 @@
 #!/usr/bin/env python3
 """A little transactional memory in Python: reads that are validated by value, and writes that are kept until the commit.
 
-    tmwatch-bench --one -- python3 memory.py
-    tmwatch-bench --one -- python3 memory.py reads     without the validation of reads, or of commits (commit)
+    tmwatch-bench --single-process -- python3 memory.py
+    tmwatch-bench --single-process -- python3 memory.py reads     without the validation of reads, or of commits (commit)
 """
 import sys, threading
 

@@ -10,7 +10,7 @@
     tmwatch_store.serve(Mine())             # tmwatch-bench -- python3 mine.py
 
 Each but `abort` may raise Refused: a conflict, a deadlock, a lock waited for in vain. Another error ends the program, and the bench says so.
-`serve_all` serves all threads in one process (--one): it gets a store for each, which has a thread of its own.
+`serve_all` serves all threads in one process (--single-process): it gets a store for each, which has a thread of its own.
 """
 import os, queue, sys, threading
 

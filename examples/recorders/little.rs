@@ -142,7 +142,7 @@ fn transaction(memory: &Memory, recorder: &mut Recorder, draws: &mut Draws, scri
     }
 }
 
-/// A thread's part of the run. In a round it makes one transaction, and then waits for the others.
+/// A thread's part of the run. In a round it makes one transaction, and then waits at the barrier.
 fn work(memory: &Memory, barrier: &Barrier, recorder: &mut Recorder, rounds: u64, seed: u64) {
     let mut draws = Draws(seed * THREADS as u64 + recorder.thread as u64);
     for round in 0..rounds {

@@ -1,6 +1,6 @@
 /*
-Records what threads call and are answered, and writes it as the trace that `tmwatch judge` reads. Threads and registers have the numbers
-0 to 7. A call is recorded before the memory is asked, and an answer after the memory has answered.
+Records the calls of threads and the answers to them, and writes them as a trace for `tmwatch judge`. Threads and registers have the numbers
+0 to 7. Record a call before you call the memory, and the answer after the memory has returned (docs/RECORDING.md).
 */
 #ifndef RECORDER_H
 #define RECORDER_H
@@ -10,7 +10,7 @@ Records what threads call and are answered, and writes it as the trace that `tmw
 #include <stdio.h>
 #include <stdlib.h>
 
-/* As many events as may be recorded between two calls of write_events. -DROOM=N chooses another number. */
+/* Maximum number of events between two calls of write_events. Compile with -DROOM=N for another number. */
 #ifndef ROOM
 #define ROOM 65536
 #endif
@@ -24,8 +24,8 @@ struct event {
 static struct event events[ROOM];
 static atomic_size_t recorded;
 
-/* Gives the event the next place in the one order of all threads' events. What a thread does before it takes a place happens before
-   what another thread does after it has taken a later one. */
+/* Stores the event at the next place in the one order of all threads' events. What a thread does before it records an event happens before (as
+   in C11) what another thread does after it got a later place. Calls abort(), which ends the process, if there is no room. */
 static inline void record(unsigned thread, char kind, unsigned reg, uint64_t value)
 {
     size_t place = atomic_fetch_add(&recorded, 1);
@@ -41,7 +41,8 @@ static inline void write_header(unsigned registers)
     printf("opacity-trace 1 %u\n", registers);
 }
 
-/* Writes the events that were recorded since its last call. No thread may record meanwhile. */
+/* Writes to standard output the events that were recorded since write_events was last called, without flushing it. No thread may record during
+   the call. */
 static inline void write_events(void)
 {
     size_t count = atomic_exchange(&recorded, 0);

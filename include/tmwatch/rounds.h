@@ -1,6 +1,7 @@
 /*
-A workload of rounds. In a round each thread makes one transaction, in at most ATTEMPTS attempts, and then all wait for one another. So no
-transaction is live between two rounds, and a round has at most THREADS * ATTEMPTS = 8 transactions, since each attempt is one.
+A workload of rounds. In a round, each thread makes at most ATTEMPTS attempts of one list of steps. After each WAIT_EVERY rounds all threads
+meet at a barrier, where no transaction is open. In the trace, each attempt is a transaction of its own, so by default at most
+THREADS * ATTEMPTS = 8 transactions are between two barriers.
 */
 #ifndef ROUNDS_H
 #define ROUNDS_H
@@ -14,12 +15,12 @@ transaction is live between two rounds, and a round has at most THREADS * ATTEMP
 #define ATTEMPTS 2
 #endif
 
-/* The threads wait for one another after so many rounds. */
+/* The threads meet at a barrier after each WAIT_EVERY rounds. */
 #ifndef WAIT_EVERY
 #define WAIT_EVERY 1
 #endif
 
-/* How many threads, registers, and steps of a transaction. */
+/* Numbers of threads, of registers, and of steps in a transaction. */
 #ifndef THREADS
 #define THREADS 4
 #endif
@@ -30,13 +31,13 @@ transaction is live between two rounds, and a round has at most THREADS * ATTEMP
 #define STEPS 3
 #endif
 
-/* Reads the register, and then, where `writes` is set, writes it. */
+/* A step reads the register, and then writes it if `writes` is set. */
 struct step {
     unsigned reg;
     bool writes;
 };
 
-/* A thread and its transaction of this round: its steps, and whether it asks to abort or to commit at their end. */
+/* A thread and its transaction of this round: the steps, and whether it requests an abort or a commit after them. */
 struct worker {
     unsigned thread;
     uint64_t draws, round;
@@ -47,10 +48,10 @@ struct worker {
 static uint64_t rounds, seed;
 static pthread_barrier_t barrier;
 
-/* Makes the worker's transaction of the round. */
+/* Makes the worker's transaction of this round. The program that includes this header defines it. */
 static void make_transaction(struct worker *worker);
 
-/* A number below `below` (Steele, Lea and Flood, OOPSLA 2014). */
+/* Returns a random number below `below` (Steele, Lea and Flood, OOPSLA 2014). */
 static inline unsigned draw(struct worker *worker, unsigned below)
 {
     uint64_t word = worker->draws += 0x9E3779B97F4A7C15;
@@ -59,7 +60,7 @@ static inline unsigned draw(struct worker *worker, unsigned below)
     return (word ^ word >> 31) % below;
 }
 
-/* Waits a little, one time in two, and lets others run, one time in 64, so that transactions overlap also on few processors. */
+/* Waits a little in one of two calls, and yields in one of 64, so that transactions overlap even on few processors. */
 static inline void pause_sometimes(struct worker *worker)
 {
     for (volatile unsigned turns = draw(worker, 2) * draw(worker, 100); turns > 0; turns--)
@@ -68,13 +69,13 @@ static inline void pause_sometimes(struct worker *worker)
         sched_yield();
 }
 
-/* What the worker's attempt writes: no other attempt of the run writes it. */
+/* Returns the value that the worker's attempt writes. No other attempt of the run writes it. */
 static inline uint64_t fresh_value(const struct worker *worker, unsigned attempt)
 {
     return (worker->round * THREADS + worker->thread) * ATTEMPTS + attempt + 1;
 }
 
-/* Thread 0 writes what was recorded, while no thread records. */
+/* Waits for all threads. Then thread 0 writes the recorded events, while no thread records. */
 static inline void wait_for_all(const struct worker *worker)
 {
     pthread_barrier_wait(&barrier);

@@ -1,5 +1,6 @@
-/* A store in C or C++ on the bench by lines (docs/LINES.md). A program defines these five functions, opens the store with 0 in each register, and
-   calls serve_store. Each thread of the bench has a thread here; without --one, only this process's has calls. */
+/* A client of tmwatch-bench in C or C++ (docs/LINES.md). The program defines the five functions below, opens the store with 0 in each register,
+   and calls serve_store. A client has a thread for each thread of the bench. Without --single-process, there are as many clients, and each
+   receives the calls of one thread of the bench. */
 #pragma once
 #include <inttypes.h>
 #include <pthread.h>
@@ -10,14 +11,16 @@
 
 enum { THREADS = 8, REGISTERS = 8, MOST_CALL = 64 };
 
-/* Each but the last is false if the store refuses the transaction, which the last then rolls back; so it does if the transaction asks to abort. */
+/* The first four return false if the store refuses the transaction. After store_begin returns false, nothing is open. After another one does,
+   store_abort is called, to roll the transaction back. It is also called if an open transaction requests an abort, or adds: adds (--add) are
+   not supported, so each is answered with an abort. */
 static bool store_begin(unsigned thread);
 static bool store_read(unsigned thread, unsigned reg, uint64_t *value);
 static bool store_write(unsigned thread, unsigned reg, uint64_t value);
 static bool store_commit(unsigned thread);
 static void store_abort(unsigned thread);
 
-/* Ends the program if the store fails, which is no refusal. */
+/* Ends the program because the store failed, which is not a refusal. */
 static inline void fail(const char *what, const char *why)
 {
     fprintf(stderr, "%s: %s\n", what, why);
@@ -27,7 +30,7 @@ static inline void fail(const char *what, const char *why)
 static sem_t called[THREADS];
 static char calls[THREADS][MOST_CALL];
 
-/* Answers the calls of a thread. A transaction's first one begins it. */
+/* Answers the calls of a thread. The first call of a transaction begins it. */
 static inline void *serve(void *own)
 {
     unsigned thread = (unsigned)(((char *)own - calls[0]) / MOST_CALL), reg = 0;

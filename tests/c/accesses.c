@@ -47,7 +47,8 @@ enum { FENCES = 3 };
 #endif
 enum { ALL = 22, THREAD = 5 };
 static tmwatch_simulation *orders;
-static tmwatch_step_how how;
+static atomic_bool has_buffers;
+static tmwatch_step_how how = {.has_buffers = &has_buffers};
 static volatile unsigned steps, wides; /* (the compiler marks accesses after it has looked who changes what) */
 
 UNMARKED tmwatch_simulation *tmwatch_step_orders(void)

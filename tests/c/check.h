@@ -32,15 +32,15 @@ static inline bool are_empty(const tmwatch_recorder *recorders, size_t count)
 /* Thread 0 writes 1 to register 0 and has not asked to commit, and thread 1 reads it: violated at 4. */
 static inline void record_dirty_read(tmwatch_recorder *recorders)
 {
-    CHECK(tmwatch_write(&recorders[0], 0, 1) == TMWATCH_DONE);
-    CHECK(tmwatch_stored(&recorders[0]) == TMWATCH_DONE);
-    CHECK(tmwatch_read(&recorders[1], 0) == TMWATCH_DONE);
-    CHECK(tmwatch_value(&recorders[1], 1) == TMWATCH_DONE);
+    CHECK(tmwatch_write(&recorders[0], 0, 1) == TMWATCH_OK);
+    CHECK(tmwatch_written(&recorders[0]) == TMWATCH_OK);
+    CHECK(tmwatch_read(&recorders[1], 0) == TMWATCH_OK);
+    CHECK(tmwatch_value(&recorders[1], 1) == TMWATCH_OK);
 }
 
-static inline bool tells(tmwatch_told told, uint64_t events, uint32_t verdict, uint64_t at, uint32_t why)
+static inline bool tells(tmwatch_result result, uint64_t events, uint32_t verdict, uint64_t at, uint32_t why)
 {
-    return told.events == events && told.verdict == verdict && told.at == at && told.why == why;
+    return result.events == events && result.verdict == verdict && result.at == at && result.why == why;
 }
 
 #endif

@@ -19,7 +19,7 @@ static const tmwatch_counts uncounted = {9, 9, 9, 9, 9, 9, 9, 9, 9};
 
 static void record(unsigned thread, char letter, uint64_t value)
 {
-    CHECK(kept_record(&recorders[thread], thread, letter, 0, value) == TMWATCH_DONE);
+    CHECK(kept_record(&recorders[thread], thread, letter, 0, value) == TMWATCH_OK);
 }
 
 /* Records events of register 0: of each its thread and its letter, and after V and W a value. */
@@ -68,7 +68,7 @@ static const struct run {
     {NULL, 2, TMWATCH_OPAQUE_SO_FAR, {0, 2, 1, 0, 2, 2, 0, 2, 0}},
     /* Two threads that never meet. */
     {NULL, 1, TMWATCH_OPAQUE_SO_FAR, {0, 2, 2, 0, 0, 2, 0, 1, 1}},
-    /* Each count is another number: two transactions alone; one during which there are three; two that abort unasked; two that commit; and a
+    /* Each count is another number: two transactions alone; one during which there are three; two forced aborts; two that commit; and a
        live one. */
     {"0T0C1T1C" "0R1T1C1T1C1X1A0V00T0C" "0R1R0A1A" "0T1T0C1C" "1R", 0, TMWATCH_OPAQUE_SO_FAR, {3, 7, 5, 1, 8, 11, 2, 4, 0}},
     /* One thread alone has none to meet. */
@@ -86,50 +86,50 @@ enum { RUNS = sizeof runs / sizeof runs[0] };
 static bool are_same(tmwatch_counts one, tmwatch_counts other)
 {
     return one.aborted == other.aborted && one.committed == other.committed && one.cuts == other.cuts && one.live == other.live
-           && one.overlapping == other.overlapping && one.transactions == other.transactions && one.unasked == other.unasked
-           && one.widest == other.widest && one.none_overlapped == other.none_overlapped;
+           && one.concurrent == other.concurrent && one.transactions == other.transactions && one.forced_aborts == other.forced_aborts
+           && one.max_window == other.max_window && one.none_overlapped == other.none_overlapped;
 }
 
 /* Makes a run and closes it, and answers with its counts. */
-static tmwatch_counts count(const struct run *run, tmwatch_told *told)
+static tmwatch_counts count(const struct run *run, tmwatch_result *result)
 {
     tmwatch_counts counts = uncounted;
     uint64_t judged;
     CHECK(tmwatch_summary(&watch, &counts) == TMWATCH_NO_HANDLE && are_same(counts, uncounted));
-    CHECK(tmwatch_open(&watch, recorders, THREADS, &settings) == TMWATCH_DONE);
+    CHECK(tmwatch_open(&watch, recorders, THREADS, &settings) == TMWATCH_OK);
     if (run->events)
         record_all(run->events);
     else
         run_threads(run->at_once);
     /* What isn't judged isn't counted. */
-    CHECK(tmwatch_summary(&watch, &counts) == TMWATCH_DONE && are_same(counts, runs[RUNS - 1].counts));
+    CHECK(tmwatch_summary(&watch, &counts) == TMWATCH_OK && are_same(counts, runs[RUNS - 1].counts));
     do
-        CHECK(tmwatch_pump(&watch, 3, &judged) == TMWATCH_DONE);
+        CHECK(tmwatch_pump(&watch, 3, &judged) == TMWATCH_OK);
     while (judged > 0);
-    CHECK(tmwatch_summary(&watch, &counts) == TMWATCH_DONE);
-    CHECK(tmwatch_close(&watch, recorders, THREADS, told) == TMWATCH_DONE && told->verdict == run->verdict);
+    CHECK(tmwatch_summary(&watch, &counts) == TMWATCH_OK);
+    CHECK(tmwatch_close(&watch, recorders, THREADS, result) == TMWATCH_OK && result->verdict == run->verdict);
     CHECK(is_empty(&watch) && are_empty(recorders, THREADS));
     return counts;
 }
 
 static void write_counts(tmwatch_counts counts)
 {
-    printf("{\"aborted\":%llu,\"committed\":%llu,\"cuts\":%llu,\"live\":%llu,", (unsigned long long)counts.aborted,
-           (unsigned long long)counts.committed, (unsigned long long)counts.cuts, (unsigned long long)counts.live);
-    printf("\"overlapping\":%llu,\"transactions\":%llu,\"unasked\":%llu,\"widest\":%llu}\n", (unsigned long long)counts.overlapping,
-           (unsigned long long)counts.transactions, (unsigned long long)counts.unasked, (unsigned long long)counts.widest);
+    printf("{\"aborted\":%llu,\"committed\":%llu,\"concurrent\":%llu,\"cuts\":%llu,", (unsigned long long)counts.aborted,
+           (unsigned long long)counts.committed, (unsigned long long)counts.concurrent, (unsigned long long)counts.cuts);
+    printf("\"forced_aborts\":%llu,\"live\":%llu,\"max_window\":%llu,\"transactions\":%llu}\n", (unsigned long long)counts.forced_aborts,
+           (unsigned long long)counts.live, (unsigned long long)counts.max_window, (unsigned long long)counts.transactions);
 }
 
 int main(int words_count, char **words)
 {
-    tmwatch_told told;
+    tmwatch_result result;
     if (words_count > 1) {
-        tmwatch_counts counts = count(&runs[strtoul(words[1], NULL, 10) % RUNS], &told);
-        kept_write(stdout, &settings, told.events);
+        tmwatch_counts counts = count(&runs[strtoul(words[1], NULL, 10) % RUNS], &result);
+        kept_write(stdout, &settings, result.events);
         write_counts(counts);
         return 0;
     }
     for (int i = 0; i < RUNS; i++)
-        CHECK(are_same(count(&runs[i], &told), runs[i].counts));
+        CHECK(are_same(count(&runs[i], &result), runs[i].counts));
     return 0;
 }

@@ -8,15 +8,15 @@ int main()
     tmwatch watch = TMWATCH_EMPTY;
     tmwatch_recorder recorders[2] = {TMWATCH_EMPTY_RECORDER, TMWATCH_EMPTY_RECORDER};
     tmwatch_settings settings = TMWATCH_SETTINGS(1);
-    tmwatch_told told = {};
+    tmwatch_result result = {};
     tmwatch_permits permits = TMWATCH_ALL_FREE;
     tmwatch_permits_take(&permits);
-    if (tmwatch_open(&watch, recorders, 2, &settings) != TMWATCH_DONE)
+    if (tmwatch_open(&watch, recorders, 2, &settings) != TMWATCH_OK)
         return 1;
-    if (tmwatch_add(&recorders[1], 0, 5) != TMWATCH_DONE || tmwatch_value(&recorders[1], 0) != TMWATCH_DONE)
+    if (tmwatch_add(&recorders[1], 0, 5) != TMWATCH_OK || tmwatch_value(&recorders[1], 0) != TMWATCH_OK)
         return 1;
-    if (tmwatch_close(&watch, recorders, 2, &told) != TMWATCH_DONE)
+    if (tmwatch_close(&watch, recorders, 2, &result) != TMWATCH_OK)
         return 1;
     tmwatch_permits_give(&permits);
-    return told.events == 2 && told.verdict == TMWATCH_OPAQUE_SO_FAR ? 0 : 1;
+    return result.events == 2 && result.verdict == TMWATCH_OPAQUE_SO_FAR ? 0 : 1;
 }

@@ -12,15 +12,15 @@ static tmwatch_recorder recorders[THREADS];
 
 static void record_write(unsigned thread, unsigned number)
 {
-    CHECK(tmwatch_write(&recorders[thread], number, thread + 1) == TMWATCH_DONE);
-    CHECK(tmwatch_stored(&recorders[thread]) == TMWATCH_DONE);
+    CHECK(tmwatch_write(&recorders[thread], number, thread + 1) == TMWATCH_OK);
+    CHECK(tmwatch_written(&recorders[thread]) == TMWATCH_OK);
 }
 
 /* Seven writers, each of one register with the thread before it and of one with the thread behind it, and then a reader. */
 static void record_all(void)
 {
     unsigned long before = calls;
-    CHECK(tmwatch_room(&recorders[0], EVENTS) == TMWATCH_DONE && tmwatch_room(&recorders[0], CELLS) == TMWATCH_FULL);
+    CHECK(tmwatch_room(&recorders[0], EVENTS) == TMWATCH_OK && tmwatch_room(&recorders[0], CELLS) == TMWATCH_FULL);
     for (unsigned thread = 0; thread < WRITERS; thread++) {
         if (thread > 0)
             record_write(thread, thread - 1);
@@ -28,21 +28,21 @@ static void record_all(void)
             record_write(thread, thread);
     }
     for (unsigned thread = 0; thread < WRITERS; thread++)
-        CHECK(tmwatch_commit(&recorders[thread]) == TMWATCH_DONE);
+        CHECK(tmwatch_commit(&recorders[thread]) == TMWATCH_OK);
     for (unsigned thread = 0; thread < WRITERS; thread++)
-        CHECK(tmwatch_committed(&recorders[thread]) == TMWATCH_DONE);
+        CHECK(tmwatch_committed(&recorders[thread]) == TMWATCH_OK);
     /* The last of two writers of register 0 may be either, and so of register 5. */
-    CHECK(tmwatch_read(&recorders[7], 0) == TMWATCH_DONE && tmwatch_value(&recorders[7], 1) == TMWATCH_DONE);
-    CHECK(tmwatch_read(&recorders[7], 5) == TMWATCH_DONE && tmwatch_value(&recorders[7], 6) == TMWATCH_DONE);
-    CHECK(tmwatch_commit(&recorders[7]) == TMWATCH_DONE && tmwatch_committed(&recorders[7]) == TMWATCH_DONE);
-    CHECK(tmwatch_read(&recorders[7], 0) == TMWATCH_DONE && tmwatch_value(&recorders[7], 2) == TMWATCH_DONE);
+    CHECK(tmwatch_read(&recorders[7], 0) == TMWATCH_OK && tmwatch_value(&recorders[7], 1) == TMWATCH_OK);
+    CHECK(tmwatch_read(&recorders[7], 5) == TMWATCH_OK && tmwatch_value(&recorders[7], 6) == TMWATCH_OK);
+    CHECK(tmwatch_commit(&recorders[7]) == TMWATCH_OK && tmwatch_committed(&recorders[7]) == TMWATCH_OK);
+    CHECK(tmwatch_read(&recorders[7], 0) == TMWATCH_OK && tmwatch_value(&recorders[7], 2) == TMWATCH_OK);
     /* Neither recording nor asking for room takes memory. */
     CHECK(calls == before);
 }
 
-static bool tells_all(tmwatch_told told)
+static bool tells_all(tmwatch_result result)
 {
-    return tells(told, EVENTS, TMWATCH_VIOLATED, EVENTS, 0);
+    return tells(result, EVENTS, TMWATCH_VIOLATED, EVENTS, 0);
 }
 
 /* Opens a watch, as soon as there is memory; before that all is empty and nothing is taken. */
@@ -52,9 +52,9 @@ static void open_soon(void)
     settings.cells = CELLS;
     for (int tries = 0;; tries++) {
         uint32_t status = tmwatch_open(&watch, recorders, THREADS, &settings);
-        if (status == TMWATCH_DONE)
+        if (status == TMWATCH_OK)
             return;
-        CHECK(status == TMWATCH_MEMORY && tries < SOON);
+        CHECK(status == TMWATCH_NO_MEMORY && tries < SOON);
         CHECK(is_empty(&watch) && are_empty(recorders, THREADS) && blocks == 0);
         refuses_all = false;
     }
@@ -65,23 +65,23 @@ static void pump_half(void)
 {
     unsigned long before = calls;
     uint64_t judged = 99;
-    tmwatch_told told;
-    CHECK(tmwatch_pump(&watch, HALF, &judged) == TMWATCH_DONE && judged == HALF);
-    CHECK(tmwatch_report(&watch, &told) == TMWATCH_DONE && tells(told, HALF, TMWATCH_OPAQUE_SO_FAR, 0, 0));
+    tmwatch_result result;
+    CHECK(tmwatch_pump(&watch, HALF, &judged) == TMWATCH_OK && judged == HALF);
+    CHECK(tmwatch_report(&watch, &result) == TMWATCH_OK && tells(result, HALF, TMWATCH_OPAQUE_SO_FAR, 0, 0));
     CHECK(calls == before);
 }
 
 /* Closes the watch, as soon as there is memory. Before that all handles are as they were. */
-static tmwatch_told close_soon(void)
+static tmwatch_result close_soon(void)
 {
-    tmwatch_told told = {9, 9, 9, 9};
+    tmwatch_result result = {9, 9, 9, 9};
     tmwatch_recorder before[THREADS];
     memcpy(before, recorders, sizeof before);
     for (int tries = 0;; tries++) {
-        uint32_t status = tmwatch_close(&watch, recorders, THREADS, &told);
-        if (status == TMWATCH_DONE)
-            return told;
-        CHECK(status == TMWATCH_MEMORY && tries < SOON && tells(told, 9, 9, 9, 9) && !is_empty(&watch));
+        uint32_t status = tmwatch_close(&watch, recorders, THREADS, &result);
+        if (status == TMWATCH_OK)
+            return result;
+        CHECK(status == TMWATCH_NO_MEMORY && tries < SOON && tells(result, 9, 9, 9, 9) && !is_empty(&watch));
         CHECK(memcmp(before, recorders, sizeof before) == 0);
         refuses_all = false;
     }
@@ -110,17 +110,17 @@ static bool close_refused(unsigned long number)
     calls = 0;
     refused = number;
     refuses_all = true;
-    tmwatch_told told = {9, 9, 9, 9};
-    uint32_t status = TMWATCH_MEMORY;
-    for (int tries = 0; tries < 3 && status == TMWATCH_MEMORY; tries++)
-        status = tmwatch_close(&watch, recorders, THREADS, &told);
-    bool had = status == TMWATCH_MEMORY;
-    CHECK(had || status == TMWATCH_DONE);
-    CHECK(had == tells(told, 9, 9, 9, 9));
+    tmwatch_result result = {9, 9, 9, 9};
+    uint32_t status = TMWATCH_NO_MEMORY;
+    for (int tries = 0; tries < 3 && status == TMWATCH_NO_MEMORY; tries++)
+        status = tmwatch_close(&watch, recorders, THREADS, &result);
+    bool had = status == TMWATCH_NO_MEMORY;
+    CHECK(had || status == TMWATCH_OK);
+    CHECK(had == tells(result, 9, 9, 9, 9));
     refused = 0;
     if (had)
-        told = close_soon();
-    CHECK(tells_all(told) && blocks == 0 && bytes == 0);
+        result = close_soon();
+    CHECK(tells_all(result) && blocks == 0 && bytes == 0);
     return had;
 }
 

@@ -3,7 +3,7 @@
 
 static tmwatch watch;
 static tmwatch_recorder recorders[9];
-static const tmwatch_told untold = {9, 9, 9, 9};
+static const tmwatch_result untold = {9, 9, 9, 9};
 
 /* Opens a watch that has this many recorders, cells and places, over one register. */
 static void open_small(size_t count, uint64_t cells, uint64_t limit)
@@ -11,30 +11,30 @@ static void open_small(size_t count, uint64_t cells, uint64_t limit)
     tmwatch_settings settings = TMWATCH_SETTINGS(1);
     settings.cells = cells;
     settings.limit = limit;
-    CHECK(tmwatch_open(&watch, recorders, count, &settings) == TMWATCH_DONE);
+    CHECK(tmwatch_open(&watch, recorders, count, &settings) == TMWATCH_OK);
 }
 
 /* Closes the watch, and answers with what it tells. */
-static tmwatch_told close_all(size_t count)
+static tmwatch_result close_all(size_t count)
 {
-    tmwatch_told told = untold;
-    CHECK(tmwatch_close(&watch, recorders, count, &told) == TMWATCH_DONE);
+    tmwatch_result result = untold;
+    CHECK(tmwatch_close(&watch, recorders, count, &result) == TMWATCH_OK);
     CHECK(is_empty(&watch) && are_empty(recorders, 9));
-    return told;
+    return result;
 }
 
-static bool told_nothing(tmwatch_told told)
+static bool told_nothing(tmwatch_result result)
 {
-    return memcmp(&told, &untold, sizeof told) == 0;
+    return memcmp(&result, &untold, sizeof result) == 0;
 }
 
 static void an_empty_handle_is_answered(void)
 {
-    tmwatch_told told = untold;
+    tmwatch_result result = untold;
     uint64_t number = 9;
     tmwatch_recorder *none = &recorders[0];
     CHECK(tmwatch_read(none, 0) == TMWATCH_NO_HANDLE && tmwatch_value(none, 0) == TMWATCH_NO_HANDLE);
-    CHECK(tmwatch_write(none, 0, 0) == TMWATCH_NO_HANDLE && tmwatch_stored(none) == TMWATCH_NO_HANDLE);
+    CHECK(tmwatch_write(none, 0, 0) == TMWATCH_NO_HANDLE && tmwatch_written(none) == TMWATCH_NO_HANDLE);
     CHECK(tmwatch_add(none, 0, 0) == TMWATCH_NO_HANDLE && tmwatch_commit(none) == TMWATCH_NO_HANDLE);
     CHECK(tmwatch_committed(none) == TMWATCH_NO_HANDLE && tmwatch_abort(none) == TMWATCH_NO_HANDLE);
     CHECK(tmwatch_aborted(none) == TMWATCH_NO_HANDLE);
@@ -42,8 +42,8 @@ static void an_empty_handle_is_answered(void)
     CHECK(tmwatch_record(none, 'R', 0, 0, &number) == TMWATCH_NO_HANDLE && number == 9);
     CHECK(tmwatch_record(none, 'Q', 99, 0, &number) == TMWATCH_NO_HANDLE && number == 9);
     CHECK(tmwatch_pump(&watch, 1, &number) == TMWATCH_NO_HANDLE && number == 9);
-    CHECK(tmwatch_report(&watch, &told) == TMWATCH_NO_HANDLE && told_nothing(told));
-    CHECK(tmwatch_close(&watch, recorders, 2, &told) == TMWATCH_NO_HANDLE && told_nothing(told));
+    CHECK(tmwatch_report(&watch, &result) == TMWATCH_NO_HANDLE && told_nothing(result));
+    CHECK(tmwatch_close(&watch, recorders, 2, &result) == TMWATCH_NO_HANDLE && told_nothing(result));
     tmwatch_discard(&watch);
     tmwatch_discard_recorder(none);
     CHECK(is_empty(&watch) && are_empty(recorders, 9));
@@ -91,7 +91,7 @@ static void wrong_settings_are_answered_in_their_order(void)
     settings.limit = 1;
     is_refused(settings, 2, TMWATCH_BAD_LIMIT);
     settings.limit = 2;
-    CHECK(tmwatch_open(&watch, recorders, 2, &settings) == TMWATCH_DONE);
+    CHECK(tmwatch_open(&watch, recorders, 2, &settings) == TMWATCH_OK);
     CHECK(tells(close_all(2), 0, TMWATCH_OPAQUE_SO_FAR, 0, 0));
 }
 
@@ -101,11 +101,11 @@ static void a_full_handle_is_not_opened_over(void)
     tmwatch_recorder others[2] = {TMWATCH_EMPTY_RECORDER, TMWATCH_EMPTY_RECORDER};
     tmwatch_settings settings = TMWATCH_SETTINGS(0);
     open_small(2, 8, 100);
-    CHECK(tmwatch_open(&watch, others, 2, &settings) == TMWATCH_FULL_HANDLE);
+    CHECK(tmwatch_open(&watch, others, 2, &settings) == TMWATCH_HANDLE_IN_USE);
     CHECK(are_empty(others, 2));
-    CHECK(tmwatch_open(&other, recorders, 2, &settings) == TMWATCH_FULL_HANDLE);
+    CHECK(tmwatch_open(&other, recorders, 2, &settings) == TMWATCH_HANDLE_IN_USE);
     CHECK(is_empty(&other));
-    CHECK(tmwatch_open(&other, &recorders[1], 2, &settings) == TMWATCH_FULL_HANDLE);
+    CHECK(tmwatch_open(&other, &recorders[1], 2, &settings) == TMWATCH_HANDLE_IN_USE);
     CHECK(is_empty(&other) && are_empty(&recorders[2], 1));
     record_dirty_read(recorders);
     CHECK(tells(close_all(2), 4, TMWATCH_VIOLATED, 4, 0));
@@ -127,8 +127,8 @@ static void no_such_kind_and_no_such_register_are_recorded(void)
     CHECK(tmwatch_read(&recorders[0], 1) == TMWATCH_BAD_REGISTER);
     CHECK(tmwatch_write(&recorders[0], 1, 0) == TMWATCH_BAD_REGISTER);
     CHECK(tmwatch_add(&recorders[0], 1, 0) == TMWATCH_BAD_REGISTER && place == 9);
-    CHECK(tmwatch_record(&recorders[0], 'R', 0, 99, &place) == TMWATCH_DONE && place == 0);
-    CHECK(tmwatch_record(&recorders[0], 'V', 99, 0, &place) == TMWATCH_DONE && place == 1);
+    CHECK(tmwatch_record(&recorders[0], 'R', 0, 99, &place) == TMWATCH_OK && place == 0);
+    CHECK(tmwatch_record(&recorders[0], 'V', 99, 0, &place) == TMWATCH_OK && place == 1);
     CHECK(tells(close_all(1), 2, TMWATCH_OPAQUE_SO_FAR, 0, 0));
 }
 
@@ -137,28 +137,28 @@ static void each_kind_is_recorded(void)
 {
     uint64_t place = 9;
     open_small(1, 16, 100);
-    CHECK(tmwatch_write(&recorders[0], 0, 3) == TMWATCH_DONE && tmwatch_stored(&recorders[0]) == TMWATCH_DONE);
-    CHECK(tmwatch_add(&recorders[0], 0, UINT64_MAX) == TMWATCH_DONE && tmwatch_value(&recorders[0], 3) == TMWATCH_DONE);
-    CHECK(tmwatch_commit(&recorders[0]) == TMWATCH_DONE && tmwatch_committed(&recorders[0]) == TMWATCH_DONE);
-    CHECK(tmwatch_read(&recorders[0], 0) == TMWATCH_DONE && tmwatch_value(&recorders[0], 2) == TMWATCH_DONE);
-    CHECK(tmwatch_abort(&recorders[0]) == TMWATCH_DONE && tmwatch_aborted(&recorders[0]) == TMWATCH_DONE);
-    CHECK(tmwatch_record(&recorders[0], 'R', 0, 0, &place) == TMWATCH_DONE && place == 10);
-    CHECK(tmwatch_record(&recorders[0], 'V', 0, 3, &place) == TMWATCH_DONE && place == 11);
+    CHECK(tmwatch_write(&recorders[0], 0, 3) == TMWATCH_OK && tmwatch_written(&recorders[0]) == TMWATCH_OK);
+    CHECK(tmwatch_add(&recorders[0], 0, UINT64_MAX) == TMWATCH_OK && tmwatch_value(&recorders[0], 3) == TMWATCH_OK);
+    CHECK(tmwatch_commit(&recorders[0]) == TMWATCH_OK && tmwatch_committed(&recorders[0]) == TMWATCH_OK);
+    CHECK(tmwatch_read(&recorders[0], 0) == TMWATCH_OK && tmwatch_value(&recorders[0], 2) == TMWATCH_OK);
+    CHECK(tmwatch_abort(&recorders[0]) == TMWATCH_OK && tmwatch_aborted(&recorders[0]) == TMWATCH_OK);
+    CHECK(tmwatch_record(&recorders[0], 'R', 0, 0, &place) == TMWATCH_OK && place == 10);
+    CHECK(tmwatch_record(&recorders[0], 'V', 0, 3, &place) == TMWATCH_OK && place == 11);
     CHECK(tells(close_all(1), 12, TMWATCH_VIOLATED, 12, 0));
 }
 
 static void an_answer_without_its_call_is_malformed(void)
 {
-    tmwatch_told told = untold;
+    tmwatch_result result = untold;
     uint64_t judged = 9;
     open_small(2, 8, 100);
-    CHECK(tmwatch_read(&recorders[1], 0) == TMWATCH_DONE);
-    CHECK(tmwatch_committed(&recorders[0]) == TMWATCH_DONE);
-    CHECK(tmwatch_pump(&watch, 0, &judged) == TMWATCH_DONE && judged == 0);
-    CHECK(tmwatch_pump(&watch, 1, &judged) == TMWATCH_DONE && judged == 1);
-    CHECK(tmwatch_report(&watch, &told) == TMWATCH_DONE && tells(told, 1, TMWATCH_OPAQUE_SO_FAR, 0, 0));
-    CHECK(tmwatch_pump(&watch, UINT64_MAX, &judged) == TMWATCH_DONE && judged == 1);
-    CHECK(tmwatch_report(&watch, &told) == TMWATCH_DONE && tells(told, 2, TMWATCH_MALFORMED, 2, 0));
+    CHECK(tmwatch_read(&recorders[1], 0) == TMWATCH_OK);
+    CHECK(tmwatch_committed(&recorders[0]) == TMWATCH_OK);
+    CHECK(tmwatch_pump(&watch, 0, &judged) == TMWATCH_OK && judged == 0);
+    CHECK(tmwatch_pump(&watch, 1, &judged) == TMWATCH_OK && judged == 1);
+    CHECK(tmwatch_report(&watch, &result) == TMWATCH_OK && tells(result, 1, TMWATCH_OPAQUE_SO_FAR, 0, 0));
+    CHECK(tmwatch_pump(&watch, UINT64_MAX, &judged) == TMWATCH_OK && judged == 1);
+    CHECK(tmwatch_report(&watch, &result) == TMWATCH_OK && tells(result, 2, TMWATCH_MALFORMED, 2, 0));
     CHECK(tells(close_all(2), 2, TMWATCH_MALFORMED, 2, 0));
 }
 
@@ -172,13 +172,13 @@ static void nothing_is_recorded_after_a_close(void)
 /* The watch is not closed with these handles, and all is as it was. */
 static void is_missing(tmwatch_recorder *given, size_t count)
 {
-    tmwatch_told told = untold;
+    tmwatch_result result = untold;
     tmwatch before;
     tmwatch_recorder all[9], others[9];
     memcpy(&before, &watch, sizeof watch);
     memcpy(all, recorders, sizeof all);
     memcpy(others, given, count * sizeof *given);
-    CHECK(tmwatch_close(&watch, given, count, &told) == TMWATCH_MISSING && told_nothing(told));
+    CHECK(tmwatch_close(&watch, given, count, &result) == TMWATCH_MISSING_RECORDER && told_nothing(result));
     CHECK(memcmp(&before, &watch, sizeof watch) == 0 && memcmp(all, recorders, sizeof all) == 0);
     CHECK(memcmp(others, given, count * sizeof *given) == 0);
 }
@@ -208,7 +208,7 @@ static void a_discarded_recorder_is_missing(void)
     tmwatch_discard(&watch);
     CHECK(is_empty(&watch));
     /* A recorder outlives its watch, and records into its ring until that is full. */
-    CHECK(tmwatch_commit(&recorders[0]) == TMWATCH_DONE);
+    CHECK(tmwatch_commit(&recorders[0]) == TMWATCH_OK);
     tmwatch_discard_recorder(&recorders[0]);
     CHECK(are_empty(recorders, 9));
 }
@@ -217,14 +217,14 @@ static void a_ring_that_is_full_refuses_until_it_is_pumped(void)
 {
     uint64_t judged = 9, place = 9;
     open_small(2, 2, 4);
-    CHECK(tmwatch_read(&recorders[0], 0) == TMWATCH_DONE);
+    CHECK(tmwatch_read(&recorders[0], 0) == TMWATCH_OK);
     CHECK(tmwatch_record(&recorders[1], 'R', 0, 0, &place) == TMWATCH_FULL && place == 9);
-    CHECK(tmwatch_pump(&watch, 1, &judged) == TMWATCH_DONE && judged == 1);
-    CHECK(tmwatch_record(&recorders[1], 'R', 0, 0, &place) == TMWATCH_DONE && place == 1);
-    CHECK(tmwatch_pump(&watch, 9, &judged) == TMWATCH_DONE && judged == 1);
-    CHECK(tmwatch_value(&recorders[0], 0) == TMWATCH_DONE);
+    CHECK(tmwatch_pump(&watch, 1, &judged) == TMWATCH_OK && judged == 1);
+    CHECK(tmwatch_record(&recorders[1], 'R', 0, 0, &place) == TMWATCH_OK && place == 1);
+    CHECK(tmwatch_pump(&watch, 9, &judged) == TMWATCH_OK && judged == 1);
+    CHECK(tmwatch_value(&recorders[0], 0) == TMWATCH_OK);
     CHECK(tmwatch_record(&recorders[1], 'V', 0, 0, &place) == TMWATCH_SPENT && place == 1);
-    CHECK(tmwatch_pump(&watch, 9, &judged) == TMWATCH_DONE && judged == 1);
+    CHECK(tmwatch_pump(&watch, 9, &judged) == TMWATCH_OK && judged == 1);
     CHECK(tmwatch_value(&recorders[1], 0) == TMWATCH_SPENT);
     CHECK(tells(close_all(2), 3, TMWATCH_OPAQUE_SO_FAR, 0, 0));
 }
@@ -233,21 +233,21 @@ static void a_ring_that_is_full_refuses_until_it_is_pumped(void)
 static void record_reads(tmwatch_recorder *recorder, int count, bool is_call)
 {
     for (int i = 0; i < count; i++, is_call = !is_call)
-        CHECK((is_call ? tmwatch_read(recorder, 0) : tmwatch_value(recorder, 0)) == TMWATCH_DONE);
+        CHECK((is_call ? tmwatch_read(recorder, 0) : tmwatch_value(recorder, 0)) == TMWATCH_OK);
 }
 
 static void room_for_several_events_is_told(void)
 {
     uint64_t judged = 9;
     open_small(2, 8, 12);
-    CHECK(tmwatch_room(&recorders[0], 0) == TMWATCH_DONE && tmwatch_room(&recorders[0], 7) == TMWATCH_DONE);
+    CHECK(tmwatch_room(&recorders[0], 0) == TMWATCH_OK && tmwatch_room(&recorders[0], 7) == TMWATCH_OK);
     CHECK(tmwatch_room(&recorders[0], 8) == TMWATCH_FULL && tmwatch_room(&recorders[0], 11) == TMWATCH_FULL);
     CHECK(tmwatch_room(&recorders[0], 12) == TMWATCH_SPENT && tmwatch_room(&recorders[0], UINT64_MAX) == TMWATCH_SPENT);
     record_reads(&recorders[0], 3, true);
-    CHECK(tmwatch_room(&recorders[0], 4) == TMWATCH_DONE && tmwatch_room(&recorders[0], 5) == TMWATCH_FULL);
-    CHECK(tmwatch_room(&recorders[1], 4) == TMWATCH_DONE && tmwatch_room(&recorders[1], 5) == TMWATCH_FULL);
-    CHECK(tmwatch_pump(&watch, 9, &judged) == TMWATCH_DONE && judged == 3);
-    CHECK(tmwatch_room(&recorders[0], 7) == TMWATCH_DONE && tmwatch_room(&recorders[0], 8) == TMWATCH_FULL);
+    CHECK(tmwatch_room(&recorders[0], 4) == TMWATCH_OK && tmwatch_room(&recorders[0], 5) == TMWATCH_FULL);
+    CHECK(tmwatch_room(&recorders[1], 4) == TMWATCH_OK && tmwatch_room(&recorders[1], 5) == TMWATCH_FULL);
+    CHECK(tmwatch_pump(&watch, 9, &judged) == TMWATCH_OK && judged == 3);
+    CHECK(tmwatch_room(&recorders[0], 7) == TMWATCH_OK && tmwatch_room(&recorders[0], 8) == TMWATCH_FULL);
     CHECK(tmwatch_room(&recorders[0], 9) == TMWATCH_SPENT);
     record_reads(&recorders[0], 7, false);
     CHECK(tmwatch_room(&recorders[0], 1) == TMWATCH_FULL && tmwatch_read(&recorders[0], 0) == TMWATCH_FULL);
@@ -257,41 +257,41 @@ static void room_for_several_events_is_told(void)
 /* A recorder writes 1 to register 0 and commits. */
 static void record_write(tmwatch_recorder *recorder, uint64_t value)
 {
-    CHECK(tmwatch_write(recorder, 0, value) == TMWATCH_DONE && tmwatch_stored(recorder) == TMWATCH_DONE);
-    CHECK(tmwatch_commit(recorder) == TMWATCH_DONE);
+    CHECK(tmwatch_write(recorder, 0, value) == TMWATCH_OK && tmwatch_written(recorder) == TMWATCH_OK);
+    CHECK(tmwatch_commit(recorder) == TMWATCH_OK);
 }
 
 static void what_passes_a_bound_is_undecided(void)
 {
     tmwatch_settings settings = TMWATCH_SETTINGS(1);
     settings.window = 1;
-    CHECK(tmwatch_open(&watch, recorders, 2, &settings) == TMWATCH_DONE);
+    CHECK(tmwatch_open(&watch, recorders, 2, &settings) == TMWATCH_OK);
     record_write(&recorders[0], 1);
-    CHECK(tmwatch_read(&recorders[1], 0) == TMWATCH_DONE);
+    CHECK(tmwatch_read(&recorders[1], 0) == TMWATCH_OK);
     CHECK(tells(close_all(2), 4, TMWATCH_UNDECIDED, 4, TMWATCH_TRANSACTIONS));
 
     settings.window = 8;
     settings.states = 1;
-    CHECK(tmwatch_open(&watch, recorders, 2, &settings) == TMWATCH_DONE);
+    CHECK(tmwatch_open(&watch, recorders, 2, &settings) == TMWATCH_OK);
     record_write(&recorders[0], 1);
     record_write(&recorders[1], 2);
-    CHECK(tmwatch_committed(&recorders[0]) == TMWATCH_DONE && tmwatch_committed(&recorders[1]) == TMWATCH_DONE);
+    CHECK(tmwatch_committed(&recorders[0]) == TMWATCH_OK && tmwatch_committed(&recorders[1]) == TMWATCH_OK);
     CHECK(tells(close_all(2), 8, TMWATCH_UNDECIDED, 8, TMWATCH_STATES));
 }
 
 /* A recorder is discarded amid a transaction, so that all of the other's begin in the same window: the ninth transaction is one too many. */
 static void a_transaction_that_was_left_keeps_its_window_open(void)
 {
-    tmwatch_told told = untold;
+    tmwatch_result result = untold;
     uint64_t judged = 9;
     open_small(2, 32, 1000);
-    CHECK(tmwatch_read(&recorders[0], 0) == TMWATCH_DONE);
+    CHECK(tmwatch_read(&recorders[0], 0) == TMWATCH_OK);
     tmwatch_discard_recorder(&recorders[0]);
     for (int i = 0; i < 7; i++)
-        CHECK(tmwatch_commit(&recorders[1]) == TMWATCH_DONE && tmwatch_committed(&recorders[1]) == TMWATCH_DONE);
-    CHECK(tmwatch_commit(&recorders[1]) == TMWATCH_DONE);
-    CHECK(tmwatch_pump(&watch, 100, &judged) == TMWATCH_DONE && judged == 16);
-    CHECK(tmwatch_report(&watch, &told) == TMWATCH_DONE && tells(told, 16, TMWATCH_UNDECIDED, 16, TMWATCH_TRANSACTIONS));
+        CHECK(tmwatch_commit(&recorders[1]) == TMWATCH_OK && tmwatch_committed(&recorders[1]) == TMWATCH_OK);
+    CHECK(tmwatch_commit(&recorders[1]) == TMWATCH_OK);
+    CHECK(tmwatch_pump(&watch, 100, &judged) == TMWATCH_OK && judged == 16);
+    CHECK(tmwatch_report(&watch, &result) == TMWATCH_OK && tells(result, 16, TMWATCH_UNDECIDED, 16, TMWATCH_TRANSACTIONS));
     tmwatch_discard(&watch);
     tmwatch_discard_recorder(&recorders[1]);
     CHECK(is_empty(&watch) && are_empty(recorders, 9));
@@ -302,8 +302,8 @@ static void registers_begin_as_the_settings_say(void)
     for (uint64_t value = 6; value < 8; value++) {
         tmwatch_settings settings = TMWATCH_SETTINGS(8);
         settings.start[7] = 7;
-        CHECK(tmwatch_open(&watch, recorders, 1, &settings) == TMWATCH_DONE);
-        CHECK(tmwatch_read(&recorders[0], 7) == TMWATCH_DONE && tmwatch_value(&recorders[0], value) == TMWATCH_DONE);
+        CHECK(tmwatch_open(&watch, recorders, 1, &settings) == TMWATCH_OK);
+        CHECK(tmwatch_read(&recorders[0], 7) == TMWATCH_OK && tmwatch_value(&recorders[0], value) == TMWATCH_OK);
         CHECK(tells(close_all(1), 2, value == 7 ? TMWATCH_OPAQUE_SO_FAR : TMWATCH_VIOLATED, value == 7 ? 0 : 2, 0));
     }
 }

@@ -25,7 +25,7 @@ static _Atomic unsigned ended;
 static void record(unsigned thread, char letter, uint64_t reg, uint64_t value, bool is_alone)
 {
     uint64_t place;
-    CHECK(tmwatch_record(&recorders[thread], (uint32_t)letter, reg, value, &place) == TMWATCH_DONE && place < MOST);
+    CHECK(tmwatch_record(&recorders[thread], (uint32_t)letter, reg, value, &place) == TMWATCH_OK && place < MOST);
     events[place].thread = thread;
     events[place].letter = letter;
     events[place].is_alone = is_alone;
@@ -59,7 +59,7 @@ static bool attempt(unsigned thread, unsigned reg, uint64_t value, bool is_alone
         tmwatch_permits_take(&permits);
     while ((status = tmwatch_room(&recorders[thread], 8 * EVENTS)) == TMWATCH_FULL)
         sched_yield();
-    CHECK(status == TMWATCH_DONE);
+    CHECK(status == TMWATCH_OK);
     bool has_committed = make_calls(&tx, thread, reg, value, is_alone);
     if (!has_committed)
         memory_undo(&tx);
@@ -82,7 +82,7 @@ static void *work(void *recorder)
 static uint64_t pump(void)
 {
     uint64_t judged;
-    CHECK(tmwatch_pump(&watch, 64, &judged) == TMWATCH_DONE);
+    CHECK(tmwatch_pump(&watch, 64, &judged) == TMWATCH_OK);
     return judged;
 }
 
@@ -113,10 +113,10 @@ int main(void)
     pthread_t threads[THREADS];
     tmwatch_settings settings = TMWATCH_SETTINGS(REGISTERS);
     tmwatch_counts counts;
-    tmwatch_told told;
+    tmwatch_result result;
     settings.cells = 64;
     tmwatch_permits_init(&permits);
-    CHECK(tmwatch_open(&watch, recorders, THREADS, &settings) == TMWATCH_DONE);
+    CHECK(tmwatch_open(&watch, recorders, THREADS, &settings) == TMWATCH_OK);
     for (int i = 0; i < THREADS; i++)
         CHECK(pthread_create(&threads[i], NULL, work, &recorders[i]) == 0);
     while (ended < THREADS)
@@ -126,10 +126,10 @@ int main(void)
         CHECK(pthread_join(threads[i], NULL) == 0);
     while (pump() > 0)
         ;
-    CHECK(tmwatch_summary(&watch, &counts) == TMWATCH_DONE);
-    CHECK(tmwatch_close(&watch, recorders, THREADS, &told) == TMWATCH_DONE);
-    CHECK(told.verdict == TMWATCH_OPAQUE_SO_FAR && counts.committed == THREADS * EACH && counts.widest <= 8);
-    check_rule(told.events);
-    printf("%lu attempts, of which up to %lu in a window\n", (unsigned long)counts.transactions, (unsigned long)counts.widest);
+    CHECK(tmwatch_summary(&watch, &counts) == TMWATCH_OK);
+    CHECK(tmwatch_close(&watch, recorders, THREADS, &result) == TMWATCH_OK);
+    CHECK(result.verdict == TMWATCH_OPAQUE_SO_FAR && counts.committed == THREADS * EACH && counts.max_window <= 8);
+    check_rule(result.events);
+    printf("%lu attempts, of which up to %lu in a window\n", (unsigned long)counts.transactions, (unsigned long)counts.max_window);
     return 0;
 }

@@ -17,7 +17,7 @@ static bool is_broken;
 static void record(tmwatch_recorder *recorder, uint32_t letter, uint64_t value)
 {
     uint64_t place;
-    CHECK(tmwatch_record(recorder, letter, 0, value, &place) == TMWATCH_DONE);
+    CHECK(tmwatch_record(recorder, letter, 0, value, &place) == TMWATCH_OK);
 }
 
 /* Takes the lock where there is room for a transaction's events. Only who holds the lock records, so that there is room until it is given
@@ -31,7 +31,7 @@ static void lock_with_room(tmwatch_recorder *recorder)
         sched_yield();
         pthread_mutex_lock(&lock);
     }
-    CHECK(status == TMWATCH_DONE);
+    CHECK(status == TMWATCH_OK);
 }
 
 /* Adds one to the register in a transaction, whose events are recorded while the lock is held. */
@@ -58,46 +58,46 @@ static void *record_run(void *recorder)
 }
 
 /* Judges the events as they come, and tells what was judged. */
-static tmwatch_told pump_all(uint64_t count)
+static tmwatch_result pump_all(uint64_t count)
 {
-    tmwatch_told told;
+    tmwatch_result result;
     do {
         uint64_t judged;
-        CHECK(tmwatch_pump(&watch, 64, &judged) == TMWATCH_DONE);
-        CHECK(tmwatch_report(&watch, &told) == TMWATCH_DONE);
+        CHECK(tmwatch_pump(&watch, 64, &judged) == TMWATCH_OK);
+        CHECK(tmwatch_report(&watch, &result) == TMWATCH_OK);
         if (judged == 0)
             sched_yield();
-    } while (told.events < count);
-    return told;
+    } while (result.events < count);
+    return result;
 }
 
-static tmwatch_told run(bool broken)
+static tmwatch_result run(bool broken)
 {
     const uint64_t count = THREADS * EACH * EVENTS;
     tmwatch_settings settings = TMWATCH_SETTINGS(1);
     pthread_t threads[THREADS];
-    tmwatch_told told, all;
+    tmwatch_result result, all;
     is_broken = broken;
     memory = 0;
     settings.cells = 16;
-    CHECK(tmwatch_open(&watch, recorders, THREADS, &settings) == TMWATCH_DONE);
+    CHECK(tmwatch_open(&watch, recorders, THREADS, &settings) == TMWATCH_OK);
     for (int i = 0; i < THREADS; i++)
         CHECK(pthread_create(&threads[i], NULL, record_run, &recorders[i]) == 0);
-    told = pump_all(count);
+    result = pump_all(count);
     for (int i = 0; i < THREADS; i++)
         CHECK(pthread_join(threads[i], NULL) == 0);
-    CHECK(tmwatch_close(&watch, recorders, THREADS, &all) == TMWATCH_DONE);
+    CHECK(tmwatch_close(&watch, recorders, THREADS, &all) == TMWATCH_OK);
     CHECK(is_empty(&watch) && are_empty(recorders, THREADS));
-    CHECK(told.events == count && memcmp(&told, &all, sizeof told) == 0);
+    CHECK(result.events == count && memcmp(&result, &all, sizeof result) == 0);
     return all;
 }
 
 int main(void)
 {
-    tmwatch_told told = run(false);
-    CHECK(told.verdict == TMWATCH_OPAQUE_SO_FAR && told.at == 0);
-    told = run(true);
+    tmwatch_result result = run(false);
+    CHECK(result.verdict == TMWATCH_OPAQUE_SO_FAR && result.at == 0);
+    result = run(true);
     /* Within the first ten transactions of some thread, and the one behind: at the answer to its read. */
-    CHECK(told.verdict == TMWATCH_VIOLATED && told.at % EVENTS == 2 && told.at <= EVENTS * (THREADS * 10 + 1));
+    CHECK(result.verdict == TMWATCH_VIOLATED && result.at % EVENTS == 2 && result.at <= EVENTS * (THREADS * 10 + 1));
     return 0;
 }

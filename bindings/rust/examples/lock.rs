@@ -2,25 +2,25 @@
 //!
 //!     TMWATCH_LIB=../../built/lib cargo run --release --example lock -- --rounds 20000
 //!
-//! The words, what is printed and the exit status are those of a memory in C: `--help` tells them.
+//! The options, the output and the exit status are those of a memory in C. `--help` lists the options.
 
 use std::sync::{Mutex, MutexGuard};
 use tmwatch::{bench_main, pause, Aborted, Memory};
 
-/// A register under its lock, and what it held before.
+/// A register whose lock is held, and its value before the transaction.
 struct Held<'m> {
     word: MutexGuard<'m, u64>,
     before: u64,
 }
 
-/// The registers that a transaction has used. Their locks are released when it is dropped.
+/// The registers that a transaction used. When it is dropped, their locks are released.
 type Locked<'m> = [Option<Held<'m>>; 8];
 
 #[derive(Default)]
 struct Locks([Mutex<u64>; 8]);
 
 impl Locks {
-    /// Returns the register, under its lock. Rolls back if another transaction holds that.
+    /// Returns the register, and takes its lock if necessary. Rolls back if another transaction holds the lock.
     fn take<'t, 'm>(&'m self, it: &'t mut Locked<'m>, register: usize) -> Result<&'t mut u64, Aborted> {
         if it[register].is_none() {
             let Ok(word) = self.0[register].try_lock() else {

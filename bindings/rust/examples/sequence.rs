@@ -1,8 +1,9 @@
-//! One sequence lock over all words (Boehm, MSPC 2012) on the bench, with the weakest orders that are right.
+//! One sequence lock over all words (Boehm, MSPC 2012) on the bench, with the weakest memory orders that are correct.
 //!
 //!     TMWATCH_LIB=../../built/lib cargo run --release --example sequence --features steps -- --orders c++
 //!
-//! Leave out a fence, or make an order `Relaxed`: the bench finds it, and names the lines. Without the feature, the types are those of `core`.
+//! If you remove a fence, or make an order `Relaxed`, the bench finds a violation and names the lines. Without the feature, the types are
+//! those of `core`.
 
 use tmwatch::sync::atomic::Ordering::{AcqRel, Acquire, Relaxed, Release};
 use tmwatch::sync::atomic::{fence, AtomicU64};

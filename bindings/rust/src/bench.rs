@@ -1,21 +1,22 @@
 //! The bench for a memory in Rust.
 
-use crate::{ffi, Counts, Status, Told};
+use crate::{ffi, Counts, Status, WatchResult};
 use std::ffi::{c_char, c_int, c_uint, c_void, CStr, CString};
 use std::mem::{align_of, size_of, MaybeUninit};
 use std::os::unix::ffi::OsStringExt;
 use std::ptr::{from_ref, null_mut};
 
-/// The transaction has aborted and is rolled back.
+/// The transaction is aborted and rolled back.
 #[derive(Clone, Copy, Debug, PartialEq, Eq)]
 pub struct Aborted;
 
-/// A transactional memory. All threads call it at once, each within a transaction of its own.
+/// A transactional memory. All threads call it at the same time, each within a transaction of its own.
 ///
-/// A call that returns [`Aborted`] has rolled back; the transaction is then dropped. A register is a number below the plan's `registers`.
-/// No call may block forever, or call anything of this package but [`pause`]. One that panics ends the process.
+/// If a call returns [`Aborted`], it has rolled the transaction back, and the transaction is then dropped. A register is a number below the
+/// plan's `registers`. No call may block forever, or use any function of this package except [`pause`] and [`thread`]. If a call panics, the
+/// process ends.
 pub trait Memory: Sync {
-    /// What a thread keeps of its transaction, from `begin` to its end. It may hold a guard of the memory's locks.
+    /// The state of a transaction, from `begin` to its end. It may contain guards of the memory's locks.
     type Transaction<'m>
     where
         Self: 'm;
@@ -23,178 +24,180 @@ pub trait Memory: Sync {
     /// Begins a transaction.
     fn begin(&self) -> Result<Self::Transaction<'_>, Aborted>;
 
-    /// Returns what the register holds.
+    /// Returns the value of the register.
     fn read<'m>(&'m self, transaction: &mut Self::Transaction<'m>, register: usize) -> Result<u64, Aborted>;
 
-    /// Sets the register.
+    /// Sets the register to `value`.
     fn write<'m>(&'m self, transaction: &mut Self::Transaction<'m>, register: usize, value: u64) -> Result<(), Aborted>;
 
-    /// Adds to the register, modulo 2^64, and returns what it held before.
+    /// Adds `addend` to the register, modulo 2^64, and returns the value before.
     fn add<'m>(&'m self, transaction: &mut Self::Transaction<'m>, register: usize, addend: u64) -> Result<u64, Aborted> {
         let before = self.read(transaction, register)?;
         self.write(transaction, register, before.wrapping_add(addend))?;
         Ok(before)
     }
 
-    /// Commits.
+    /// Commits the transaction.
     fn commit<'m>(&'m self, transaction: Self::Transaction<'m>) -> Result<(), Aborted>;
 
-    /// Rolls back, as the transaction has asked.
+    /// Rolls the transaction back, because it requested an abort.
     fn abort<'m>(&'m self, transaction: Self::Transaction<'m>);
 }
 
-/// A number of a plan that is the usual one, or, with [`Schedule::All`], another one in each leg but the first.
-pub const DRAWN: u64 = u64::MAX;
+/// Leaves a number of a plan open: it is then the default, or with [`Schedule::All`] a random one in half of the phases after the first.
+pub const RANDOM: u64 = u64::MAX;
 
-/// How the threads run together.
+/// How the threads are scheduled.
 #[derive(Clone, Copy, Debug, PartialEq, Eq)]
 pub enum Schedule {
-    /// In rounds: each thread makes its share, and waits for all others.
+    /// In rounds: each thread runs its share of transactions, and then waits for all others.
     Rounds = 0,
-    /// Freely, each attempt under one of eight permits.
+    /// Freely, each attempt with one of eight permits.
     Permits = 1,
-    /// In rounds, one thread at a time. At each step the seed says which. A `std::sync::Mutex` is not seen: call [`pause`] in a loop on
-    /// `try_lock`.
+    /// In rounds, one thread at a time, which the seed chooses at each step. The bench does not see a `std::sync::Mutex`, so call [`pause`]
+    /// in a loop with `try_lock`.
     Steps = 2,
-    /// In legs: first by steps, then by each of these in turn.
+    /// In phases: the first ones with `Steps`, later ones with each of these.
     All = 3,
 }
 
-/// How the atomic accesses of a memory are ordered.
+/// The memory model for the atomic accesses of a memory.
 #[derive(Clone, Copy, Debug, PartialEq, Eq)]
 pub enum Orders {
-    /// All in the order of the steps.
+    /// Sequentially consistent, in the order of the steps.
     Sequential = 0,
-    /// Stores are delayed, as in the store buffers of x86.
+    /// With [`Schedule::Steps`]: stores are delayed, as in the store buffers of x86.
     X86 = 1,
-    /// By steps: a load returns what C++20 lets it return. The orders of Rust are the same.
+    /// With [`Schedule::Steps`]: a load may return any value that C++20 allows. Rust's memory model is the same.
     Cxx = 2,
 }
 
-/// What is run. include/tmwatch_bench.h says more of each. The numbers with a usual one in brackets may be [`DRAWN`].
+/// What to run. include/tmwatch_bench.h says more about each field. Numbers with a default in brackets may be [`RANDOM`].
 #[derive(Clone, Copy, Debug, PartialEq, Eq)]
 pub struct Plan {
-    /// How many rounds, at most.
+    /// Maximum number of rounds.
     pub rounds: u64,
-    /// Which transactions and pauses are drawn.
+    /// Seed of the random transactions, pauses and steps.
     pub seed: u64,
-    /// 1 to 8 (4).
+    /// Number of threads: 1 to 8 (4).
     pub threads: u64,
-    /// 1 to 8 (3).
+    /// Number of registers: 1 to 8 (3).
     pub registers: u64,
-    /// How many registers a transaction uses: 1 to 16 (3).
-    pub calls: u64,
-    /// How often a transaction is attempted: `threads * attempts` is at most 8. 0: as often as that allows.
+    /// Number of registers that a transaction uses: 1 to 16 (3).
+    pub accesses: u64,
+    /// Maximum number of attempts of each transaction, where `threads * attempts` is at most 8. 0: as many as that allows.
     ///
-    /// By permits, any number. 0: as often as it takes, so that a transaction which always aborts ends only after `seconds`.
+    /// With [`Schedule::Permits`]: any number. 0: no maximum, so a transaction that always aborts ends only after `seconds`.
     pub attempts: u64,
-    /// Of 100 registers that are read, how many are written then (50).
+    /// Percentage of the registers read that are written afterwards (50).
     pub writes: u64,
-    /// Of 100 calls, how many add (20).
+    /// Percentage of accesses that add instead (20).
     pub adds: u64,
-    /// Of 100 transactions, how many ask to abort at their end (12).
+    /// Percentage of transactions that request an abort at their end (12).
     pub aborts: u64,
-    /// The longest pause beside a call, in turns of a loop, at most 2^20 (100).
+    /// Longest pause before or after a call, in iterations of a loop, at most 2^20 (100).
     pub pause: u64,
-    /// After this time no round begins. 0: the rounds alone count.
+    /// No round begins after this many seconds. 0: no limit of time.
     pub seconds: u64,
-    /// How the threads run together.
+    /// How the threads are scheduled.
     pub schedule: Schedule,
-    /// What the registers hold at first.
+    /// Initial values of the registers.
     pub start: [u64; 8],
-    /// Whether the run's end is returned as a trace.
+    /// Whether the end of the run is returned as a trace.
     pub trace: bool,
-    /// Of 100 rounds, how many mix one long transaction with several short ones (50).
-    pub mixes: u64,
-    /// By steps, the C function `tmwatch_break` is called before this round, for a debugger. 0: never.
+    /// Percentage of rounds that mix one long transaction with several short ones (50).
+    pub mixed_rounds: u64,
+    /// With [`Schedule::Steps`]: the C function `tmwatch_breakpoint` is called before this round, for a debugger. 0: never.
     pub round: u64,
-    /// How atomic accesses are ordered (sequentially), of a memory that uses `tmwatch::sync` with the feature `steps`, or that is compiled
-    /// for libtmwatch_steps.a. `None`: the usual one, or, with [`Schedule::All`], one after another.
+    /// The memory model for atomic accesses (sequential), if the memory uses `tmwatch::sync` with the feature `steps`, or is compiled for
+    /// libtmwatch_steps.a. `None`: the default, or with [`Schedule::All`] each of them in some phases.
     pub orders: Option<Orders>,
     /// Whether plain accesses of such a memory are steps too.
     pub plain: bool,
-    /// Of 100 transactions, how many do nothing but write (10).
-    pub blinds: u64,
-    /// With `round`: `tmwatch_break` is called before this event of the round instead. 0: before the round.
+    /// Percentage of transactions that only write (10).
+    pub blind_writes: u64,
+    /// With `round`: `tmwatch_breakpoint` is called before this event of the round instead. 0: before the round.
     pub event: u64,
-    /// Whether a race on plain data is wrong, as a violation is.
+    /// Whether a data race is wrong, like a violation.
     pub races: bool,
-    /// With `round`: whether all registers are read before it too, so that a trace of it begins there.
-    pub look: bool,
+    /// With `round`: whether an audit, which reads all registers, precedes that round, so that a trace of it begins there.
+    pub audit_first: bool,
 }
 
 impl Default for Plan {
-    /// Returns the plan TMWATCH_PLAN of the header, without a trace.
+    /// Returns TMWATCH_PLAN of the header, without a trace.
     fn default() -> Plan {
         Plan {
             rounds: 100_000,
             seed: 1,
-            threads: DRAWN,
-            registers: DRAWN,
-            calls: DRAWN,
+            threads: RANDOM,
+            registers: RANDOM,
+            accesses: RANDOM,
             attempts: 0,
-            writes: DRAWN,
-            adds: DRAWN,
-            aborts: DRAWN,
-            pause: DRAWN,
+            writes: RANDOM,
+            adds: RANDOM,
+            aborts: RANDOM,
+            pause: RANDOM,
             seconds: 0,
             schedule: Schedule::All,
             start: [0; 8],
             trace: false,
-            mixes: DRAWN,
+            mixed_rounds: RANDOM,
             round: 0,
             orders: None,
             plain: false,
-            blinds: DRAWN,
+            blind_writes: RANDOM,
             event: 0,
             races: false,
-            look: false,
+            audit_first: false,
         }
     }
 }
 
-/// What came out of a bench.
+/// The result of a run.
 #[derive(Clone, Debug, PartialEq, Eq)]
-pub struct Benched {
-    /// The verdict on all that was recorded.
-    pub told: Told,
-    /// What it covers. If `none_overlapped`, no two transactions met, and the run shows nothing.
+pub struct BenchResult {
+    /// The verdict on all recorded events.
+    pub result: WatchResult,
+    /// Their statistics. If `none_overlapped` is true, no two transactions overlapped, so the run tests nothing.
     pub counts: Counts,
-    /// How many rounds were run.
+    /// Number of rounds that were run.
     pub rounds: u64,
-    /// How many events precede the trace.
-    pub from: u64,
-    /// The most commits of other threads within one attempt, at least.
-    pub foreign: u64,
-    /// How many writes and adds were recorded.
+    /// Number of events before the trace.
+    pub skipped: u64,
+    /// Interleaved commits: the most commits of other threads during one attempt, at least.
+    pub max_interleaved_commits: u64,
+    /// Number of recorded writes and adds.
     pub stores: u64,
-    /// By steps: at how many a thread might hand over to another.
+    /// With [`Schedule::Steps`]: number of steps, at which the scheduler could switch.
     pub steps: u64,
-    /// By steps: how many times one did.
-    pub switches: u64,
-    /// By steps: how many times a thread was blocked, so that another went too. If any, the run need not come again.
-    pub rescues: u64,
-    /// The words for [`bench_main`] by which the run's end is made again.
-    pub again: String,
-    /// Whether that is certain, if the memory decides nothing by time, address or chance.
-    pub is_certain: bool,
-    /// By steps: which event of its round the wrong one is, from 1 on; 0 if none is.
+    /// With [`Schedule::Steps`]: number of context switches.
+    pub context_switches: u64,
+    /// With [`Schedule::Steps`]: number of stalls, in which a thread was blocked, so another one ran too. If there are any, the run may not
+    /// be reproducible.
+    pub stalls: u64,
+    /// The reproducer: options for [`bench_main`] that reproduce the end of the run.
+    pub reproducer: String,
+    /// Whether the reproducer is deterministic, unless the memory's behaviour depends on time, addresses or chance.
+    pub is_deterministic: bool,
+    /// With [`Schedule::Steps`]: number of the wrong event within its round, from 1; 0 if no event is wrong.
     pub event: u64,
-    /// By the orders of C++20, lines: which loads of a violated round did not return the newest value, where in the program, and which
-    /// stores they missed; what is not seen.
-    pub shown: String,
-    /// By the orders of C++20, if all that orders threads is seen: the first race on plain data, and where it is; or empty.
+    /// With [`Orders::Cxx`], lines: the loads of a violated round that did not return the newest value, where they are in the program, and
+    /// the stores that they missed; and untracked synchronization.
+    pub stale_loads: String,
+    /// With [`Orders::Cxx`], if no synchronization is untracked: the first data race, and where it is; or empty.
     pub race: String,
-    /// By the orders of C++20, if nothing is wrong: a load that may be delayed past later stores, so that the run would be violated, and
-    /// where it is; or empty.
+    /// With [`Orders::Cxx`], if nothing is wrong: a load that would violate the run if it were delayed past later stores, and where it is;
+    /// or empty.
     pub delayed: String,
-    /// What was met that may order threads and is not seen: 1 stores, 2 locks, 4 waits, 8 blocks, as the header says; or their sum.
-    pub unseen: u64,
-    /// The run's end, for `tmwatch show`, if the plan asked for it.
+    /// Untracked synchronization, which the bench cannot observe: 1 stores, 2 locks, 4 waits, 8 blocks, as the header explains; or their
+    /// sum.
+    pub untracked: u64,
+    /// The end of the run, for `tmwatch show`, if the plan requests a trace.
     pub trace: Option<String>,
 }
 
-/// A thread's bytes at the bench, which are all 0 at first: no transaction is live then.
+/// The bytes that the bench has for a thread. They are initially all 0, which means that no transaction is live.
 struct Slot<T> {
     is_live: bool,
     transaction: MaybeUninit<T>,
@@ -208,18 +211,18 @@ impl<T> Slot<T> {
 
     fn live(&mut self) -> &mut T {
         assert!(self.is_live, "no transaction is live");
-        // SAFETY: `set` has written it, and `take` has not taken it since.
+        // SAFETY: `set` wrote it, and `take` has not moved it out since.
         unsafe { self.transaction.assume_init_mut() }
     }
 
     fn take(&mut self) -> T {
         assert!(self.is_live, "no transaction is live");
         self.is_live = false;
-        // SAFETY: as in `live`; by `is_live` it is taken once.
+        // SAFETY: as in `live`; because of `is_live` it is moved out once.
         unsafe { self.transaction.assume_init_read() }
     }
 
-    /// Drops the transaction if the call has aborted.
+    /// Drops the transaction if the call aborted it.
     fn keep<R>(&mut self, answer: Result<R, Aborted>) -> Option<R> {
         if answer.is_err() {
             drop(self.take());
@@ -230,17 +233,18 @@ impl<T> Slot<T> {
 
 type Live<'m, M> = Slot<<M as Memory>::Transaction<'m>>;
 
-/// Returns the memory and the thread's slot behind the bench's two pointers.
+/// Returns the memory and the thread's slot, to which the bench's two pointers point.
 ///
 /// # Safety
-/// The pointers are those that the bench got from `table::<M>`, and made for it; the memory outlives 'm; no other call has the slot.
+/// The bench got the first pointer from `table::<M>`, and the second points to the slot that it allocated for it; the memory outlives 'm;
+/// no other call has the slot.
 unsafe fn parts<'m, 's, M: Memory>(memory: *mut c_void, slot: *mut c_void) -> (&'m M, &'s mut Live<'m, M>) {
-    // SAFETY: the caller's promise; bytes that are all 0 are a slot.
+    // SAFETY: as the caller promises; bytes that are all 0 are a valid slot.
     unsafe { (&*memory.cast::<M>().cast_const(), &mut *slot.cast::<Live<'m, M>>()) }
 }
 
 unsafe extern "C" fn begin<M: Memory>(memory: *mut c_void, slot: *mut c_void) -> bool {
-    // SAFETY: the bench calls it, and as the header says.
+    // SAFETY: the bench calls this function as the header says.
     let (memory, slot) = unsafe { parts::<M>(memory, slot) };
     memory.begin().map(|transaction| slot.set(transaction)).is_ok()
 }
@@ -249,7 +253,7 @@ unsafe extern "C" fn read<M: Memory>(memory: *mut c_void, slot: *mut c_void, reg
     // SAFETY: as in `begin`.
     let (memory, slot) = unsafe { parts::<M>(memory, slot) };
     let answer = memory.read(slot.live(), register as usize);
-    // SAFETY: the bench's pointer is to a number of its own.
+    // SAFETY: the bench's pointer points to a number of its own.
     slot.keep(answer).map(|read| unsafe { *value = read }).is_some()
 }
 
@@ -303,110 +307,123 @@ struct Stream {
 }
 
 impl Stream {
-    /// Opens it: boxed, since the C library keeps where `bytes` and `size` are.
+    /// Opens a stream. It is boxed because the C library stores the addresses of `bytes` and `size`.
     fn open() -> Result<*mut Stream, Status> {
         let it = Box::into_raw(Box::new(Stream { stream: null_mut(), bytes: null_mut(), size: 0 }));
         // SAFETY: the fields live until `close`, and only the C library writes them.
         unsafe { (*it).stream = ffi::open_memstream(&raw mut (*it).bytes, &raw mut (*it).size) };
         // SAFETY: as above.
         if unsafe { (*it).stream.is_null() } {
-            // SAFETY: it was made by `Box::into_raw`, and nobody else has it.
+            // SAFETY: it comes from `Box::into_raw`, and nothing else refers to it.
             drop(unsafe { Box::from_raw(it) });
-            return Err(Status::Memory);
+            return Err(Status::NoMemory);
         }
         Ok(it)
     }
 
-    /// Closes it, and returns what was written.
+    /// Closes the stream, and returns the text that was written to it.
     ///
     /// # Safety
-    /// `open` has returned `it`, and this is its one close.
+    /// `open` returned `it`, and it is closed only once.
     unsafe fn close(it: *mut Stream) -> Result<String, Status> {
-        // SAFETY: the stream is open, by the caller's promise.
+        // SAFETY: the stream is open, as the caller promises.
         let is_written = unsafe { ffi::ferror((*it).stream) == 0 };
-        // SAFETY: as above; nobody uses it after.
+        // SAFETY: as above; nothing uses it afterwards.
         let is_closed = unsafe { ffi::fclose((*it).stream) == 0 };
-        // SAFETY: the stream is closed, so that nobody else has the box.
+        // SAFETY: the stream is closed, so nothing else refers to the box.
         let it = unsafe { Box::from_raw(it) };
         if it.bytes.is_null() {
-            return Err(Status::Memory);
+            return Err(Status::NoMemory);
         }
-        // SAFETY: the C library has left a text of its own there, with a 0 at its end.
+        // SAFETY: the C library left a text there that it allocated, and that ends with a 0.
         let text = unsafe { CStr::from_ptr(it.bytes) }.to_string_lossy().into_owned();
-        // SAFETY: the bytes are of the C library's malloc, and nothing refers to them any more.
+        // SAFETY: the bytes come from the C library's malloc, and nothing refers to them any more.
         unsafe { ffi::free(it.bytes.cast()) };
         if !is_written || !is_closed {
-            return Err(Status::Memory);
+            return Err(Status::NoMemory);
         }
         Ok(text)
     }
 }
 
-/// Runs the plan's rounds on the memory, and returns what came out; or why it was not run, or not to its end.
+/// Runs the plan on the memory, and returns the result; or the reason why it could not run, or not until the end.
 ///
 /// # Panics
-/// Panics if the memory's transaction is to be aligned to more than 16 bytes.
-pub fn bench<M: Memory>(memory: &M, plan: &Plan) -> Result<Benched, Status> {
-    // SAFETY: the memory is Sync and borrowed meanwhile; its functions take the bench's pointers.
+/// Panics if the memory's transaction needs an alignment of more than 16 bytes.
+pub fn bench<M: Memory>(memory: &M, plan: &Plan) -> Result<BenchResult, Status> {
+    // SAFETY: the memory is Sync and borrowed during the call; its functions expect the pointers that the bench passes.
     unsafe { run_table(&table(memory), plan) }
 }
 
-/// Runs the plan's rounds on the memory of this table.
+/// Runs the plan on the memory of this table.
 ///
 /// # Safety
-/// Its functions may be called by threads of the bench, as the header says, until this returns.
-pub(crate) unsafe fn run_table(table: &ffi::Memory, plan: &Plan) -> Result<Benched, Status> {
+/// Until this returns, threads of the bench may call the functions of the table as the header says.
+pub(crate) unsafe fn run_table(table: &ffi::Memory, plan: &Plan) -> Result<BenchResult, Status> {
     let stream = if plan.trace { Some(Stream::open()?) } else { None };
     // SAFETY: the stream is open.
     let trace = stream.map_or(null_mut(), |it| unsafe { (*it).stream });
-    let mut benched = MaybeUninit::uninit();
-    // SAFETY: all pointers live through the call, which ends its threads; the caller's promise.
-    let status = unsafe { ffi::tmwatch_bench(table, &plan.to_c(trace), benched.as_mut_ptr()) };
-    // SAFETY: it was opened above, and the bench has returned.
+    let mut result = MaybeUninit::uninit();
+    // SAFETY: all pointers are valid during the call, which ends its threads; the rest is as the caller promises.
+    let status = unsafe { ffi::tmwatch_bench(table, &plan.to_c(trace), result.as_mut_ptr()) };
+    // SAFETY: it was opened above, and the bench returned.
     let trace = stream.map(|it| unsafe { Stream::close(it) }).transpose();
     Status::check(status)?;
     // SAFETY: the status says that it was written.
-    let benched: ffi::Benched = unsafe { benched.assume_init() };
-    let again = words_of(&benched.again)?;
-    // SAFETY: the bench has ended these bytes by a 0.
-    let [shown, race, delayed] = unsafe {
-        [benched.shown.as_ptr(), benched.race.as_ptr(), benched.delayed.as_ptr()]
+    let result: ffi::BenchResult = unsafe { result.assume_init() };
+    let reproducer = words_of(&result.reproducer)?;
+    // SAFETY: the bench ends these bytes with a 0.
+    let [stale_loads, race, delayed] = unsafe {
+        [result.stale_loads.as_ptr(), result.race.as_ptr(), result.delayed.as_ptr()]
             .map(|it| CStr::from_ptr(it).to_string_lossy().into_owned())
     };
-    // (there are no words for a start)
-    let is_certain = benched.is_certain && plan.start == [0; 8];
-    let ffi::Benched { told, counts, rounds, from, foreign, stores, steps, switches, rescues, event, unseen, .. } = benched;
-    let (told, trace) = (told.into(), trace?);
-    Ok(Benched {
-        told,
+    // (no option sets initial values)
+    let is_deterministic = result.is_deterministic && plan.start == [0; 8];
+    let ffi::BenchResult {
+        result,
         counts,
         rounds,
-        from,
-        foreign,
+        skipped,
+        max_interleaved_commits,
         stores,
         steps,
-        switches,
-        rescues,
-        again,
-        is_certain,
+        context_switches,
+        stalls,
         event,
-        shown,
+        untracked,
+        ..
+    } = result;
+    let (result, trace) = (result.into(), trace?);
+    Ok(BenchResult {
+        result,
+        counts,
+        rounds,
+        skipped,
+        max_interleaved_commits,
+        stores,
+        steps,
+        context_switches,
+        stalls,
+        reproducer,
+        is_deterministic,
+        event,
+        stale_loads,
         race,
         delayed,
-        unseen,
+        untracked,
         trace,
     })
 }
 
 impl Plan {
     fn to_c(self, trace: *mut c_void) -> ffi::Plan {
-        let Plan { rounds, seed, threads, registers, calls, attempts, writes, adds, aborts, pause, seconds, start, .. } = self;
+        let Plan { rounds, seed, threads, registers, accesses, attempts, writes, adds, aborts, pause, seconds, start, .. } = self;
         ffi::Plan {
             rounds,
             seed,
             threads,
             registers,
-            calls,
+            accesses,
             attempts,
             writes,
             adds,
@@ -416,36 +433,36 @@ impl Plan {
             schedule: self.schedule as u64,
             start,
             trace,
-            mixes: self.mixes,
+            mixed_rounds: self.mixed_rounds,
             round: self.round,
-            orders: self.orders.map_or(DRAWN, |orders| orders as u64),
+            orders: self.orders.map_or(RANDOM, |orders| orders as u64),
             plain: u64::from(self.plain),
-            // A bench that is given up would leave threads behind that use the memory.
-            patience: 0,
+            // No time limit, because a bench that gives up leaves threads that still use the memory.
+            timeout: 0,
             progress: null_mut(),
-            blinds: self.blinds,
+            blind_writes: self.blind_writes,
             event: self.event,
-            legs: null_mut(),
-            listing: null_mut(),
+            phases_file: null_mut(),
+            steps_file: null_mut(),
             races: u64::from(self.races),
             small: 0,
-            goes_on: 0,
+            keep_going: 0,
             crashes: 0,
-            look: u64::from(self.look),
+            audit_first: u64::from(self.audit_first),
         }
     }
 }
 
-/// Returns the words of a plan.
+/// Returns a plan as options.
 fn words_of(plan: &ffi::Plan) -> Result<String, Status> {
     let stream = Stream::open()?;
     // SAFETY: the stream is open.
-    unsafe { ffi::tmwatch_bench_words((*stream).stream, plan) };
+    unsafe { ffi::tmwatch_bench_print_options((*stream).stream, plan) };
     // SAFETY: it was opened above.
     unsafe { Stream::close(stream) }
 }
 
-/// Runs the bench by the program's words, as a memory in C does, prints what came out, and ends the program.
+/// Runs the bench with the options of the command line, like a program in C, prints the result, and ends the program.
 ///
 /// # Panics
 /// Panics as [`bench()`] does.
@@ -454,7 +471,7 @@ pub fn bench_main<M: Memory>(memory: &M) -> ! {
     unsafe { main_of_table(&table(memory)) }
 }
 
-/// Runs the bench on the memory of this table, by the program's words.
+/// Runs the bench on the memory of this table, with the options of the command line.
 ///
 /// # Safety
 /// As `run_table`, until the process ends.
@@ -463,18 +480,18 @@ pub(crate) unsafe fn main_of_table(table: &ffi::Memory) -> ! {
     let mut pointers: Vec<*mut c_char> = words.iter().map(|word| word.as_ptr().cast_mut()).collect();
     let count = c_int::try_from(pointers.len()).unwrap_or(c_int::MAX);
     pointers.push(null_mut());
-    // SAFETY: the words live through the call, which only reads them; the caller's promise.
+    // SAFETY: the arguments are valid during the call, which only reads them; the rest is as the caller promises.
     std::process::exit(unsafe { ffi::tmwatch_bench_main(table, count, pointers.as_mut_ptr()) })
 }
 
-/// Stands in a memory between two of its own steps, where threads are to meet: waits as beside a call, in a thread of a bench, and else not
-/// at all.
+/// A step: call it in the memory wherever other threads may run between two of its steps. In a thread of a bench, it pauses as before and
+/// after a call, and the scheduler may switch to another thread. In any other thread it does nothing.
 pub fn pause() {
-    // SAFETY: it takes nothing, and any thread may call it.
+    // SAFETY: it has no arguments, and any thread may call it.
     unsafe { ffi::tmwatch_pause() }
 }
 
-/// Returns the number of this thread among those of its bench, from 0 on; 0 in any other thread.
+/// Returns the number of this thread among those of its bench, from 0; 0 in any other thread.
 pub fn thread() -> usize {
     // SAFETY: as in `pause`.
     unsafe { ffi::tmwatch_thread() as usize }
@@ -523,7 +540,7 @@ mod tests {
             }
         };
         assert_eq!(written(false, true), Ok("opacity".into()));
-        assert_eq!(written(true, true), Err(Status::Memory));
-        assert_eq!(written(true, false), Err(Status::Memory));
+        assert_eq!(written(true, true), Err(Status::NoMemory));
+        assert_eq!(written(true, false), Err(Status::NoMemory));
     }
 }

@@ -1,10 +1,10 @@
-//! What include/tmwatch.h and include/tmwatch_bench.h declare. The test below holds each layout against these headers.
+//! The declarations of include/tmwatch.h and include/tmwatch_bench.h. The test below compares each layout with these headers.
 
 use crate::{Counts, Settings};
 use std::ffi::{c_char, c_int, c_uint, c_void};
 use std::ptr::null_mut;
 
-/// A `tmwatch`. Only the library looks into it.
+/// A `tmwatch`. Only the library accesses its fields.
 #[repr(C)]
 pub struct Watch {
     at: *mut c_void,
@@ -15,7 +15,7 @@ impl Watch {
     pub const EMPTY: Watch = Watch { at: null_mut(), full: false };
 }
 
-/// A `tmwatch_recorder`. Only the library looks into it.
+/// A `tmwatch_recorder`. Only the library accesses its fields.
 #[repr(C)]
 pub struct Recorder {
     at: *mut c_void,
@@ -29,7 +29,7 @@ impl Recorder {
 
 #[repr(C)]
 #[derive(Clone, Copy, Default)]
-pub struct Told {
+pub struct WatchResult {
     pub events: u64,
     pub at: u64,
     pub verdict: u32,
@@ -55,7 +55,7 @@ pub struct Plan {
     pub seed: u64,
     pub threads: u64,
     pub registers: u64,
-    pub calls: u64,
+    pub accesses: u64,
     pub attempts: u64,
     pub writes: u64,
     pub adds: u64,
@@ -65,49 +65,49 @@ pub struct Plan {
     pub schedule: u64,
     pub start: [u64; 8],
     pub trace: *mut c_void,
-    pub mixes: u64,
+    pub mixed_rounds: u64,
     pub round: u64,
     pub orders: u64,
     pub plain: u64,
-    pub patience: u64,
+    pub timeout: u64,
     pub progress: *mut c_void,
-    pub blinds: u64,
+    pub blind_writes: u64,
     pub event: u64,
-    pub legs: *mut c_void,
-    pub listing: *mut c_void,
+    pub phases_file: *mut c_void,
+    pub steps_file: *mut c_void,
     pub races: u64,
     pub small: u64,
-    pub goes_on: u64,
+    pub keep_going: u64,
     pub crashes: u64,
-    pub look: u64,
+    pub audit_first: u64,
 }
 
-/// How many bytes tell what the orders of C++20 have shown, and a race or a delayed load.
-pub const MOST_SHOWN: usize = 4096;
-pub const MOST_RACE: usize = 1024;
+/// Sizes in bytes of the texts in `BenchResult`.
+pub const MAX_STALE_LOADS: usize = 4096;
+pub const MAX_RACE: usize = 1024;
 
 #[repr(C)]
-pub struct Benched {
-    pub told: Told,
+pub struct BenchResult {
+    pub result: WatchResult,
     pub counts: Counts,
     pub rounds: u64,
-    pub from: u64,
-    pub foreign: u64,
+    pub skipped: u64,
+    pub max_interleaved_commits: u64,
     pub stores: u64,
     pub steps: u64,
-    pub switches: u64,
-    pub rescues: u64,
+    pub context_switches: u64,
+    pub stalls: u64,
     pub waits: u64,
     pub crashes: u64,
-    pub again: Plan,
-    pub is_certain: bool,
+    pub reproducer: Plan,
+    pub is_deterministic: bool,
     pub event: u64,
-    pub rejected: u64,
-    pub leg: Plan,
-    pub unseen: u64,
-    pub race: [c_char; MOST_RACE],
-    pub shown: [c_char; MOST_SHOWN],
-    pub delayed: [c_char; MOST_RACE],
+    pub solo_rollbacks: u64,
+    pub phase: Plan,
+    pub untracked: u64,
+    pub race: [c_char; MAX_RACE],
+    pub stale_loads: [c_char; MAX_STALE_LOADS],
+    pub delayed: [c_char; MAX_RACE],
 }
 
 extern "C" {
@@ -115,19 +115,19 @@ extern "C" {
     pub fn tmwatch_record(recorder: *mut Recorder, letter: u32, register: u64, value: u64, place: *mut u64) -> u32;
     pub fn tmwatch_room(recorder: *mut Recorder, events: u64) -> u32;
     pub fn tmwatch_pump(watch: *mut Watch, most: u64, judged: *mut u64) -> u32;
-    pub fn tmwatch_report(watch: *mut Watch, told: *mut Told) -> u32;
+    pub fn tmwatch_report(watch: *mut Watch, result: *mut WatchResult) -> u32;
     pub fn tmwatch_summary(watch: *mut Watch, counts: *mut Counts) -> u32;
-    pub fn tmwatch_close(watch: *mut Watch, recorders: *mut Recorder, count: usize, told: *mut Told) -> u32;
+    pub fn tmwatch_close(watch: *mut Watch, recorders: *mut Recorder, count: usize, result: *mut WatchResult) -> u32;
     pub fn tmwatch_discard(watch: *mut Watch);
     pub fn tmwatch_discard_recorder(recorder: *mut Recorder);
-    pub fn tmwatch_bench(memory: *const Memory, plan: *const Plan, benched: *mut Benched) -> u32;
-    pub fn tmwatch_begins(attempt: *mut c_void) -> bool;
-    pub fn tmwatch_calls(attempt: *mut c_void) -> bool;
-    pub fn tmwatch_bench_words(file: *mut c_void, plan: *const Plan);
+    pub fn tmwatch_bench(memory: *const Memory, plan: *const Plan, result: *mut BenchResult) -> u32;
+    pub fn tmwatch_begin_attempt(attempt: *mut c_void) -> bool;
+    pub fn tmwatch_run_body(attempt: *mut c_void) -> bool;
+    pub fn tmwatch_bench_print_options(file: *mut c_void, plan: *const Plan);
     pub fn tmwatch_bench_main(memory: *const Memory, count: c_int, words: *mut *mut c_char) -> c_int;
     pub fn tmwatch_pause();
     pub fn tmwatch_thread() -> c_uint;
-    // The C library's: a stream that writes into memory.
+    // Functions of the C library for a stream that writes into memory.
     pub fn open_memstream(bytes: *mut *mut c_char, size: *mut usize) -> *mut c_void;
     pub fn ferror(stream: *mut c_void) -> c_int;
     pub fn fclose(stream: *mut c_void) -> c_int;
@@ -142,7 +142,7 @@ mod tests {
     use std::mem::{offset_of, size_of};
     use std::process::Command;
 
-    /// Adds a check of the type's size and of each field's offset and size, as the compiler of C has to find them.
+    /// Adds a check that the type's size, and each field's offset and size, are the same in C.
     macro_rules! layout {
         ($to:ident, $rust:ty, $c:literal, $($field:ident)*) => {
             writeln!($to, "_Static_assert(sizeof({}) == {}, \"{0}\");", $c, size_of::<$rust>()).unwrap();
@@ -164,24 +164,25 @@ mod tests {
         layout!(to, Watch, "tmwatch", at full);
         layout!(to, Recorder, "tmwatch_recorder", at full number);
         layout!(to, Settings, "tmwatch_settings", registers start window states cells limit);
-        layout!(to, Told, "tmwatch_told", events at verdict why);
-        layout!(to, Counts, "tmwatch_counts", aborted committed cuts live overlapping transactions unasked widest none_overlapped);
+        layout!(to, WatchResult, "tmwatch_result", events at verdict why);
+        layout!(to, Counts, "tmwatch_counts", aborted committed cuts live concurrent transactions forced_aborts max_window none_overlapped);
         layout!(to, Memory, "tmwatch_memory", memory tx_size begin read write add commit abort run);
         layout!(
-            to, Plan, "tmwatch_plan", rounds seed threads registers calls attempts writes adds aborts pause seconds schedule start trace
-            mixes round orders plain patience progress blinds event legs listing races small goes_on crashes look
+            to, Plan, "tmwatch_plan", rounds seed threads registers accesses attempts writes adds aborts pause seconds schedule start trace
+            mixed_rounds round orders plain timeout progress blind_writes event phases_file steps_file races small keep_going crashes audit_first
         );
         layout!(
-            to, Benched, "tmwatch_benched", told counts rounds from foreign stores steps switches rescues waits crashes again is_certain event
-            rejected leg unseen race shown delayed
+            to, BenchResult, "tmwatch_bench_result", result counts rounds skipped max_interleaved_commits stores steps context_switches stalls waits crashes reproducer is_deterministic event
+            solo_rollbacks phase untracked race stale_loads delayed
         );
         to
     }
 
     /// Adds a check of each status's number.
     fn statuses(to: &mut String) {
-        let names = "NO_HANDLE FULL_HANDLE BAD_REGISTERS BAD_START BAD_BOUNDS BAD_SIZE BAD_LIMIT MEMORY FULL SPENT BAD_KIND BAD_REGISTER \
-                     MISSING CLOSING OUT_OF_TURN NOT_CALL MISFIT";
+        let names =
+            "NO_HANDLE HANDLE_IN_USE BAD_REGISTERS BAD_START BAD_BOUNDS BAD_SIZE BAD_LIMIT NO_MEMORY FULL SPENT BAD_KIND BAD_REGISTER \
+                     MISSING_RECORDER CLOSING WRONG_PHASE NOT_A_CALL WRONG_ANSWER";
         for (name, number) in names.split(' ').zip(1..).chain([("NO_PROGRESS", Status::NoProgress as u32)]) {
             let status = Status::check(number).unwrap_err();
             assert_eq!(status as u32, number);
@@ -190,7 +191,7 @@ mod tests {
         }
     }
 
-    /// Adds a function that returns 0 if the headers' default settings and plan are those of Rust.
+    /// Adds statements that return 1 unless the headers' default settings and plan are those of Rust.
     fn defaults(to: &mut String) {
         let (plan, settings) = (crate::Plan::default(), Settings::new(3));
         let mut same = |it: &str, number: u64| writeln!(to, "    if ({it} != {number}u) return 1;").unwrap();
@@ -199,7 +200,7 @@ mod tests {
             ("seed", plan.seed),
             ("threads", plan.threads),
             ("registers", plan.registers),
-            ("calls", plan.calls),
+            ("accesses", plan.accesses),
             ("attempts", plan.attempts),
             ("writes", plan.writes),
             ("adds", plan.adds),
@@ -207,14 +208,14 @@ mod tests {
             ("pause", plan.pause),
             ("seconds", plan.seconds),
             ("schedule", plan.schedule as u64),
-            ("mixes", plan.mixes),
+            ("mixed_rounds", plan.mixed_rounds),
             ("round", plan.round),
-            ("orders", plan.orders.map_or(crate::DRAWN, |orders| orders as u64)),
+            ("orders", plan.orders.map_or(crate::RANDOM, |orders| orders as u64)),
             ("plain", u64::from(plan.plain)),
-            ("blinds", plan.blinds),
+            ("blind_writes", plan.blind_writes),
             ("event", plan.event),
             ("races", u64::from(plan.races)),
-            ("look", u64::from(plan.look)),
+            ("audit_first", u64::from(plan.audit_first)),
         ] {
             same(&format!("plan.{name}"), number);
         }

@@ -1,20 +1,20 @@
-//! The bench for a memory in Rust that itself attempts a transaction again.
+//! The bench for a memory in Rust that retries transactions itself.
 
 use crate::bench::{main_of_table, run_table};
-use crate::{ffi, Aborted, Benched, Plan, Status};
+use crate::{ffi, Aborted, BenchResult, Plan, Status};
 use std::cell::Cell;
 use std::ffi::{c_uint, c_void};
 use std::marker::PhantomData;
 use std::mem::size_of;
 use std::ptr::{from_mut, from_ref, null_mut};
 
-/// A transactional memory that itself attempts a transaction again, such as one with `atomically(|transaction| ..)`. All threads call it at
-/// once.
+/// A transactional memory that retries transactions itself, for example in `atomically(|transaction| ..)`. All threads call it at the same
+/// time.
 ///
-/// A register is a number below the plan's `registers`. No call may block forever, or call anything of this package but
-/// [`pause`](crate::pause()) and what it gets. One that panics ends the process.
+/// A register is a number below the plan's `registers`. No call may block forever, or use any function of this package except
+/// [`pause`](crate::pause()), [`thread`](crate::thread()) and those of the attempt that it gets. If a call panics, the process ends.
 ///
-/// [`bench_retrying`] runs it. In `run`, whatever loops is the memory's own:
+/// [`bench_retrying`] runs it. In this example, the loop that retries is in the memory's own `atomically`:
 ///
 /// ```
 /// use std::sync::{Mutex, MutexGuard};
@@ -40,7 +40,7 @@ use std::ptr::{from_mut, from_ref, null_mut};
 ///     type Transaction<'t> = MutexGuard<'t, [u64; 8]>;
 ///
 ///     fn run(&self, attempt: &Attempt<'_, Self>) -> bool {
-///         self.atomically(|| attempt.begins(), |words| attempt.calls(words))
+///         self.atomically(|| attempt.begin(), |words| attempt.run_body(words))
 ///     }
 ///
 ///     fn read(&self, words: &mut MutexGuard<'_, [u64; 8]>, register: usize) -> Result<u64, Aborted> {
@@ -53,31 +53,32 @@ use std::ptr::{from_mut, from_ref, null_mut};
 ///     }
 /// }
 ///
-/// let benched = bench_retrying(&OneLock(Mutex::new([0; 8])), &Plan { rounds: 100, ..Plan::default() })?;
-/// assert_eq!(benched.told.verdict, Verdict::OpaqueSoFar);
+/// let result = bench_retrying(&OneLock(Mutex::new([0; 8])), &Plan { rounds: 100, ..Plan::default() })?;
+/// assert_eq!(result.result.verdict, Verdict::OpaqueSoFar);
 /// # Ok::<(), tmwatch::Status>(())
 /// ```
 pub trait RetryingMemory: Sync {
-    /// What an attempt's body gets, and passes to [`Attempt::calls`].
+    /// The state of an attempt, which the body of a transaction gets and passes to [`Attempt::run_body`].
     type Transaction<'t>
     where
         Self: 't;
 
-    /// Makes a transaction, in one attempt or several, and returns whether it has committed.
+    /// Runs a transaction, in one or several attempts, and returns whether it committed.
     ///
-    /// Before each attempt, ask [`Attempt::begins`]: before the memory begins it, and after the one before is rolled back. If it returns
-    /// false, begin none and return false. In the attempt call [`Attempt::calls`], once: if it returns true, commit, and else roll back.
+    /// Call [`Attempt::begin`] before the memory begins an attempt, and after the previous attempt is rolled back. If it returns false,
+    /// begin no attempt, and return false. Within the attempt, call [`Attempt::run_body`] once. If it returns true, commit; otherwise roll
+    /// back.
     ///
-    /// If the memory's own loop can't ask before it begins an attempt, have it attempt once, and loop here.
+    /// If the memory's own loop cannot make that call before it begins an attempt, let it make one attempt only, and loop here.
     fn run(&self, attempt: &Attempt<'_, Self>) -> bool;
 
-    /// Returns what the register holds. After [`Aborted`], no other call of the attempt follows.
+    /// Returns the value of the register. After [`Aborted`], no other call of the attempt follows.
     fn read<'t>(&self, transaction: &mut Self::Transaction<'t>, register: usize) -> Result<u64, Aborted>;
 
-    /// Sets the register. After [`Aborted`], no other call of the attempt follows.
+    /// Sets the register to `value`. After [`Aborted`], no other call of the attempt follows.
     fn write<'t>(&self, transaction: &mut Self::Transaction<'t>, register: usize, value: u64) -> Result<(), Aborted>;
 
-    /// Adds to the register, modulo 2^64, and returns what it held before.
+    /// Adds `addend` to the register, modulo 2^64, and returns the value before.
     fn add<'t>(&self, transaction: &mut Self::Transaction<'t>, register: usize, addend: u64) -> Result<u64, Aborted> {
         let before = self.read(transaction, register)?;
         self.write(transaction, register, before.wrapping_add(addend))?;
@@ -85,50 +86,53 @@ pub trait RetryingMemory: Sync {
     }
 }
 
-/// The transaction that [`RetryingMemory::run`] makes. It stays in that call and its thread:
+/// The transaction that [`RetryingMemory::run`] executes. It cannot leave that call or its thread:
 ///
 /// ```compile_fail,E0277
 /// fn elsewhere<M: tmwatch::RetryingMemory>(attempt: &tmwatch::Attempt<'_, M>) {
-///     std::thread::scope(|scope| scope.spawn(|| attempt.begins()).join().unwrap());
+///     std::thread::scope(|scope| scope.spawn(|| attempt.begin()).join().unwrap());
 /// }
 /// ```
 pub struct Attempt<'a, M: RetryingMemory + ?Sized> {
-    /// The bench's.
+    /// The bench's pointer.
     attempt: *mut c_void,
-    /// The memory's transaction, within `calls`, and else null.
+    /// The memory's transaction within `run_body`, otherwise null.
     transaction: &'a Cell<*mut c_void>,
-    /// The memory's type and no other, not even by a lifetime: `calls` takes its transactions. The attempt is neither `Send` nor `Sync`.
+    /// The memory's type, and no other one, not even with another lifetime, because `run_body` accesses its transactions. Makes the attempt
+    /// neither `Send` nor `Sync`.
     memory: PhantomData<*mut M>,
 }
 
 impl<M: RetryingMemory + ?Sized> Attempt<'_, M> {
-    /// Returns whether the memory is to begin an attempt, and records that the one before, if any, has aborted.
+    /// Returns whether the memory should begin an attempt. Records the abort of the previous attempt, if there was one.
     ///
-    /// By permits it may wait until other threads' attempts have ended: hold no lock that they may wait for.
+    /// With [`Schedule::Permits`](crate::Schedule::Permits), it may wait until attempts of other threads have ended, so hold no lock that
+    /// they may wait for.
     ///
     /// # Panics
-    /// Panics within `calls`.
-    pub fn begins(&self) -> bool {
+    /// Panics within `run_body`.
+    pub fn begin(&self) -> bool {
         self.expect_outside();
-        // SAFETY: the bench's pointer is good until `run` returns, and only this thread has it.
-        unsafe { ffi::tmwatch_begins(self.attempt) }
+        // SAFETY: the bench's pointer is valid until `run` returns, and only this thread has it.
+        unsafe { ffi::tmwatch_begin_attempt(self.attempt) }
     }
 
-    /// Makes the attempt's calls, by the memory's `read`, `write` and `add`, and returns whether to commit it.
+    /// Calls the memory's `read`, `write` and `add` for this attempt, and returns whether to commit it.
     ///
-    /// It is to be rolled back if one of them has aborted, or if the transaction asks to abort. `begins` then returns whether another
-    /// attempt follows.
+    /// If it returns false, one of them returned [`Aborted`], or the transaction requests an abort, so roll the attempt back. `begin` then
+    /// returns whether another attempt follows.
     ///
     /// # Panics
-    /// Panics within `calls`.
-    pub fn calls<'t>(&self, transaction: &mut M::Transaction<'t>) -> bool
+    /// Panics within `run_body`.
+    pub fn run_body<'t>(&self, transaction: &mut M::Transaction<'t>) -> bool
     where
         M: 't,
     {
         self.expect_outside();
         self.transaction.set(from_mut(transaction).cast());
-        // SAFETY: as in `begins`. The calls use the transaction until this returns, while it is borrowed; no panic leaves them.
-        let commits = unsafe { ffi::tmwatch_calls(self.attempt) };
+        // SAFETY: as in `begin`. The calls use the transaction only until this returns, and it is borrowed until then; no panic leaves
+        // them.
+        let commits = unsafe { ffi::tmwatch_run_body(self.attempt) };
         self.transaction.set(null_mut());
         commits
     }
@@ -138,20 +142,20 @@ impl<M: RetryingMemory + ?Sized> Attempt<'_, M> {
     }
 }
 
-/// Returns the memory and its transaction behind the bench's two pointers.
+/// Returns the memory and its transaction, to which the bench's two pointers point.
 ///
 /// # Safety
-/// The bench calls, within `Attempt::calls`, with the pointers that it got from `bench_retrying::<M>`, and made for it; no other call has
-/// the transaction.
+/// The bench calls within `Attempt::run_body`. It got the first pointer from `bench_retrying::<M>`, and the second points to the slot that it
+/// allocated for it; no other call has the transaction.
 unsafe fn parts<'t, 's, M: RetryingMemory + 't>(memory: *mut c_void, slot: *mut c_void) -> (&'s M, &'s mut M::Transaction<'t>) {
-    // SAFETY: the caller's promise. The transaction's own lifetime isn't known here: what uses it is right for each.
+    // SAFETY: as the caller promises. The lifetime of the transaction is unknown here, but the code that uses it is right for any lifetime.
     unsafe { (&*memory.cast::<M>().cast_const(), &mut *(*slot.cast::<Cell<*mut c_void>>()).get().cast()) }
 }
 
 unsafe extern "C" fn read<M: RetryingMemory>(memory: *mut c_void, slot: *mut c_void, register: c_uint, value: *mut u64) -> bool {
-    // SAFETY: the bench calls it, and as the header says.
+    // SAFETY: the bench calls this function as the header says.
     let (memory, transaction) = unsafe { parts::<M>(memory, slot) };
-    // SAFETY: the bench's pointer is to a number of its own.
+    // SAFETY: the bench's pointer points to a number of its own.
     memory.read(transaction, register as usize).map(|read| unsafe { *value = read }).is_ok()
 }
 
@@ -175,8 +179,8 @@ unsafe extern "C" fn add<M: RetryingMemory>(
 }
 
 unsafe extern "C" fn run<M: RetryingMemory>(memory: *mut c_void, slot: *mut c_void, attempt: *mut c_void) -> bool {
-    // SAFETY: the bench calls it with what it got from `bench_retrying::<M>`, and a slot of this thread's, whose bytes are all 0 at first:
-    // null.
+    // SAFETY: the bench passes the pointer that it got from `bench_retrying::<M>`, and a slot of this thread, whose bytes are initially all
+    // 0, which is null.
     let (memory, transaction) = unsafe { (&*memory.cast::<M>().cast_const(), &*slot.cast::<Cell<*mut c_void>>()) };
     memory.run(&Attempt { attempt, transaction, memory: PhantomData })
 }
@@ -195,15 +199,16 @@ fn table<M: RetryingMemory>(memory: &M) -> ffi::Memory {
     }
 }
 
-/// Runs the plan's rounds on a memory that itself attempts again, as [`bench`](crate::bench()) does on one that doesn't.
+/// Runs the plan on a memory that retries transactions itself, like [`bench`](crate::bench()) on other memories.
 ///
-/// If the memory's `run` is wrong, it may return [`Status::Misfit`] or [`Status::OutOfTurn`].
-pub fn bench_retrying<M: RetryingMemory>(memory: &M, plan: &Plan) -> Result<Benched, Status> {
-    // SAFETY: the memory is Sync and borrowed meanwhile; its functions take the bench's pointers.
+/// May also return [`Status::WrongAnswer`] or [`Status::WrongPhase`], if the memory's `run` is wrong.
+pub fn bench_retrying<M: RetryingMemory>(memory: &M, plan: &Plan) -> Result<BenchResult, Status> {
+    // SAFETY: the memory is Sync and borrowed during the call; its functions expect the pointers that the bench passes.
     unsafe { run_table(&table(memory), plan) }
 }
 
-/// Runs the bench by the program's words, as [`bench_main`](crate::bench_main) does, on a memory that itself attempts again.
+/// Runs the bench with the options of the command line, like [`bench_main`](crate::bench_main), on a memory that retries transactions
+/// itself.
 pub fn bench_retrying_main<M: RetryingMemory>(memory: &M) -> ! {
     // SAFETY: as in `bench_retrying`; the process ends before the memory does.
     unsafe { main_of_table(&table(memory)) }

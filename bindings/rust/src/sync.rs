@@ -1,10 +1,10 @@
-//! Atomic types, fences and a mutex for a memory under test: use them in place of those of `core` and `std`.
+//! Atomic types, fences and a mutex for a memory under test. Use them instead of those of `core` and `std`.
 //!
-//! With the feature `steps`, each access is a step of the bench, and `--orders c++` gives it the orders of C++20, which are those of Rust;
-//! no nightly compiler is needed. Without the feature they are the ones of `core` and `std`.
+//! With the feature `steps`, each access is a step of the bench, and `--orders c++` simulates the C++20 memory model, which is also Rust's.
+//! This needs no nightly compiler. Without the feature, they are the types of `core` and `std`.
 //!
-//! Plain data isn't seen, nor what other types order, as `std::sync::Mutex`, `Arc` and channels do: a correct memory that relies on these may
-//! come out violated by `--orders c++`.
+//! The bench does not see plain data, nor the synchronization of other types, such as `std::sync::Mutex`, `Arc` and channels. A correct
+//! memory that relies on these may therefore come out violated with `--orders c++`.
 
 pub mod atomic;
 

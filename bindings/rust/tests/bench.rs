@@ -1,10 +1,10 @@
-//! A right memory and a broken one on the bench.
+//! A correct memory and a broken one on the bench.
 
 use std::sync::atomic::{AtomicBool, AtomicI64, AtomicU64, Ordering::SeqCst};
 use std::sync::{Mutex, MutexGuard};
 use tmwatch::{bench, pause, thread, Aborted, Memory, Orders, Plan, Schedule, Status, Verdict};
 
-/// How many transactions were made and not yet dropped.
+/// Number of transactions that were created and not yet dropped.
 static LIVE: AtomicI64 = AtomicI64::new(0);
 
 /// One lock, which a transaction holds from its beginning to its end.
@@ -14,7 +14,7 @@ struct OneLock {
     refuses: AtomicBool,
 }
 
-/// The words, and as they were before.
+/// The words, and their values before the transaction.
 struct Locked<'m> {
     words: MutexGuard<'m, [u64; 8]>,
     before: [u64; 8],
@@ -72,7 +72,7 @@ impl Memory for OneLock {
     }
 }
 
-/// No lock at all, and no roll-back.
+/// No lock at all, and no rollback.
 #[derive(Default)]
 struct Racing([AtomicU64; 8]);
 
@@ -108,13 +108,13 @@ fn one_lock_is_opaque_so_far() {
     for seed in 1..4 {
         let start = *memory.words.lock().unwrap();
         let plan = Plan { rounds: 2000, registers: 3, seed, schedule: Schedule::Rounds, start, trace: true, ..Plan::default() };
-        let benched = bench(&memory, &plan).unwrap();
-        assert_eq!(benched.told.verdict, Verdict::OpaqueSoFar);
-        assert_eq!(benched.rounds, 2000);
-        let trace = benched.trace.unwrap();
+        let result = bench(&memory, &plan).unwrap();
+        assert_eq!(result.result.verdict, Verdict::OpaqueSoFar);
+        assert_eq!(result.rounds, 2000);
+        let trace = result.trace.unwrap();
         assert!([" R ", " W ", " N ", " X\n", " A\n"].iter().all(|event| trace.contains(event)));
-        assert!(benched.counts.committed > 1000 && benched.counts.unasked > 100, "{:?}", benched.counts);
-        assert!(benched.counts.overlapping > 100 && !benched.counts.none_overlapped, "{:?}", benched.counts);
+        assert!(result.counts.committed > 1000 && result.counts.forced_aborts > 100, "{:?}", result.counts);
+        assert!(result.counts.concurrent > 100 && !result.counts.none_overlapped, "{:?}", result.counts);
         assert_eq!(LIVE.load(SeqCst), 0);
     }
 }
@@ -123,15 +123,15 @@ fn one_lock_is_opaque_so_far() {
 fn a_memory_without_a_lock_is_violated() {
     for seed in 1..4 {
         let plan = Plan { seed, registers: 3, trace: true, ..Plan::default() };
-        let benched = bench(&Racing::default(), &plan).unwrap();
-        let Verdict::Violated { at } = benched.told.verdict else { panic!("{:?}", benched.told) };
-        let trace = benched.trace.unwrap();
+        let result = bench(&Racing::default(), &plan).unwrap();
+        let Verdict::Violated { at } = result.result.verdict else { panic!("{:?}", result.result) };
+        let trace = result.trace.unwrap();
         assert!(trace.starts_with("opacity-trace 2 3 "));
-        assert_eq!(trace.lines().count() as u64, 1 + at - benched.from);
+        assert_eq!(trace.lines().count() as u64, 1 + at - result.skipped);
     }
 }
 
-/// A memory of which each call panics.
+/// A memory in which each call panics.
 struct Panicking;
 
 impl Memory for Panicking {
@@ -156,7 +156,7 @@ impl Memory for Panicking {
     fn abort(&self, _: ()) {}
 }
 
-/// Runs this test again in a process of its own, which is to end at the panic.
+/// Runs this test again in a process of its own, which must end at the panic.
 #[test]
 fn a_panic_ends_the_process() {
     if std::env::var_os("TMWATCH_PANICS").is_some() {
@@ -180,10 +180,10 @@ fn wrong_plans_are_refused() {
     assert_eq!(refused(|plan| plan.threads = 9), Status::BadSize);
     assert_eq!(refused(|plan| plan.registers = 0), Status::BadRegisters);
     assert_eq!(refused(|plan| plan.start[3] = 1), Status::BadStart);
-    assert_eq!(refused(|plan| plan.calls = 17), Status::BadBounds);
+    assert_eq!(refused(|plan| plan.accesses = 17), Status::BadBounds);
 }
 
-/// A sequence of commits, odd while one stores, on which a read is not checked, if `is_broken`.
+/// A sequence number of commits, which is odd while one stores. If `is_broken`, reads are not validated against it.
 struct Sequence {
     now: AtomicU64,
     words: [AtomicU64; 8],
@@ -196,7 +196,7 @@ impl Sequence {
     }
 }
 
-/// The sequence at the beginning, and what is to be written.
+/// The sequence number at the beginning, and the values to be written.
 type Written = (u64, [Option<u64>; 8]);
 
 impl Memory for Sequence {
@@ -249,15 +249,18 @@ fn steps_give_the_same_run_by_the_same_seed() {
         bench(&Sequence::new(is_broken), &plan).unwrap()
     };
     let (one, other) = (run(1, false), run(2, false));
-    assert_eq!(one.told.verdict, Verdict::OpaqueSoFar);
-    assert_eq!((one.rescues, other.rescues), (0, 0));
-    assert!(one.foreign > 2 && one.stores > 1000 && one.switches > 1000 && one.steps > one.switches, "{one:?}");
+    assert_eq!(one.result.verdict, Verdict::OpaqueSoFar);
+    assert_eq!((one.stalls, other.stalls), (0, 0));
+    assert!(
+        one.max_interleaved_commits > 2 && one.stores > 1000 && one.context_switches > 1000 && one.steps > one.context_switches,
+        "{one:?}"
+    );
     assert_eq!(run(1, false), one);
     assert_ne!(other.trace, one.trace);
     let broken = run(1, true);
-    let Verdict::Violated { .. } = broken.told.verdict else { panic!("{:?}", broken.told) };
-    assert!(broken.is_certain);
-    assert_eq!(broken.again, format!("--schedule steps --seed 1 --round {}", broken.rounds));
+    let Verdict::Violated { .. } = broken.result.verdict else { panic!("{:?}", broken.result) };
+    assert!(broken.is_deterministic);
+    assert_eq!(broken.reproducer, format!("--schedule steps --seed 1 --round {}", broken.rounds));
     let plan = Plan { rounds: broken.rounds, schedule: Schedule::Steps, round: broken.rounds, trace: true, ..Plan::default() };
     assert_eq!(bench(&Sequence::new(true), &plan).unwrap().trace, broken.trace);
 }
@@ -266,9 +269,9 @@ fn steps_give_the_same_run_by_the_same_seed() {
 fn seeds_and_schedules_are_passed_on() {
     let trace = |schedule, seed| {
         let plan = Plan { rounds: 1, threads: 1, seed, schedule, trace: true, ..Plan::default() };
-        let benched = bench(&Sequence::new(false), &plan).unwrap();
-        assert_eq!(benched.steps > 0, schedule == Schedule::Steps || schedule == Schedule::All);
-        benched.trace.unwrap()
+        let result = bench(&Sequence::new(false), &plan).unwrap();
+        assert_eq!(result.steps > 0, schedule == Schedule::Steps || schedule == Schedule::All);
+        result.trace.unwrap()
     };
     for schedule in [Schedule::Rounds, Schedule::Permits, Schedule::Steps, Schedule::All] {
         assert_ne!(trace(schedule, 1), trace(schedule, 2));
@@ -280,7 +283,7 @@ fn a_plan_out_of_range_is_refused() {
     let refused = |plan| bench(&Sequence::new(false), &plan).unwrap_err();
     assert_eq!(refused(Plan { threads: 9, ..Plan::default() }), Status::BadSize);
     assert_eq!(refused(Plan { rounds: 0, ..Plan::default() }), Status::BadBounds);
-    assert_eq!(refused(Plan { mixes: 101, ..Plan::default() }), Status::BadBounds);
+    assert_eq!(refused(Plan { mixed_rounds: 101, ..Plan::default() }), Status::BadBounds);
     assert_eq!(refused(Plan { orders: Some(Orders::X86), ..Plan::default() }), Status::BadBounds);
     assert_eq!(refused(Plan { round: 20001, ..Plan::default() }), Status::BadBounds);
     // One by permits is never out of range; in rounds, eight attempts are.
@@ -288,7 +291,7 @@ fn a_plan_out_of_range_is_refused() {
     assert!(bench(&Sequence::new(false), &Plan { rounds: 5, attempts: 8, schedule: Schedule::Permits, ..Plan::default() }).is_ok());
 }
 
-/// Transactions that are aligned to what the bench gives, and to more.
+/// Transactions with the greatest alignment that the bench guarantees, and with a greater one.
 #[derive(Default)]
 #[repr(align(16))]
 struct Narrow;
@@ -331,7 +334,7 @@ fn a_wide_transaction_is_refused() {
     let _ = bench(&Aligned::<Wide>(Default::default()), &Plan { rounds: 1, ..Plan::default() });
 }
 
-/// A lock that is tried, and that thread 1 keeps after some commits.
+/// A lock that is only tried. Thread 1 does not release it after some commits.
 #[derive(Default)]
 struct Leaking {
     is_locked: AtomicBool,
@@ -383,11 +386,11 @@ fn a_memory_that_loses_progress_is_told_so() {
 #[test]
 fn a_mutex_of_the_standard_library_is_seen() {
     let plan = Plan { rounds: 500, schedule: Schedule::Steps, ..Plan::default() };
-    let benched = bench(&OneLock::default(), &plan).unwrap();
-    assert_eq!((benched.told.verdict, benched.rescues), (Verdict::OpaqueSoFar, 0));
+    let result = bench(&OneLock::default(), &plan).unwrap();
+    assert_eq!((result.result.verdict, result.stalls), (Verdict::OpaqueSoFar, 0));
 }
 
-/// Holds zeros, and pauses in each read if it says so.
+/// All registers are 0. Each read pauses if the flag is set.
 struct Zeros(bool);
 
 impl Memory for Zeros {
@@ -426,19 +429,29 @@ fn a_pause_is_a_step() {
 
 #[test]
 fn each_number_is_passed_on() {
-    let numbers =
-        Plan { writes: 77, adds: 11, aborts: 9, mixes: 33, blinds: 5, calls: 2, pause: 7, plain: true, seed: 6, ..Plan::default() };
-    let benched = bench(&Racing::default(), &Plan { threads: 3, registers: 2, attempts: 1, ..numbers }).unwrap();
-    let words = "--threads 3 --registers 2 --calls 2 --writes 77 --adds 11 --aborts 9 --pause 7 --mixes 33 --blinds 5 --attempts 1 --plain";
-    assert_eq!(benched.again, format!("--seed 6 --round {} {words}", benched.rounds));
-    assert!(benched.is_certain && benched.event > 0 && benched.trace.is_none());
+    let numbers = Plan {
+        writes: 77,
+        adds: 11,
+        aborts: 9,
+        mixed_rounds: 33,
+        blind_writes: 5,
+        accesses: 2,
+        pause: 7,
+        plain: true,
+        seed: 6,
+        ..Plan::default()
+    };
+    let result = bench(&Racing::default(), &Plan { threads: 3, registers: 2, attempts: 1, ..numbers }).unwrap();
+    let words = "--threads 3 --registers 2 --accesses 2 --writes 77 --adds 11 --aborts 9 --pause 7 --mixed-rounds 33 --blind-writes 5 --attempts 1 --plain";
+    assert_eq!(result.reproducer, format!("--seed 6 --round {} {words}", result.rounds));
+    assert!(result.is_deterministic && result.event > 0 && result.trace.is_none());
     // There are no words for a start.
     let start = [7, 0, 0, 0, 0, 0, 0, 0];
     let memory = Racing(std::array::from_fn(|k| AtomicU64::new(start[k])));
-    assert!(!bench(&memory, &Plan { start, registers: 2, ..Plan::default() }).unwrap().is_certain);
+    assert!(!bench(&memory, &Plan { start, registers: 2, ..Plan::default() }).unwrap().is_deterministic);
 }
 
-/// Adds by a write that aborts, after its read.
+/// Adds with a read and then a write that aborts.
 #[derive(Default)]
 struct Refusing(OneLock);
 
@@ -467,7 +480,7 @@ impl Memory for Refusing {
 
 #[test]
 fn an_add_aborts_if_its_write_does() {
-    let plan = Plan { rounds: 60, threads: 2, adds: 100, blinds: 0, schedule: Schedule::Steps, trace: true, ..Plan::default() };
+    let plan = Plan { rounds: 60, threads: 2, adds: 100, blind_writes: 0, schedule: Schedule::Steps, trace: true, ..Plan::default() };
     let Err(status) = bench(&Refusing::default(), &plan) else { panic!("no register can be added to") };
     assert_eq!(status, Status::NoProgress);
 }

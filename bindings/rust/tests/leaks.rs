@@ -1,9 +1,9 @@
-//! What the package takes it gives back: a watch and recorders that are dropped in either order, a bench that is refused, and one that runs.
-//! Alone in its program, so that no other test's blocks are counted.
+//! The package frees all memory that it allocates: for a watch and recorders that are dropped in either order, a bench that is refused, and
+//! one that runs. This is the only test in its program, so that no memory of other tests is counted.
 
 use tmwatch::{bench, Aborted, Event, Memory, Plan, Schedule, Settings, Status, Watch};
 
-/// The part of the C library's `struct mallinfo2` that is looked at.
+/// The fields of the C library's `struct mallinfo2`.
 #[repr(C)]
 struct Heap {
     arena: usize,
@@ -22,14 +22,14 @@ extern "C" {
     fn mallinfo2() -> Heap;
 }
 
-/// Returns how many bytes are taken.
+/// Returns the number of allocated bytes.
 fn taken() -> usize {
     // SAFETY: it takes nothing.
     let heap = unsafe { mallinfo2() };
     heap.uordblks + heap.hblkhd
 }
 
-/// Does it a hundred times, and returns how many bytes more are taken then.
+/// Runs the closure a hundred times, and returns by how many bytes the allocated memory has grown.
 fn growth(mut does: impl FnMut()) -> usize {
     does();
     let before = taken();
@@ -37,7 +37,7 @@ fn growth(mut does: impl FnMut()) -> usize {
     taken().saturating_sub(before)
 }
 
-/// Holds zeros.
+/// All registers are 0.
 struct Zeros;
 
 impl Memory for Zeros {
@@ -62,7 +62,7 @@ impl Memory for Zeros {
     fn abort(&self, _: ()) {}
 }
 
-/// Less than a watch takes for its ring, and less than a hundred streams.
+/// Less than the ring of one watch, and less than a hundred streams.
 const FEW: usize = 16 * 1024;
 
 #[test]
@@ -83,7 +83,7 @@ fn all_is_given_back() {
         assert_eq!(bench(&Zeros, &plan).unwrap_err(), Status::BadSize);
     });
     let traced = growth(|| {
-        let plan = Plan { rounds: 20, writes: 0, adds: 0, blinds: 0, schedule: Schedule::Steps, trace: true, ..Plan::default() };
+        let plan = Plan { rounds: 20, writes: 0, adds: 0, blind_writes: 0, schedule: Schedule::Steps, trace: true, ..Plan::default() };
         assert!(bench(&Zeros, &plan).unwrap().trace.unwrap().len() > 1000);
     });
     let all = [watch_first, recorders_first, refused, traced];

@@ -1,5 +1,5 @@
-//! A memory that loses progress in each of three ways is told so, by each schedule; a right one that is rolled back by chance is not, nor
-//! one that takes long.
+//! With each schedule, a memory that makes no progress, in one of three ways, is reported as such. A correct one that is rolled back at
+//! random is not, nor one that takes long.
 
 use std::sync::atomic::{AtomicBool, AtomicU64, Ordering::SeqCst};
 use std::time::{Duration, Instant};
@@ -7,16 +7,16 @@ use tmwatch::{bench, pause, thread, Aborted, Memory, Plan, Schedule, Status, Ver
 
 const SCHEDULES: [Schedule; 4] = [Schedule::Rounds, Schedule::Permits, Schedule::Steps, Schedule::All];
 
-/// What a transaction that is rolled back keeps, or how the memory is wrong otherwise.
+/// What a rolled-back transaction fails to release, or another fault of the memory.
 #[derive(Clone, Copy, Default, PartialEq)]
 enum Fault {
     #[default]
     None,
     KeepsLocks,
     KeepsMarks,
-    /// A transaction has eight bits of the clock.
+    /// A transaction stores only eight bits of the clock.
     Wraps,
-    /// None: half of the commits are rolled back by chance.
+    /// Not a fault: half of the commits are rolled back at random.
     Chance,
 }
 
@@ -29,7 +29,7 @@ struct Word {
     is_read: [AtomicBool; 8],
 }
 
-/// It keeps locks and marks to the end, writes in place, and reads nothing that is newer than its beginning.
+/// A transaction holds locks and marks until its end, writes in place, and reads nothing that is newer than its beginning.
 #[derive(Default)]
 struct Marked {
     fault: Fault,
@@ -139,13 +139,13 @@ fn a_memory_that_is_rolled_back_by_chance_is_right() {
     for fault in [Fault::None, Fault::Chance] {
         for schedule in SCHEDULES {
             let plan = Plan { schedule, rounds: 2000, ..Plan::default() };
-            let benched = bench(&Marked { fault, ..Marked::default() }, &plan).unwrap();
-            assert_eq!((benched.told.verdict, benched.rounds), (Verdict::OpaqueSoFar, 2000));
+            let result = bench(&Marked { fault, ..Marked::default() }, &plan).unwrap();
+            assert_eq!((result.result.verdict, result.rounds), (Verdict::OpaqueSoFar, 2000));
         }
     }
 }
 
-/// Holds zeros. Its first read takes longer than `bench_main` waits.
+/// All registers are 0. The first read takes longer than `bench_main` waits.
 #[derive(Default)]
 struct Slow(AtomicBool);
 
@@ -177,6 +177,6 @@ impl Memory for Slow {
 #[test]
 fn a_slow_memory_is_not_given_up() {
     let plan = Plan { schedule: Schedule::Steps, threads: 1, rounds: 1, writes: 0, adds: 0, ..Plan::default() };
-    let benched = bench(&Slow::default(), &plan).unwrap();
-    assert_eq!((benched.told.verdict, benched.rounds), (Verdict::OpaqueSoFar, 1));
+    let result = bench(&Slow::default(), &plan).unwrap();
+    assert_eq!((result.result.verdict, result.rounds), (Verdict::OpaqueSoFar, 1));
 }

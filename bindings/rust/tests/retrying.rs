@@ -1,12 +1,12 @@
-//! Memories on the bench that themselves attempt a transaction again: right ones, a broken one, and those that use their attempt wrongly.
+//! Memories on the bench that retry transactions themselves: correct ones, a broken one, and ones that misuse their attempt.
 
 use std::cell::Cell;
 use std::sync::atomic::{AtomicBool, AtomicU64, Ordering::SeqCst};
 use std::sync::{Mutex, MutexGuard};
 use tmwatch::{bench_retrying, pause, Aborted, Attempt, Plan, RetryingMemory, Schedule, Status, Verdict};
 
-/// Stores all that a transaction writes when it commits, and its version is odd meanwhile. If `looks`, each read looks whether the version
-/// is still the one at which the attempt began.
+/// Buffers the writes of a transaction until it commits; its version is odd while they are stored. If `looks`, each read checks that the
+/// version is still the one at which the attempt began.
 struct Versioned {
     version: AtomicU64,
     words: [AtomicU64; 8],
@@ -34,7 +34,7 @@ impl Versioned {
         }
     }
 
-    /// Attempts the body until it returns Ok and commits, or no further attempt may begin. Returns whether it has committed.
+    /// Retries the body until it returns Ok and commits, or no further attempt may begin. Returns whether it committed.
     fn atomically(&self, may_begin: impl Fn() -> bool, mut body: impl FnMut(&mut Tx<'_>) -> Result<(), Aborted>) -> bool {
         while may_begin() {
             let mut tx = self.begin();
@@ -75,7 +75,7 @@ impl RetryingMemory for Versioned {
     type Transaction<'t> = Tx<'t>;
 
     fn run(&self, attempt: &Attempt<'_, Self>) -> bool {
-        self.atomically(|| attempt.begins(), |tx| if attempt.calls(tx) { Ok(()) } else { Err(Aborted) })
+        self.atomically(|| attempt.begin(), |tx| if attempt.run_body(tx) { Ok(()) } else { Err(Aborted) })
     }
 
     fn read(&self, tx: &mut Tx<'_>, register: usize) -> Result<u64, Aborted> {
@@ -88,7 +88,7 @@ impl RetryingMemory for Versioned {
     }
 }
 
-/// One lock. Each other third write of an attempt aborts it.
+/// One lock. Every other third write of an attempt aborts it.
 struct OneLock {
     words: Mutex<[u64; 8]>,
     refuses: AtomicBool,
@@ -103,10 +103,10 @@ impl RetryingMemory for OneLock {
     type Transaction<'t> = Locked<'t>;
 
     fn run(&self, attempt: &Attempt<'_, Self>) -> bool {
-        while attempt.begins() {
+        while attempt.begin() {
             let mut it = Locked { words: self.words.lock().unwrap(), writes: 0 };
             let before = *it.words;
-            if attempt.calls(&mut it) {
+            if attempt.run_body(&mut it) {
                 return true;
             }
             *it.words = before;
@@ -140,16 +140,16 @@ fn a_right_memory_is_opaque_so_far() {
     for (seed, schedule) in [(1, Schedule::Rounds), (2, Schedule::Steps), (1, Schedule::Permits), (2, Schedule::Permits)] {
         let start = [7, 8, 9, 0, 0, 0, 0, 0];
         let plan = Plan { rounds: 2000, seed, schedule, registers: 3, start, trace: true, ..Plan::default() };
-        for benched in [
+        for result in [
             bench_retrying(&Versioned::new(true, start), &plan).unwrap(),
             bench_retrying(&OneLock { words: Mutex::new(start), refuses: AtomicBool::new(true) }, &plan).unwrap(),
         ] {
-            assert_eq!((benched.told.verdict, benched.rescues), (Verdict::OpaqueSoFar, 0));
-            assert_eq!(benched.rounds, 2000);
-            let trace = benched.trace.unwrap();
+            assert_eq!((result.result.verdict, result.stalls), (Verdict::OpaqueSoFar, 0));
+            assert_eq!(result.rounds, 2000);
+            let trace = result.trace.unwrap();
             assert!([" R ", " W ", " N ", " X\n", " A\n"].iter().all(|event| trace.contains(event)));
-            assert!(benched.counts.committed > 1000 && benched.counts.unasked > 100, "{:?}", benched.counts);
-            assert!(benched.counts.overlapping > 100, "{:?}", benched.counts);
+            assert!(result.counts.committed > 1000 && result.counts.forced_aborts > 100, "{:?}", result.counts);
+            assert!(result.counts.concurrent > 100, "{:?}", result.counts);
         }
     }
 }
@@ -157,12 +157,12 @@ fn a_right_memory_is_opaque_so_far() {
 #[test]
 fn a_memory_that_does_not_look_is_violated() {
     for (seed, schedule) in [(1, Schedule::Rounds), (2, Schedule::Steps), (1, Schedule::Permits), (2, Schedule::All)] {
-        let benched = bench_retrying(&Versioned::new(false, [0; 8]), &Plan { seed, schedule, ..Plan::default() }).unwrap();
-        assert!(matches!(benched.told.verdict, Verdict::Violated { .. }), "{:?}", benched.told);
+        let result = bench_retrying(&Versioned::new(false, [0; 8]), &Plan { seed, schedule, ..Plan::default() }).unwrap();
+        assert!(matches!(result.result.verdict, Verdict::Violated { .. }), "{:?}", result.result);
     }
 }
 
-/// Makes no calls, before an attempt has begun, and then none at all.
+/// Requests its calls before an attempt has begun, and gets none.
 #[derive(Default)]
 struct Idle(AtomicU64);
 
@@ -170,7 +170,7 @@ impl RetryingMemory for Idle {
     type Transaction<'t> = ();
 
     fn run(&self, attempt: &Attempt<'_, Self>) -> bool {
-        self.0.fetch_add(u64::from(attempt.calls(&mut ())), SeqCst);
+        self.0.fetch_add(u64::from(attempt.run_body(&mut ())), SeqCst);
         false
     }
 
@@ -186,11 +186,11 @@ impl RetryingMemory for Idle {
 #[test]
 fn no_calls_are_made_before_an_attempt_begins() {
     let memory = Idle::default();
-    let benched = bench_retrying(&memory, &Plan { rounds: 100, ..Plan::default() }).unwrap();
-    assert_eq!((benched.told.events, memory.0.load(SeqCst)), (0, 0));
+    let result = bench_retrying(&memory, &Plan { rounds: 100, ..Plan::default() }).unwrap();
+    assert_eq!((result.result.events, memory.0.load(SeqCst)), (0, 0));
 }
 
-/// A transaction that has its attempt, and uses that within a call: makes its calls again, or begins another.
+/// A transaction that contains its attempt, and misuses it within a call: it requests the calls again, or begins another attempt.
 struct Nested {
     calls: bool,
 }
@@ -204,12 +204,12 @@ impl RetryingMemory for Nested {
     type Transaction<'t> = Nesting<'t>;
 
     fn run(&self, attempt: &Attempt<'_, Self>) -> bool {
-        attempt.begins() && attempt.calls(&mut Nesting { attempt, done: Cell::new(false) })
+        attempt.begin() && attempt.run_body(&mut Nesting { attempt, done: Cell::new(false) })
     }
 
     fn read(&self, it: &mut Nesting<'_>, _: usize) -> Result<u64, Aborted> {
         let mut inner = Nesting { attempt: it.attempt, done: Cell::new(false) };
-        it.done.set(if self.calls { it.attempt.calls(&mut inner) } else { it.attempt.begins() });
+        it.done.set(if self.calls { it.attempt.run_body(&mut inner) } else { it.attempt.begin() });
         Ok(0)
     }
 
@@ -218,7 +218,7 @@ impl RetryingMemory for Nested {
     }
 }
 
-/// Runs this test again in processes of their own, which are to end at the panic.
+/// Runs this test again in processes of their own, which must end at the panic.
 #[test]
 fn an_attempt_within_its_calls_ends_the_process() {
     if let Some(word) = std::env::var_os("TMWATCH_NESTS") {
@@ -234,7 +234,7 @@ fn an_attempt_within_its_calls_ends_the_process() {
     }
 }
 
-/// Runs that break their promise.
+/// Implementations of `run` that violate its contract.
 enum Wrong {
     CallsNone,
     CommitsAll,
@@ -246,13 +246,13 @@ impl RetryingMemory for Wrong {
 
     fn run(&self, attempt: &Attempt<'_, Self>) -> bool {
         let calls = match self {
-            _ if !attempt.begins() => return false,
+            _ if !attempt.begin() => return false,
             Wrong::CallsNone => 0,
             Wrong::CommitsAll => 1,
             Wrong::CallsTwice => 2,
         };
         for _ in 0..calls {
-            attempt.calls(&mut ());
+            attempt.run_body(&mut ());
         }
         true
     }
@@ -270,20 +270,20 @@ impl RetryingMemory for Wrong {
 fn a_run_that_breaks_its_promise_is_told() {
     let plan = Plan { threads: 1, aborts: 100, ..Plan::default() };
     let status = |wrong| bench_retrying(&wrong, &plan).unwrap_err();
-    assert_eq!(status(Wrong::CallsNone), Status::Misfit);
-    assert_eq!(status(Wrong::CommitsAll), Status::Misfit);
-    assert_eq!(status(Wrong::CallsTwice), Status::OutOfTurn);
+    assert_eq!(status(Wrong::CallsNone), Status::WrongAnswer);
+    assert_eq!(status(Wrong::CommitsAll), Status::WrongAnswer);
+    assert_eq!(status(Wrong::CallsTwice), Status::WrongPhase);
 }
 
-/// Adds by a write that aborts, after its read.
+/// Adds with a read and then a write that aborts.
 struct Refusing;
 
 impl RetryingMemory for Refusing {
     type Transaction<'t> = ();
 
     fn run(&self, attempt: &Attempt<'_, Self>) -> bool {
-        while attempt.begins() {
-            if attempt.calls(&mut ()) {
+        while attempt.begin() {
+            if attempt.run_body(&mut ()) {
                 return true;
             }
         }
@@ -301,6 +301,6 @@ impl RetryingMemory for Refusing {
 
 #[test]
 fn an_add_aborts_if_its_write_does() {
-    let plan = Plan { rounds: 60, adds: 100, blinds: 0, schedule: Schedule::Steps, ..Plan::default() };
+    let plan = Plan { rounds: 60, adds: 100, blind_writes: 0, schedule: Schedule::Steps, ..Plan::default() };
     assert_eq!(bench_retrying(&Refusing, &plan).unwrap_err(), Status::NoProgress);
 }

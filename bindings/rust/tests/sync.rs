@@ -1,5 +1,5 @@
-//! The types of `tmwatch::sync` do what those of `core` and `std` do, with the feature `steps` and without it; and the bench judges memories
-//! that use them by the orders of C++20.
+//! The types of `tmwatch::sync` behave like those of `core` and `std`, with the feature `steps` and without it; and the bench judges
+//! memories that use them under the C++20 memory model.
 
 use std::fmt::Debug;
 use std::sync::atomic as plain;
@@ -48,7 +48,7 @@ macro_rules! integer {
     };
 }
 
-/// Makes the same calls on both, and compares what they return and what they hold then.
+/// Makes the same calls on both, and compares their return values and their values afterwards.
 fn compare<T: Copy + Debug + PartialEq>(one: &dyn Integer<T>, other: &dyn Integer<T>, values: [T; 3], update: fn(T) -> Option<T>) {
     let calls =
         ["add", "sub", "swap", "and", "or", "xor", "nand", "max", "min"].map(|it| (it, [Relaxed, Acquire, Release, AcqRel, SeqCst]));
@@ -150,7 +150,7 @@ fn a_mutex_is_that_of_std() {
     assert_eq!(mutex.into_inner().unwrap_err().into_inner(), 4005);
 }
 
-/// One lock over all, and words that nothing else orders.
+/// One lock for all words, which nothing else orders.
 struct Global<L> {
     lock: L,
     words: [AtomicU64; 8],
@@ -190,10 +190,10 @@ impl Lock for Tried {
     }
 }
 
-/// How a word of a lock is taken or returned, or its number is waited for: a method, by an order.
+/// How a word of a lock is taken or released, or its number is waited for: a method, and its memory order.
 type By = (&'static str, Ordering);
 
-/// A lock by an atomic: a word that is 0 while it is free, or 1 if taking it makes it less, or the number whose turn it is.
+/// A lock in an atomic word, which is 0 while the lock is free, or 1 if taking it decrements the word, or the number of the next thread.
 struct Spin {
     taken: By,
     given: By,
@@ -210,7 +210,7 @@ impl Spin {
         Spin { taken, given, word: AtomicU64::new(SMALLER.contains(&taken.0).into()), tickets: AtomicU64::new(0) }
     }
 
-    /// Changes the word by this method, or leaves it: returns what it was, if that is known.
+    /// Changes the word with this method, or leaves it unchanged. Returns the previous value, if that is known.
     fn change(&self, (method, order): By, held: u64, value: u64) -> Result<u64, u64> {
         let word = &self.word;
         Ok(match method {
@@ -233,7 +233,7 @@ impl Spin {
         })
     }
 
-    /// The word's value, as this method sees it without a change.
+    /// Returns the word's value as this method sees it, without a change.
     fn see(&self, (method, order): By) -> u64 {
         const NEVER: u64 = u64::MAX;
         match method {
@@ -268,8 +268,8 @@ impl Drop for SpinGuard<'_> {
     }
 }
 
-/// A lock of two threads, each of which says that it comes, and then looks whether the other does: by a method, by an order, and the order
-/// of a fence and that of the look.
+/// A lock for two threads, each of which announces itself and then checks whether the other one has: with a method and its order, the order
+/// of a fence, and the order of the check.
 #[cfg(feature = "steps")]
 struct Polite {
     comes: [AtomicU64; 2],
@@ -336,12 +336,12 @@ impl<L: Lock> Memory for Global<L> {
     }
 }
 
-fn judge<L: Lock>(lock: L, orders: Orders) -> Result<tmwatch::Benched, Status> {
+fn judge<L: Lock>(lock: L, orders: Orders) -> Result<tmwatch::BenchResult, Status> {
     let memory = Global { lock, words: Default::default() };
     bench(&memory, &Plan { rounds: 1000, threads: 2, schedule: Schedule::Steps, orders: Some(orders), ..Plan::default() })
 }
 
-fn spin(orders: Orders) -> tmwatch::Benched {
+fn spin(orders: Orders) -> tmwatch::BenchResult {
     judge(Spin::new(("swap", Acquire), ("store", Relaxed)), orders).unwrap()
 }
 
@@ -354,17 +354,17 @@ fn orders_are_seen_with_the_feature_alone() {
         return;
     }
     for right in [right, judge(Tried(Mutex::new(())), Orders::Cxx)].map(Result::unwrap) {
-        assert_eq!((right.told.verdict, right.rescues, right.shown.as_str()), (Verdict::OpaqueSoFar, 0, ""));
+        assert_eq!((right.result.verdict, right.stalls, right.stale_loads.as_str()), (Verdict::OpaqueSoFar, 0, ""));
     }
-    assert_eq!(spin(Orders::Sequential).told.verdict, Verdict::OpaqueSoFar);
-    assert_eq!(spin(Orders::X86).told.verdict, Verdict::OpaqueSoFar);
+    assert_eq!(spin(Orders::Sequential).result.verdict, Verdict::OpaqueSoFar);
+    assert_eq!(spin(Orders::X86).result.verdict, Verdict::OpaqueSoFar);
     let wrong = spin(Orders::Cxx);
-    assert!(matches!(wrong.told.verdict, Verdict::Violated { .. }) && wrong.is_certain);
-    assert!(wrong.again.ends_with(" --orders c++"), "{}", wrong.again);
-    assert!(wrong.shown.contains("stale load"), "{}", wrong.shown);
+    assert!(matches!(wrong.result.verdict, Verdict::Violated { .. }) && wrong.is_deterministic);
+    assert!(wrong.reproducer.ends_with(" --orders c++"), "{}", wrong.reproducer);
+    assert!(wrong.stale_loads.contains("stale load"), "{}", wrong.stale_loads);
 }
 
-/// A mutex that is only tried. It counts how often it was free, and how often held, while the other thread was giving it back.
+/// A mutex that is only tried. It counts how often it was free, and how often held, while the other thread was releasing it.
 #[cfg(feature = "steps")]
 #[derive(Default)]
 struct Returned {
@@ -412,10 +412,10 @@ fn a_mutex_is_free_at_the_step_at_which_it_is_given_back() {
     assert_eq!(memory.lock.held.load(SeqCst), 0);
 }
 
-/// Whether a lock orders what it guards.
+/// Returns whether a lock orders the accesses that it guards.
 #[cfg(feature = "steps")]
 fn holds(taken: By, given: By) -> bool {
-    let verdict = judge(Spin::new(taken, given), Orders::Cxx).unwrap().told.verdict;
+    let verdict = judge(Spin::new(taken, given), Orders::Cxx).unwrap().result.verdict;
     assert!(matches!(verdict, Verdict::OpaqueSoFar | Verdict::Violated { .. }), "{taken:?} {given:?} {verdict:?}");
     verdict == Verdict::OpaqueSoFar
 }
@@ -447,7 +447,7 @@ fn each_method_has_the_order_that_it_is_given() {
 fn an_order_of_all_is_more_than_to_acquire_and_release() {
     let holds = |said, fence, looked| {
         let lock = Polite { comes: Default::default(), said, fence, looked };
-        judge(lock, Orders::Cxx).unwrap().told.verdict == Verdict::OpaqueSoFar
+        judge(lock, Orders::Cxx).unwrap().result.verdict == Verdict::OpaqueSoFar
     };
     for method in ["swap", "store"] {
         assert!(holds((method, SeqCst), Acquire, SeqCst), "{method}");
@@ -485,8 +485,8 @@ fn orders_that_no_access_has_are_refused() {
     }
 }
 
-/// A lock over all, and atomics that threads renew before each transaction, under a lock that the bench does not see: so what another has
-/// stored in one of before may be seen for long, if it is still taken for the same.
+/// A lock for all words, and atomics that threads replace before each transaction, under a lock that the bench does not see. A thread could
+/// therefore still see old stores to an earlier atomic, if the bench took the new one for the same.
 struct Renewed(Mutex<[u64; 8]>, std::sync::Mutex<[AtomicU64; 3]>);
 
 struct Renewing<'m> {
@@ -496,7 +496,7 @@ struct Renewing<'m> {
 }
 
 impl Renewed {
-    /// Whether each atomic has the value that it was renewed with.
+    /// Returns whether each atomic has its new value.
     fn is_seen(&self) -> bool {
         let Ok(mut places) = self.1.try_lock() else { return true };
         let is_seen = places.iter().all(|it| it.load(Relaxed) == 7);
@@ -542,6 +542,6 @@ impl Memory for Renewed {
 fn what_a_place_held_before_is_not_seen() {
     let memory = Renewed(Mutex::new([0; 8]), std::sync::Mutex::new([7, 7, 7].map(AtomicU64::new)));
     let orders = Some(if cfg!(feature = "steps") { Orders::Cxx } else { Orders::Sequential });
-    let benched = bench(&memory, &Plan { rounds: 200, schedule: Schedule::Steps, orders, ..Plan::default() }).unwrap();
-    assert_eq!((benched.told.verdict, benched.rescues), (Verdict::OpaqueSoFar, 0));
+    let result = bench(&memory, &Plan { rounds: 200, schedule: Schedule::Steps, orders, ..Plan::default() }).unwrap();
+    assert_eq!((result.result.verdict, result.stalls), (Verdict::OpaqueSoFar, 0));
 }

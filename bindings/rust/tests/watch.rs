@@ -2,7 +2,7 @@
 
 use std::sync::mpsc;
 use std::thread;
-use tmwatch::{Event, Recorder, Settings, Status, Told, Verdict, Watch, Why};
+use tmwatch::{Event, Recorder, Settings, Status, Verdict, Watch, WatchResult, Why};
 
 const READ: Event = Event::Read { register: 0 };
 
@@ -41,9 +41,9 @@ fn a_right_run_is_opaque_so_far() {
     let counts = watch.summary().unwrap();
     assert_eq!((counts.committed, counts.transactions, counts.live), (2000, 2000, 0));
     assert!(counts.none_overlapped);
-    let told = Told { events: 8000, verdict: Verdict::OpaqueSoFar };
-    assert_eq!(watch.report(), Ok(told));
-    assert_eq!(watch.close(), Ok(told));
+    let result = WatchResult { events: 8000, verdict: Verdict::OpaqueSoFar };
+    assert_eq!(watch.report(), Ok(result));
+    assert_eq!(watch.close(), Ok(result));
     assert_eq!(watch.close(), Err(Status::NoHandle));
     assert_eq!(watch.pump(1), Err(Status::NoHandle));
     assert_eq!(watch.report(), Err(Status::NoHandle));
@@ -58,12 +58,13 @@ fn a_dirty_read_is_violated() {
     assert_eq!(recorders[1].record(Event::Value(1)), Ok(3));
     assert_eq!((recorders[0].number(), recorders[1].number()), (0, 1));
     recorders.pop();
-    assert_eq!(watch.close(), Err(Status::Missing));
+    assert_eq!(watch.close(), Err(Status::MissingRecorder));
     drop(recorders);
-    assert_eq!(watch.close(), Ok(Told { events: 4, verdict: Verdict::Violated { at: 4 } }));
+    assert_eq!(watch.close(), Ok(WatchResult { events: 4, verdict: Verdict::Violated { at: 4 } }));
 }
 
-/// Two transactions with an event of each kind, of registers that hold 3 and 4 at first: another letter, register or value is found.
+/// Two transactions with an event of each kind, and registers that are initially 3 and 4, so that a wrong letter, register or value is
+/// noticed.
 #[test]
 fn each_event_is_recorded_as_what_it_is() {
     let start = [3, 4, 0, 0, 0, 0, 0, 0];
@@ -89,9 +90,9 @@ fn each_event_is_recorded_as_what_it_is() {
     }
     assert_eq!(watch.pump(99), Ok(14));
     let counts = watch.summary().unwrap();
-    assert_eq!((counts.committed, counts.aborted, counts.unasked, counts.cuts, counts.live), (1, 1, 0, 2, 0));
+    assert_eq!((counts.committed, counts.aborted, counts.forced_aborts, counts.cuts, counts.live), (1, 1, 0, 2, 0));
     recorders.clear();
-    assert_eq!(watch.close(), Ok(Told { events: 14, verdict: Verdict::OpaqueSoFar }));
+    assert_eq!(watch.close(), Ok(WatchResult { events: 14, verdict: Verdict::OpaqueSoFar }));
 }
 
 #[test]
@@ -99,7 +100,7 @@ fn what_fits_no_run_is_malformed() {
     let (watch, mut recorders) = Watch::open(&Settings::new(1), 1).unwrap();
     recorders[0].record(Event::Stored).unwrap();
     assert_eq!(watch.pump(9), Ok(1));
-    assert_eq!(watch.report(), Ok(Told { events: 1, verdict: Verdict::Malformed { at: 1 } }));
+    assert_eq!(watch.report(), Ok(WatchResult { events: 1, verdict: Verdict::Malformed { at: 1 } }));
 }
 
 #[test]
@@ -109,7 +110,7 @@ fn a_bound_that_is_passed_is_told() {
     recorders[1].record(READ).unwrap();
     assert_eq!(watch.pump(9), Ok(2));
     let verdict = Verdict::Undecided { at: 2, why: Why::Transactions };
-    assert_eq!(watch.report(), Ok(Told { events: 2, verdict }));
+    assert_eq!(watch.report(), Ok(WatchResult { events: 2, verdict }));
 }
 
 #[test]
@@ -135,7 +136,7 @@ fn what_is_refused_is_told() {
     assert_eq!(Status::Spent.to_string(), "the watch's limit is reached");
 }
 
-/// Two recorders go round three threads by channels, each with what its register holds, and add to it between two moves.
+/// Two recorders move around three threads through channels, each with the value of its register, and add to it between two moves.
 #[test]
 fn a_recorder_goes_by_channels_from_thread_to_thread() {
     let (watch, recorders) = Watch::open(&Settings { cells: 16, ..Settings::new(2) }, 2).unwrap();
@@ -160,12 +161,12 @@ fn a_recorder_goes_by_channels_from_thread_to_thread() {
         watch.pump(64).unwrap();
     }
     threads.into_iter().for_each(|it| it.join().unwrap());
-    let Told { events, verdict } = watch.close().unwrap();
+    let WatchResult { events, verdict } = watch.close().unwrap();
     assert_eq!(verdict, Verdict::OpaqueSoFar);
     assert!(events % 4 == 0 && events >= 4 * 2000, "{events}");
 }
 
-/// A recorder may outlive its watch, in whichever order the two go.
+/// A recorder may outlive its watch, in whichever order the two are dropped.
 #[test]
 fn a_watch_may_be_dropped_first() {
     for round in 0..200 {

@@ -132,7 +132,7 @@ pub record HasCalledHeld (calls : List Call) (place : ℕ) (old new : Option Hel
   pub waits : next ≡ record { place = turn.place; phase = 1 }
   pub goes_on : GoesOn (length calls) told.kind told.kind turn next
 
--- Each status of tmwatch_next, with what the handle holds then, the turn, and what place the caller is told.
+-- Each status of tmwatch_record_next_call, with what the handle holds then, the turn, and what place the caller is told.
 abbrev pub IsCalling : List Call → (old new : Option HeldRecorder) → (turn next : CTurn) → (old_place new_place : ℕ) → CallStatus → Type 0
 IsCalling calls old new turn next old_place new_place Done = HasCalledHeld calls new_place old new turn next
 IsCalling calls old new turn next old_place new_place NoHandle =
@@ -157,7 +157,7 @@ pub record HasAnsweredHeld (calls : List Call) (letter value place : ℕ) (old n
   pub turns : TurnsTo (length calls) told.kind turn next
   pub goes_on : GoesOn (length calls) answered.kind told.kind turn next
 
--- Each status of tmwatch_answered, with what the handle holds then, the turn, and what place the caller is told.
+-- Each status of tmwatch_record_answer, with what the handle holds then, the turn, and what place the caller is told.
 abbrev pub IsAnswering : List Call → (letter value : ℕ) → (old new : Option HeldRecorder) → (turn next : CTurn)
     → (old_place new_place : ℕ) → CallStatus → Type 0
 IsAnswering calls letter value old new turn next old_place new_place Done =

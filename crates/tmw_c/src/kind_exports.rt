@@ -39,7 +39,7 @@ pub extern "C" fn tmwatch_write(recorder: &mut RecorderHandle, register: u64, va
 
 /// Records the answer of a write.
 #[unsafe(no_mangle)]
-pub extern "C" fn tmwatch_stored(recorder: &mut RecorderHandle) -> u32
+pub extern "C" fn tmwatch_written(recorder: &mut RecorderHandle) -> u32
     ensures { Tells result (IsRecordingUntold 75 0 0 (recorder_in recorder.old)
         (recorder_in recorder.new)) }
 {

@@ -9,7 +9,7 @@ use tmw_handles::RecorderHandle;
 
 /// Records the next call of the transaction that makes these calls. Its place in the log is counted from 0.
 #[unsafe(no_mangle)]
-pub extern "C" fn tmwatch_next(
+pub extern "C" fn tmwatch_record_next_call(
     recorder: &mut RecorderHandle,
     calls: &[Call],
     turn: &mut CTurn,
@@ -23,7 +23,7 @@ pub extern "C" fn tmwatch_next(
 
 /// Records the answer that the memory gave to the call that waits for it, if it fits, and turns to the next call.
 #[unsafe(no_mangle)]
-pub extern "C" fn tmwatch_answered(
+pub extern "C" fn tmwatch_record_answer(
     recorder: &mut RecorderHandle,
     calls: &[Call],
     turn: &mut CTurn,

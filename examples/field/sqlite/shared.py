@@ -1,7 +1,7 @@
 #!/usr/bin/env python3
 """SQLite in one process, whose connections share a cache and read what others have not committed (read_uncommitted).
 
-    tmwatch-bench --one -- python3 shared.py
+    tmwatch-bench --single-process -- python3 shared.py
 """
 import sqlite3
 from tmwatch_store import Refused, Store, serve_all

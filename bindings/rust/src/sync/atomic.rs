@@ -1,4 +1,4 @@
-//! As `core::sync::atomic`.
+//! The types and functions of `core::sync::atomic`.
 
 #[cfg(not(feature = "steps"))]
 pub use core::sync::atomic::*;
@@ -17,7 +17,7 @@ mod stepped {
         fn tmwatch_step_gives_back(block: *const c_void, size: usize);
     }
 
-    /// The number that a compiler of C has for this order.
+    /// Returns the number of this order in C.
     const fn number(order: Ordering) -> c_int {
         match order {
             Ordering::Relaxed => 0,
@@ -28,19 +28,19 @@ mod stepped {
         }
     }
 
-    /// The number of a load's order.
+    /// Returns the number of a load's order.
     fn of_load(order: Ordering) -> c_int {
         assert!(!matches!(order, Ordering::Release | Ordering::AcqRel), "no load releases");
         number(order)
     }
 
-    /// The number of a store's order.
+    /// Returns the number of a store's order.
     fn of_store(order: Ordering) -> c_int {
         assert!(!matches!(order, Ordering::Acquire | Ordering::AcqRel), "no store acquires");
         number(order)
     }
 
-    /// As `core::sync::atomic::fence`.
+    /// Like `core::sync::atomic::fence`.
     #[inline(always)]
     pub fn fence(order: Ordering) {
         assert!(order != Ordering::Relaxed, "there is no relaxed fence");
@@ -48,7 +48,7 @@ mod stepped {
         unsafe { __tsan_atomic_thread_fence(number(order)) }
     }
 
-    /// Declares what libtmwatch_steps.a has for atomic accesses of so many bits.
+    /// Declares the functions of libtmwatch_steps.a for atomic accesses of one size.
     macro_rules! calls {
         ($module:ident $raw:ty: $load:ident $store:ident $swap:ident $strong:ident $weak:ident
          $add:ident $sub:ident $and:ident $or:ident $xor:ident $nand:ident) => {
@@ -109,19 +109,20 @@ mod stepped {
         __tsan_atomic64_fetch_or __tsan_atomic64_fetch_xor __tsan_atomic64_fetch_nand
     }
 
-    /// Defines methods that take a value and return the one before.
+    /// Defines methods that take a value and return the previous one.
     macro_rules! changes {
         ($name:ident, $of:ty, $module:ident, $into:expr, $from:expr, $($method:ident)*) => {$(
             #[doc = concat!("As `core::sync::atomic::", stringify!($name), "::", stringify!($method), "`.")]
             #[inline(always)]
             pub fn $method(&self, value: $of, order: Ordering) -> $of {
-                // SAFETY: the place is an atomic of this size and alignment, which lives through the call. So it is in each method.
+                // SAFETY: the place is an atomic of this size and alignment, and is valid during the call. The same holds in each method.
                 ($from)(unsafe { $module::$method(self.at(), ($into)(value), number(order)) })
             }
         )*};
     }
 
-    /// Defines what all types have: how a value becomes bits, and bits a value. Dropping one ends what the bench keeps of its place.
+    /// Defines the methods of all types, given the conversions from a value to bits and back. When an atomic is dropped, the bench forgets
+    /// the history of its place.
     macro_rules! atomic {
         ($name:ident $(<$param:ident>)?, $of:ty, $module:ident, $into:expr, $from:expr, $($method:ident)*) => {
             #[doc = concat!("As `core::sync::atomic::", stringify!($name), "`.")]
@@ -139,7 +140,7 @@ mod stepped {
                 }
 
                 fn forget(&self) {
-                    // SAFETY: the bench takes the place for a name, and reads nothing there.
+                    // SAFETY: the bench uses the place only as a name, and does not access it.
                     unsafe { tmwatch_step_gives_back(self.at().cast_const().cast(), size_of::<$module::Raw>()) }
                 }
 
@@ -242,7 +243,7 @@ mod stepped {
         };
     }
 
-    /// Defines types of integers.
+    /// Defines the types of integers.
     macro_rules! integers {
         ($($name:ident $of:ty, $module:ident;)*) => {$(
             atomic!($name, $of, $module, |it: $of| it as $module::Raw, |it: $module::Raw| it as $of,
@@ -284,13 +285,13 @@ mod stepped {
     atomic!(AtomicPtr<T>, *mut T, of_64, |it: *mut T| it as usize as u64, |it: u64| it as usize as *mut T,);
 
     impl AtomicBool {
-        /// As `core::sync::atomic::AtomicBool::fetch_not`.
+        /// Like `core::sync::atomic::AtomicBool::fetch_not`.
         #[inline(always)]
         pub fn fetch_not(&self, order: Ordering) -> bool {
             self.fetch_xor(true, order)
         }
 
-        /// As `core::sync::atomic::AtomicBool::fetch_nand`.
+        /// Like `core::sync::atomic::AtomicBool::fetch_nand`.
         #[inline(always)]
         pub fn fetch_nand(&self, value: bool, order: Ordering) -> bool {
             if value {

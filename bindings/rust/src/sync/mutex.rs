@@ -1,4 +1,4 @@
-//! A mutex whose waits are steps and whose orders the bench sees.
+//! A mutex whose waits are steps, and whose synchronization the bench sees.
 
 use std::ffi::c_void;
 use std::fmt;
@@ -14,11 +14,11 @@ extern "C" {
     fn tmwatch_lock_returned(lock: *const c_void);
 }
 
-/// As `std::sync::Mutex`.
+/// Like `std::sync::Mutex`.
 #[derive(Default)]
 pub struct Mutex<T: ?Sized>(sync::Mutex<T>);
 
-/// As `std::sync::MutexGuard`.
+/// Like `std::sync::MutexGuard`.
 pub struct MutexGuard<'m, T: ?Sized> {
     /// Some until it is dropped.
     guard: Option<sync::MutexGuard<'m, T>>,
@@ -26,12 +26,12 @@ pub struct MutexGuard<'m, T: ?Sized> {
 }
 
 impl<T> Mutex<T> {
-    /// As `std::sync::Mutex::new`.
+    /// Like `std::sync::Mutex::new`.
     pub const fn new(value: T) -> Self {
         Mutex(sync::Mutex::new(value))
     }
 
-    /// As `std::sync::Mutex::into_inner`.
+    /// Like `std::sync::Mutex::into_inner`.
     pub fn into_inner(self) -> LockResult<T> {
         self.0.into_inner()
     }
@@ -42,14 +42,14 @@ impl<T: ?Sized> Mutex<T> {
         from_ref(self).cast()
     }
 
-    /// The lock is this thread's.
+    /// Reports that this thread took the lock, and returns its guard.
     fn taken<'m>(&'m self, guard: sync::MutexGuard<'m, T>) -> MutexGuard<'m, T> {
-        // SAFETY: the bench takes the lock's place for a name, and reads nothing there. So do all calls below.
+        // SAFETY: the bench uses the lock's place only as a name, and does not access it. The same holds for all calls below.
         unsafe { tmwatch_lock_taken(self.place()) };
         MutexGuard { guard: Some(guard), lock: self }
     }
 
-    /// As `std::sync::Mutex::lock`. By steps, it is tried again whenever others have run.
+    /// Like `std::sync::Mutex::lock`. With `--schedule steps`, it is retried whenever other threads have run.
     pub fn lock(&self) -> LockResult<MutexGuard<'_, T>> {
         // SAFETY: any thread may call them.
         let mut tries = unsafe { tmwatch_lock_tried() };
@@ -66,7 +66,7 @@ impl<T: ?Sized> Mutex<T> {
         }
     }
 
-    /// As `std::sync::Mutex::try_lock`.
+    /// Like `std::sync::Mutex::try_lock`.
     pub fn try_lock(&self) -> TryLockResult<MutexGuard<'_, T>> {
         // SAFETY: any thread may call it.
         unsafe { tmwatch_lock_tried() };
@@ -77,12 +77,12 @@ impl<T: ?Sized> Mutex<T> {
         }
     }
 
-    /// As `std::sync::Mutex::is_poisoned`.
+    /// Like `std::sync::Mutex::is_poisoned`.
     pub fn is_poisoned(&self) -> bool {
         self.0.is_poisoned()
     }
 
-    /// As `std::sync::Mutex::get_mut`.
+    /// Like `std::sync::Mutex::get_mut`.
     pub fn get_mut(&mut self) -> LockResult<&mut T> {
         self.0.get_mut()
     }
