@@ -8,12 +8,13 @@ static void set_accesses(tmwatch_attempt *a)
     pthread_attr_t of;
     void *stack;
     size_t size;
+    how->has_buffers = &a->bench->steps.has_buffers;
     how->has_plain = a->bench->plan.plain > 0;
     how->draws = ~a->pauses;
     how->own[1] = (uintptr_t)a->tx;
     how->own_end[1] = how->own[1] + a->bench->memory.tx_size;
     if (pthread_getattr_np(pthread_self(), &of) != 0) {
-        stop(a->bench, TMWATCH_MEMORY);
+        stop(a->bench, TMWATCH_NO_MEMORY);
         return;
     }
     pthread_attr_getstack(&of, &stack, &size);
@@ -53,7 +54,7 @@ enum tmwatch_step_waited tmwatch_step_wait(const volatile void *lock, bool is_fo
     s->waiting |= own;
     s->lost |= is_lost ? own : 0;
     s->lock[this_thread->thread] = lock;
-    s->switches++;
+    s->context_switches++;
     let_go(s, next);
     wait_turn(this_thread);
     lock_as_runner(this_thread);

@@ -1,14 +1,14 @@
 #!/usr/bin/env bash
-# Runs the model of C++20's orders in the bench for memories in C by itself: litmus tests, random runs judged by axioms, small programs that
-# have to come to all executions that C++20 allows and to no other, plain accesses; and mistakes planted into it, each of which these have to
-# notice. Then memories by --orders c++.
+# Tests the C++20 memory model of the bench in C by itself: litmus tests, random runs that are judged with axioms, small programs that must
+# reach all executions that C++20 allows and no other, and plain accesses. Then mutates the model, and these tests must kill each mutant.
+# Then runs memories with --orders c++.
 #
 #   tests/orders.sh [--model]
 #
-# With --model the model's own tests run alone: no mistake and no memory. A line for each row. The last one is 'N passed, M failed', and the exit status is 1 if a row failed. Without a C compiler nothing is
-# tested: a line says so, and the status is 0.
-# Environment: CC (cc), BUILT (tests/common.sh), FLAGS (further flags of the compiler: no mistake is then planted, and by -fsanitize=thread
-# nothing runs: the model goes by one thread, and memories are compiled so already).
+# With --model, only the model's own tests run, without mutants and memories. Prints a line for each test case, and 'N passed, M failed' as
+# the last line. The exit status is 1 if a test case failed. Without a C compiler, nothing is tested: a line says so, and the status is 0.
+# Environment: CC (cc), BUILT (tests/common.sh), FLAGS (additional flags of the compiler: then there are no mutants; with -fsanitize=thread
+# nothing runs, because the model uses a single thread, and the memories are compiled with that flag anyway).
 set -eu
 # shellcheck source=tests/common.sh
 . "$(dirname "${BASH_SOURCE[0]}")/common.sh"
@@ -38,6 +38,11 @@ ends 'random runs' 0 "$folder/models/random" 50000
 ends 'all executions of small programs' 0 "$folder/models/exact" 2000
 ends 'plain accesses, and others that are not simulated' 0 "$folder/models/plain"
 ends 'delayed loads' 0 "$folder/models/delayed"
+if has_thread_sanitizer "$cc" 'what is told while a thread goes on'; then
+    ends 'what is told while a thread goes on, compiled' 0 "$cc" -std=c11 -g -O1 -pthread -fsanitize=thread -Wno-tsan "-I$top/include" \
+        -o "$folder/models/late" "$folder/tests/orders/late.c"
+    ends 'what is told while a thread goes on' 0 env TSAN_OPTIONS=halt_on_error=1 "$folder/models/late"
+fi
 noticing=(litmus plain 'exact 300' 'random 20000')
 if has addr2line 'what is told'; then
     noticing=(told "${noticing[@]}")
@@ -186,11 +191,18 @@ mistake 'what came after the violation is told' findings.c 's/it->event < from |
 mistake 'what came before the round is told' findings.c 's/it->event < from || it->event >= to/it->event >= to/'
 mistake 'what came after the violation is counted' findings.c 's/other->event < from || other->event >= to || /other->event < from || /'
 mistake 'the same is told again' findings.c 's/        if (found != i)/        if (false)/'
-mistake 'a store too few is missed' findings.c 's/(unsigned)it->newer - 1)/(unsigned)it->newer)/'
+mistake 'a store too few is missed' findings.c 's/(unsigned)it->newer - 1,/(unsigned)it->newer,/'
 mistake 'a late store is a stale load' findings.c 's/it->kind == STALE_LOAD ? "  stale/true ? "  stale/'
-mistake 'what is not simulated is told of a right run' findings.c 's/!is_wrong || !o->unseen\[i\]/!o->unseen[i]/'
+mistake 'what is not simulated is told of a right run' findings.c 's/!is_wrong || !o->untracked_at\[i\]/!o->untracked_at[i]/'
 mistake 'the last race is told' races.c 's/if (!a->orders->has_race)$/if (true)/;s/ \&\& !a->orders->has_race; i++/; i++/'
 mistake 'an address is one call later' lines.c 's/(uintptr_t)address - 1/(uintptr_t)address/'
+mistake 'an acquire fence is no half' model.c 's/is_acquired |= acquires(a->order)/is_acquired |= false/'
+mistake 'a release is no half' findings.c 's/it->is_released = .*/it->is_released = false;/'
+mistake 'stores are buffered over two attempts of who is missed' findings.c 's/ \&\& read->attempt == missed->attempt//'
+mistake 'stores are buffered over two attempts of who misses' findings.c 's/ \&\& own->attempt == .*)$/)/'
+mistake 'a load before its store is buffered' findings.c 's/ \&\& read->step > missed->seen.at\[other\]//'
+mistake 'what was seen is missed' findings.c 's/ \&\& it->stores\[k - 1\].seen.at\[other\] - 1 >= read->step//'
+mistake 'of two patterns both are told' findings.c 's/(cures & (cures - 1)) == 0 ? cures : 0/cures/'
 mistake 'the line is the function' lines.c 's/folder ? folder + 1 : line, function/folder ? folder + 1 : line, line/'
 noticing=(delayed)
 mistake 'a load that acquires is delayed' delayed.c 's/ \&\& a->order == RELAXED//'
@@ -241,7 +253,7 @@ for name in tl2:5 norec:7 sequence:2 undo:2 versions:1 readers:3 two_phase:2 roo
     memory=${name%:*}
     marked right "memories/$memory"
     ends "$memory" 0 "$folder/right" --schedule steps --orders c++ --rounds 1000
-    has_told "$memory: rescues" '"rescues":0,'
+    has_told "$memory: no stall" '"stalls":0,'
     ends "$memory: no delayed load" 1 grep delayed "$folder/told"
     marked wrong "memories/$memory" "-DWRONG=${name#*:}"
     ends "$memory, too weak" 1 "$folder/wrong" --schedule steps --orders c++
@@ -292,8 +304,8 @@ ends 'tests/c/bench_readers, an acquire in place of seq_cst' 1 "$folder/wrong" -
 marked wrong memories/sequence -DWRONG=4
 ends 'a weak order, by default' 1 "$folder/wrong" --trace "$folder/one"
 cp "$folder/output" "$folder/told"
-read -r -a words < <(sed -n 's/^{"again":"\(.*\)","certain":true}$/\1/p' "$folder/told") || true
-ends 'a weak order: the words that make it again' 0 test "${#words[@]}" -ge 4
+read -r -a words < <(sed -n 's/^{"deterministic":true,"reproduce":"\(.*\)"}$/\1/p' "$folder/told") || true
+ends 'a weak order: the options that reproduce it' 0 test "${#words[@]}" -ge 4
 many=$(processors)
 for on in "${many%%[-,]*}" "$many"; do
     ends "a weak order, again on $on" 1 taskset -c "$on" "$folder/wrong" "${words[@]}" --trace "$folder/two"
@@ -305,18 +317,48 @@ line_of() {
 }
 mkdir -p "$folder/none"
 if has addr2line 'lines of the source'; then
-    ends 'a weak order: the lines' 0 grep -qE "^  stale load: thread [0-3] at sequence.c:$(line_of 'DATA_LOAD)') \(read\) does not see the \
-store of thread [0-3] at sequence.c:$(line_of 'it->written.reg., DATA_STORE') \(commit\)" "$folder/told"
+    ends 'a weak order: the lines' 0 grep -qE "^  stale load: thread [0-3] at sequence.c:$(line_of 'DATA_LOAD)') \(read\) missed \
+thread [0-3]'s store at sequence.c:$(line_of 'it->written.reg., DATA_STORE') \(commit\)" "$folder/told"
 fi
 marked fenceless memories/sequence -DWRONG=2
 ends 'a fence that is missing' 1 "$folder/fenceless" --schedule steps --orders c++
 cp "$folder/output" "$folder/lines"
 if has addr2line 'lines of the source'; then
-    ends 'a fence that is missing: between which lines' 0 grep -qE "^    though it has read, at sequence.c:$(line_of 'DATA_LOAD)') \\(read\\), what \
-that thread stored later, at sequence.c:$(line_of 'it->written.reg., DATA_STORE') \\(commit\\)" "$folder/lines"
+    ends 'a fence that is missing: between which lines' 0 grep -qE "^    although thread [0-3] had already seen thread [0-3]'s later store at \
+sequence.c:$(line_of 'it->written.reg., DATA_STORE') \\(commit\\), at sequence.c:$(line_of 'DATA_LOAD)') \\(read\\)" "$folder/lines"
 fi
 ends 'a weak order, without addr2line' 1 env "PATH=$folder/none" "$folder/wrong" "${words[@]}"
-has_told 'a weak order, without addr2line: the address' -E '^  stale load: thread [0-3] at 0x[0-9a-f]+ does not see the store of thread [0-3]'
+has_told 'a weak order, without addr2line: the address' -E "^  stale load: thread [0-3] at 0x[0-9a-f]+ missed thread [0-3]'s store"
+
+# Which pattern it is: what is told of five seeds is right, or that isn't clear; and with that cure a memory stays opaque.
+told_cures() {
+    local seed
+    for seed in {1..5}; do
+        "$folder/wrong" --schedule steps --orders c++ --seed "$seed" 2>&1 | grep -E '^    (message passing|store buffering):' || true
+    done
+    return 1
+}
+stays_cured() {
+    local seed
+    for seed in {1..20}; do
+        "$folder/right" --schedule steps --orders c++ --rounds 300 --seed "$seed"
+    done
+}
+while IFS='|' read -r memory wrong cured cure; do
+    marked wrong "memories/$memory" "$wrong"
+    ends "$memory $wrong, its pattern" 1 told_cures
+    count "$memory $wrong: what cures it" "$cure" "$(sed 's/thread [0-3]/N/g; s/^ *//' "$folder/output" | sort -u)"
+    read -r -a words <<<"$cured"
+    marked right "memories/$memory" "${words[@]}"
+    ends "$memory $wrong, cured" 0 stays_cured
+done <<'END'
+sequence|-DWRONG=2|-DWRONG=0|message passing: N needs an acquire between its two accesses
+sequence|-DWRONG=3|-DWRONG=0|message passing: N needs a release between its two stores
+sequence|-DDEFAULTS|-DDEFAULTS -DLOADS|message passing: N needs a release between its two stores, and N needs an acquire between its two accesses
+readers|-DWRONG=1|-DWRONG=0|store buffering: both need a full fence between the store and the load
+readers|-DWRONG=3|-DWRONG=0|store buffering: both need a full fence between the store and the load
+hazards|-DWRONG=1|-DWRONG=0|store buffering: both need a full fence between the store and the load
+END
 
 # A load that is delayed past later stores is a remark on an opaque run, with a trace that is violated: the memory, what it lacks, and the
 # lines and functions of the load and the store, of the load after that store, and of the store between.
@@ -327,7 +369,7 @@ ends 'what is made of a delayed load' 0 "$folder/moved"
 has_moved() {
     local at
     at=$("$folder/replay" <"$folder/one.delayed" 2>/dev/null | sed -n '1s/^{"at":\([0-9]*\),.*/\1/p')
-    awk -v thread="$(sed -n 's/^{"delayed":"thread \([0-3]\) .*/\1/p' "$folder/told")" -v at="$at" '
+    awk -v thread="$(sed -n 's/^{.*"delayed":"thread \([0-3]\) .*/\1/p' "$folder/told")" -v at="$at" '
         NR - 1 == at { is_answer = $2 == "V" } NR - 1 >= at && $1 != thread { exit is_answer = 0 } END { exit !is_answer }' "$folder/one.delayed"
 }
 place_of() {
@@ -336,10 +378,11 @@ place_of() {
 while read -r memory wrong load store met_load met_store; do
     marked delayed "memories/$memory" "-DWRONG=$wrong"
     ends "$memory $wrong" 0 "$folder/delayed" --schedule steps --orders c++ --rounds 1000 --trace "$folder/one"
-    has_told "$memory $wrong: a delayed load" -E '^C\+\+20 allows a violation if a load is delayed past later stores: thread'
+    has_told "$memory $wrong: a delayed load" -E '^warning: C\+\+20 allows a violation if a load is delayed past later stores: thread'
     if has addr2line 'lines of the source'; then
-        ends "$memory $wrong: its lines" 0 grep -qE "^\{\"delayed\":\"thread [0-3] loads at $(place_of "$load"), thread [0-3] stores at \
-$(place_of "$store"), though it has read, at $(place_of "$met_load"), what that thread stored later, at $(place_of "$met_store")\",\"foreign\":" \
+        ends "$memory $wrong: its lines" 0 grep -qE "^\{\"context_switches\":[0-9]+,\"delayed\":\"thread [0-3] loads atomically at $(place_of "$load"), \
+thread [0-3] stores atomically at $(place_of "$store"), although thread [0-3] had already seen thread [0-3]'s later store at $(place_of "$met_store"), at \
+$(place_of "$met_load"): load buffering, so thread [0-3] needs a release and thread [0-3] an acquire between its two accesses\",\"max_interleaved_commits\":" \
             "$folder/told"
     fi
     ends "$memory $wrong: its trace is violated" 1 "$folder/replay" <"$folder/one.delayed"
@@ -370,7 +413,7 @@ tells() {
 marked right memories/readers -DWRONG=6 -DTELLS
 ends 'a run that is made again' 0 tells 'with a child' --orders c++
 ends 'a run that is not made again' 0 tells 'without a child' --orders sequential
-ends 'a run of sequential first legs is not made again' 0 tells 'without a child' --schedule all
+ends 'a run of sequential first phases is not made again' 0 tells 'without a child' --schedule all
 ends 'a run that may crash is not made again' 0 tells 'without a child' --orders c++ --crashes
 marked right memories/readers -DWRONG=6 -DTELLS=2
 ends 'a delayed load, and then a race' 0 "$folder/right" --schedule steps --orders c++ --rounds 1000
@@ -396,7 +439,7 @@ ends 'plain data under a lock: no race' 1 grep race "$folder/told"
 marked wrong memories/global -DLOCK=MCS -DWRONG=4 -DPLAIN
 ends 'plain data under a weak lock' 0 "$folder/wrong" --schedule steps --orders c++ --rounds 500
 has_told 'plain data under a weak lock: the race' -E \
-    '^a race, .*: thread [0-3] (loads|stores) plainly at [^ ]+ \([a-z]+\), thread [0-3] (loads|stores) plainly at'
+    '^data race \(undefined behaviour in C\+\+20\): thread [0-3] (reads|writes) at [^ ]+ \([a-z]+\), thread [0-3] (reads|writes) at'
 
 # Of a block that is given back and taken by another thread nothing is left, whether or not that is shown.
 whole=("${link[@]}")
@@ -410,27 +453,33 @@ done
 link=("${whole[@]}")
 marked wrong memories/global -DLOCK=MCS -DWRONG=4 -DHEAP
 ends 'blocks of the heap under a weak lock' 0 "$folder/wrong" --schedule steps --orders c++ --rounds 500
-has_told 'blocks of the heap under a weak lock: the race' '^a race, '
+has_told 'blocks of the heap under a weak lock: the race' '^data race '
 
 # A memory that never returns tells it too.
 marked wrong memories/global -DLOCK=MCS -DWRONG=12
-ends 'a lost hand-over' 4 "$folder/wrong" --schedule steps --orders c++ --patience 1
+ends 'a lost hand-over' 4 "$folder/wrong" --schedule steps --orders c++ --timeout 1
 has_told 'a lost hand-over: the order' -E '^  (stale load|late store): thread [0-3] at '
 
 # What isn't marked is named, where it is met.
 marked unmarked unmarked -DKIND=STORES
 ends 'an unlock by inline assembly' 2 "$folder/unmarked" --schedule steps --orders c++
-has_told 'an unlock by inline assembly: what is told' '^code that the compiler has not marked, or .* stores to what is loaded at .*may be false$'
+has_told 'an unlock by inline assembly: what is told' '^warning: code that the compiler has not marked, or .* stores to what is loaded at .*may be false$'
 ends 'an unlock by inline assembly, right so far' 0 "$folder/unmarked" --schedule steps --orders c++ --rounds 12
-has_told 'an unlock by inline assembly, right so far: the report' '"unseen":\["stores"'
+has_told 'an unlock by inline assembly, right so far: the report' '"untracked":\["stores"'
 ends 'an unlock by inline assembly, right so far: no line' 1 grep 'may be false' "$folder/told"
 marked unmarked unmarked -DKIND=FUTEX
-ends 'a lock by inline assembly' 2 "$folder/unmarked" --schedule steps --orders c++
-has_told 'a lock by inline assembly: what is told' '^a lock or a wait of code that the compiler has not marked, in .*may be false$'
+if has objdump 'a lock by inline assembly'; then
+    ends 'a lock by inline assembly' 0 "$folder/unmarked" --schedule steps --orders c++ --rounds 1000
+    has_told 'a lock by inline assembly: what is told' -E '^warning: the x86 and C\+\+20 memory models were not tested, because unmarked code in (begin|exchange_unmarked) locks '
+    cp "$folder/told" "$folder/output"
+    has_told 'a lock by inline assembly: the report' '"untracked":\["locks"\]}'
+fi
+ends 'a lock by inline assembly, without objdump' 2 env "PATH=$folder/none" "$folder/unmarked" --schedule steps --orders c++
+has_told 'a lock by inline assembly, without objdump: what is told' '^warning: a lock or a wait of code that the compiler has not marked, in .*may be false$'
 link=("${link[@]:1}")
 marked unseen memories/global -DLOCK=MUTEX
 ends 'a mutex that is not wrapped' 4 "$folder/unseen" --schedule steps --orders c++
-has_told 'a mutex that is not wrapped: what is told' "^--orders: the program takes locks that the linker hasn't wrapped"
+has_told 'a mutex that is not wrapped: what is told' "^--orders: locks are not wrapped\. Link with 'pkg-config --libs tmwatch_steps'$"
 
 # What orders transactions, and what shows locks, is needed: without it right memories come out violated.
 planted() {
@@ -454,6 +503,6 @@ link=("$waits" "$blocks" "$folder/lib/libtmwatch_steps.a" "$folder/lib/libtmwatc
 marked two two_benches
 ends 'two benches at once' 0 "$folder/two"
 ends 'orders by rounds' 4 "$folder/wrong" --schedule rounds --orders c++
-has_told 'orders by rounds: why' '^--orders: by steps alone$'
+has_told 'orders by rounds: why' '^--orders: only with --schedule steps or all$'
 ends 'other orders' 4 "$folder/wrong" --orders arm
 end_rows

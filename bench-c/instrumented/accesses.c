@@ -1,50 +1,47 @@
-/* A step at each access of a memory that its compiler has marked by -fsanitize=thread and that is linked without that sanitizer: no pause
-   has to be placed by hand. The compiler calls the functions here in place of each atomic access, and before each other one. By the orders of
-   C++20, orders.c says what each does.
+/* A step at each access of a memory that is compiled with -fsanitize=thread and linked without that sanitizer, so that no pause is placed by hand.
+   The compiler calls these functions in place of each atomic access, and before each plain one. For the C++20 memory model see orders.c.
 
-   With drawn buffers, an atomic store that isn't sequentially consistent may stay in its thread's buffer for some steps, as in the store
-   buffers of x86 (Sewell, Sarkar, Owens, Zappa Nardelli and Myreen, CACM 2010): the stores of a thread come out in their order, a read of
-   the thread sees them, and they are out before a read-modify-write, a sequentially consistent store or fence, a plain store to what other
-   threads may see, and each recorded event. Loads aren't reordered. Of a thread's own bytes nothing is buffered, since what is stored to
-   them without a mark, as at the end of a function, would be overtaken; nor of a block that may be given back unseen. */
+   With store buffers as on x86 (Sewell, Sarkar, Owens, Zappa Nardelli and Myreen, CACM 2010), an atomic store that isn't sequentially consistent
+   may remain in its thread's buffer for some steps. A thread's stores come out in order, and its reads see them. All are out before a
+   read-modify-write, a sequentially consistent store or fence, a plain store that other threads may see, a yield, a wrapped call that may wait,
+   and each recorded event. Loads aren't reordered. Nothing is buffered of a thread's own bytes, because unmarked stores to them, as at the end of
+   a function, would overtake it; nor of a block that may be freed untracked. */
 #include "step.h"
 #include <string.h>
 
-enum { BUFFERED = 8, SEQUENTIAL = __ATOMIC_SEQ_CST };
+enum { SEQUENTIAL = __ATOMIC_SEQ_CST };
 
-/* What is stored and not out yet, and the store of its size. */
-struct stored {
-    void (*put)(uintptr_t to, uint64_t value);
-    uintptr_t to;
-    uint64_t value;
-    unsigned bytes;
-};
-
-static _Thread_local struct stored buffer[BUFFERED];
-static _Thread_local unsigned buffered;
-
-static void drain_one(void)
+static void lock_buffer(tmwatch_step_how *how)
 {
-    buffer[0].put(buffer[0].to, buffer[0].value);
-    memmove(buffer, buffer + 1, --buffered * sizeof buffer[0]);
+    while (atomic_exchange(&how->is_locked, true))
+        ;
+}
+
+/* So many stores come out, the oldest first. The buffer is locked. */
+static void put_out(tmwatch_step_how *how, unsigned count)
+{
+    struct tmwatch_delayed_store *all = how->buffer;
+    for (unsigned i = 0; i < count; i++)
+        all[i].put(all[i].to, all[i].value);
+    memmove(all, all + count, (how->buffered - count) * sizeof all[0]);
+    how->buffered -= count;
+}
+
+/* At one step in eight the oldest store comes out, and at a yield or a sleep all: before the step, because others run there. */
+void tmwatch_step_drain_of(tmwatch_step_how *how, unsigned pauses)
+{
+    if (!how || how->buffered == 0)
+        return;
+    if (pauses > 0)
+        how->draws = how->draws * UINT64_C(6364136223846793005) + UINT64_C(1442695040888963407);
+    lock_buffer(how);
+    put_out(how, pauses != 1 ? how->buffered : how->buffered > 0 && how->draws >> 61 == 0);
+    how->is_locked = false;
 }
 
 void tmwatch_step_drain(void)
 {
-    while (buffered > 0)
-        drain_one();
-}
-
-/* A step, at which one store in four comes out. */
-TMWATCH_PART void at_step(void)
-{
-    tmwatch_step_how *how = tmwatch_step_accesses();
-    tmwatch_step_at(TMWATCH_CALLER, 1);
-    if (buffered == 0 || !how)
-        return;
-    how->draws = how->draws * UINT64_C(6364136223846793005) + UINT64_C(1442695040888963407);
-    if (how->draws >> 62 == 0)
-        drain_one();
+    tmwatch_step_drain_of(tmwatch_step_accesses(), 0);
 }
 
 static bool is_own(const tmwatch_step_how *how, const volatile void *at)
@@ -62,35 +59,48 @@ static bool is_lasting(const volatile void *at)
     return tmwatch_step_sees_free() || (it >= (uintptr_t)&__data_start && it < (uintptr_t)&_end);
 }
 
-/* Whether a store of this order is buffered. */
-static bool is_buffered(const volatile void *at, int order)
+/* Buffers a store of this order if it may be delayed: whether it is. Otherwise all that was stored before comes out. */
+static bool is_buffered(struct tmwatch_delayed_store it, int order)
 {
     tmwatch_step_how *how = tmwatch_step_accesses();
-    if (!how || !how->has_buffers || order == SEQUENTIAL || is_own(how, at))
+    const void *at = (const void *)it.to;
+    if (!how)
         return false;
-    how->is_undelayed = how->is_undelayed || !is_lasting(at);
-    return is_lasting(at);
+    lock_buffer(how);
+    bool is_weak = *how->has_buffers && order != SEQUENTIAL && !is_own(how, at), is_delayed = is_weak && is_lasting(at);
+    if (is_weak != is_delayed)
+        how->is_undelayed = true;
+    put_out(how, is_delayed ? how->buffered == TMWATCH_BUFFERED : how->buffered);
+    if (is_delayed)
+        how->buffer[how->buffered++] = it;
+    how->is_locked = false;
+    return is_delayed;
 }
 
 /* Whether the thread's newest store to these bytes is not out, and then its value. If another one overlaps them, all comes out. */
 static bool is_forwarded(const volatile void *at, unsigned bytes, uint64_t *value)
 {
+    tmwatch_step_how *how = tmwatch_step_accesses();
     uintptr_t from = (uintptr_t)at;
-    unsigned i = buffered;
-    while (i > 0 && (buffer[i - 1].to + buffer[i - 1].bytes <= from || from + bytes <= buffer[i - 1].to))
-        i--;
-    bool is_same = i > 0 && buffer[i - 1].to == from && buffer[i - 1].bytes == bytes;
+    if (!how || how->buffered == 0)
+        return false;
+    lock_buffer(how);
+    const struct tmwatch_delayed_store *end = how->buffer + how->buffered;
+    while (end > how->buffer && (end[-1].to + end[-1].bytes <= from || from + bytes <= end[-1].to))
+        end--;
+    bool overlaps = end > how->buffer, is_same = overlaps && end[-1].to == from && end[-1].bytes == bytes;
     if (is_same)
-        *value = buffer[i - 1].value;
-    else if (i > 0)
-        tmwatch_step_drain();
+        *value = end[-1].value;
+    else if (overlaps)
+        put_out(how, how->buffered);
+    how->is_locked = false;
     return is_same;
 }
 
 /* A step, and the access that is made there in the program: its orders are null if it isn't simulated. */
 TMWATCH_PART tmwatch_access step_to(const volatile void *at, unsigned bytes, int order)
 {
-    at_step();
+    tmwatch_step_at(TMWATCH_CALLER, 1);
     return (tmwatch_access){tmwatch_step_orders(), tmwatch_thread(), TMWATCH_CALLER, at, bytes, order};
 }
 
@@ -103,7 +113,7 @@ TMWATCH_PART void before_plain(const void *at, size_t bytes, bool is_volatile, b
     if (!how || (!is_seen && !stores))
         return;
     if (is_seen && (is_volatile || how->has_plain))
-        at_step();
+        tmwatch_step_at(TMWATCH_CALLER, 1);
     tmwatch_access access = {tmwatch_step_orders(), tmwatch_thread(), TMWATCH_CALLER, at, 0, 0};
     if (access.orders)
         tmwatch_orders_plain(&access, bytes, stores, is_seen && is_lasting(at));
@@ -190,42 +200,36 @@ void *__tsan_memset(void *to, int byte, size_t bytes)
     {                                                                                                                   \
         return compare_##bits(at, held, value, order, failed, is_weak);                                                 \
     }
-#define ATOMICS(bits, type)                                                                            \
-    static void put_##bits(uintptr_t to, uint64_t value)                                               \
-    {                                                                                                  \
-        __atomic_store_n((type *)to, (type)value, SEQUENTIAL);                                         \
-    }                                                                                                  \
-    type __tsan_atomic##bits##_load(const volatile type *at, int order)                                \
-    {                                                                                                  \
-        uint64_t value;                                                                                \
-        tmwatch_access access = step_to(at, sizeof(type), order);                                      \
-        if (access.orders)                                                                             \
-            return (type)tmwatch_orders_load(&access);                                                 \
-        return is_forwarded(at, sizeof(type), &value) ? (type)value : __atomic_load_n(at, SEQUENTIAL); \
-    }                                                                                                  \
-    void __tsan_atomic##bits##_store(volatile type *at, type value, int order)                         \
-    {                                                                                                  \
-        tmwatch_access access = step_to(at, sizeof(type), order);                                      \
-        if (access.orders && !tmwatch_orders_store(&access, value))                                    \
-            return;                                                                                    \
-        if (is_buffered(at, order)) {                                                                  \
-            if (buffered == BUFFERED)                                                                  \
-                drain_one();                                                                           \
-            buffer[buffered++] = (struct stored){put_##bits, (uintptr_t)at, value, sizeof(type)};      \
-            return;                                                                                    \
-        }                                                                                              \
-        tmwatch_step_drain();                                                                          \
-        __atomic_store_n(at, value, SEQUENTIAL);                                                       \
-    }                                                                                                  \
-    CHANGE(bits, type, exchange, __atomic_exchange_n)                                                  \
-    CHANGE(bits, type, fetch_add, __atomic_fetch_add)                                                  \
-    CHANGE(bits, type, fetch_sub, __atomic_fetch_sub)                                                  \
-    CHANGE(bits, type, fetch_and, __atomic_fetch_and)                                                  \
-    CHANGE(bits, type, fetch_or, __atomic_fetch_or)                                                    \
-    CHANGE(bits, type, fetch_xor, __atomic_fetch_xor)                                                  \
-    CHANGE(bits, type, fetch_nand, __atomic_fetch_nand)                                                \
-    COMPARES(bits, type)                                                                               \
-    COMPARE(bits, type, strong, false)                                                                 \
+#define ATOMICS(bits, type)                                                                                      \
+    static void put_##bits(uintptr_t to, uint64_t value)                                                         \
+    {                                                                                                            \
+        __atomic_store_n((type *)to, (type)value, SEQUENTIAL);                                                   \
+    }                                                                                                            \
+    type __tsan_atomic##bits##_load(const volatile type *at, int order)                                          \
+    {                                                                                                            \
+        uint64_t value;                                                                                          \
+        tmwatch_access access = step_to(at, sizeof(type), order);                                                \
+        if (access.orders)                                                                                       \
+            return (type)tmwatch_orders_load(&access);                                                           \
+        return is_forwarded(at, sizeof(type), &value) ? (type)value : __atomic_load_n(at, SEQUENTIAL);           \
+    }                                                                                                            \
+    void __tsan_atomic##bits##_store(volatile type *at, type value, int order)                                   \
+    {                                                                                                            \
+        tmwatch_access access = step_to(at, sizeof(type), order);                                                \
+        if (access.orders && !tmwatch_orders_store(&access, value))                                              \
+            return;                                                                                              \
+        if (!is_buffered((struct tmwatch_delayed_store){put_##bits, (uintptr_t)at, value, sizeof(type)}, order)) \
+            __atomic_store_n(at, value, SEQUENTIAL);                                                             \
+    }                                                                                                            \
+    CHANGE(bits, type, exchange, __atomic_exchange_n)                                                            \
+    CHANGE(bits, type, fetch_add, __atomic_fetch_add)                                                            \
+    CHANGE(bits, type, fetch_sub, __atomic_fetch_sub)                                                            \
+    CHANGE(bits, type, fetch_and, __atomic_fetch_and)                                                            \
+    CHANGE(bits, type, fetch_or, __atomic_fetch_or)                                                              \
+    CHANGE(bits, type, fetch_xor, __atomic_fetch_xor)                                                            \
+    CHANGE(bits, type, fetch_nand, __atomic_fetch_nand)                                                          \
+    COMPARES(bits, type)                                                                                         \
+    COMPARE(bits, type, strong, false)                                                                           \
     COMPARE(bits, type, weak, true)
 ATOMICS(8, uint8_t)
 ATOMICS(16, uint16_t)

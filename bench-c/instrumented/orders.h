@@ -53,7 +53,7 @@ void tmwatch_orders_change(const tmwatch_access *access, uint64_t value);
 
 void tmwatch_orders_fence(const tmwatch_access *access);
 
-/* A plain access: whether it races, unless its bytes may be given back unseen. A store ends the history of its places. */
+/* A plain access: whether it races, unless its bytes may be given back untracked. A store ends the history of its places. */
 void tmwatch_orders_plain(const tmwatch_access *access, size_t bytes, bool stores, bool is_lasting);
 
 /* An access of 16 bytes: it acquires and releases, also what its halves do, and their histories end. */
@@ -81,14 +81,18 @@ WEAK void tmwatch_orders_unlocks(tmwatch_simulation *orders, unsigned thread, co
 /* These bytes are about to be another object's, or to be stored by code that isn't marked: nothing of them is kept. */
 WEAK void tmwatch_orders_forget(tmwatch_simulation *orders, const volatile void *at, size_t bytes);
 
-/* The system is asked to wait for this word, or to wake who does: if no marked access is of it, a lock orders threads unseen. */
+/* The system is asked to wait for this word, or to wake who does: if no marked access is of it, a lock orders threads untracked. */
 WEAK void tmwatch_orders_futex(tmwatch_simulation *orders, const volatile void *word, const void *caller);
+
+/* A function of the memory's own that orders threads by what the compiler hasn't marked; or null. */
+struct tmwatch_memory;
+WEAK const char *tmwatch_orders_unmarked(const struct tmwatch_memory *memory);
 
 /* Tells where in the program loads did not return the newest value, from this length of the record to that, and what they missed. */
 WEAK void tmwatch_orders_tell(const tmwatch_simulation *orders, FILE *file, uint64_t from, uint64_t to);
 
 /* Tells the first race of plain accesses, if there is one, or a delayed load, in so many bytes without a quote; and, of a run that is wrong,
-   what was met that isn't simulated, which bits of tmwatch_unseen say too. */
+   what was met that isn't simulated, which bits of tmwatch_untracked say too. */
 WEAK void tmwatch_orders_tell_race(const tmwatch_simulation *orders, char *text, size_t size);
 WEAK void tmwatch_orders_tell_delay(const tmwatch_delay *delay, char *text, size_t size);
-WEAK uint64_t tmwatch_orders_tell_unseen(const tmwatch_simulation *orders, FILE *file, bool is_wrong);
+WEAK uint64_t tmwatch_orders_tell_untracked(const tmwatch_simulation *orders, FILE *file, bool is_wrong);

@@ -2,12 +2,25 @@
 #include "orders.h"
 #include "tmwatch_bench.h"
 
-/* How a thread's accesses are made. */
+/* A delayed store: `put` stores so many bytes. */
+struct tmwatch_delayed_store {
+    void (*put)(uintptr_t to, uint64_t value);
+    uintptr_t to;
+    uint64_t value;
+    unsigned bytes;
+};
+
+/* How a thread's accesses are made. Its store buffer has a lock, because the watchdog drains it if the thread is blocked. */
+enum { TMWATCH_BUFFERED = 8 };
 typedef struct tmwatch_step_how {
-    bool has_buffers, has_plain; /* stores are buffered; plain accesses are steps too */
-    bool is_undelayed;           /* a store wasn't buffered, since nothing says when its block is given back */
+    const atomic_bool *has_buffers; /* stores may be delayed now */
+    bool has_plain;                 /* plain accesses are steps too */
+    atomic_bool is_undelayed;       /* a store wasn't buffered, since nothing says when its block is given back */
     uint64_t draws;
     uintptr_t own[2], own_end[2]; /* the thread's stack, and its transaction's bytes */
+    atomic_bool is_locked;
+    atomic_uint buffered; /* the thread alone adds */
+    struct tmwatch_delayed_store buffer[TMWATCH_BUFFERED];
 } tmwatch_step_how;
 
 /* A step of this thread, with so many pauses, which returns to that place; and the place that the function here returns to. */
@@ -22,8 +35,10 @@ void tmwatch_step_at(const void *caller, unsigned pauses);
 /* This thread's, or null if it isn't one of a bench. */
 tmwatch_step_how *tmwatch_step_accesses(void);
 
-/* Of libtmwatch_steps.a, if that is linked: what a thread has stored comes out. */
+/* In libtmwatch_steps.a, if that is linked. All delayed stores of this thread come out; or of a thread those that do before a step with so many
+   pauses, or by 0 all. */
 extern void tmwatch_step_drain(void) __attribute__((weak));
+extern void tmwatch_step_drain_of(tmwatch_step_how *how, unsigned pauses) __attribute__((weak));
 
 /* Whether block_frees.c sees that a block is given back. */
 bool tmwatch_step_sees_free(void);

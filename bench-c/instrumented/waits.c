@@ -1,6 +1,6 @@
-/* By steps, what a thread waits for: a lock, a condition, what another makes once, a barrier, a time, a yield, and a futex, as of Rust's
-   locks. Without these, only the watchdog sees that it waits. A program calls them in place of the C library's if it is linked with -Wl,--wrap=
-   and the names of packaging/wrapped.txt. Each is a step, and what the thread has stored is out before. A lock acquires what it released. */
+/* Waiting with the schedule `steps`: for a lock, a condition, what another thread makes once, a barrier, a time, a yield, and a futex, as Rust's
+   locks do. Without these functions only the watchdog sees that a thread waits. A program calls them in place of the C library's if it is linked
+   with -Wl,--wrap= and the names of packaging/wrapped.txt. Each is a step, and all delayed stores come out before. */
 #define _GNU_SOURCE
 #include "step.h"
 #include <errno.h>
@@ -169,7 +169,7 @@ STEPPED(int, return, cnd_timedwait, (condition, mutex, until), await_signal_c11(
 STEPPED(void, , _ZNSt18condition_variable4waitERSt11unique_lockISt5mutexE, (condition, lock), await_signal(condition, *lock, 0),
         pthread_cond_t *condition, pthread_mutex_t **lock)
 
-/* A signal to one that waits, or to all. Those that wait unseen get it too. */
+/* A signal to one that waits, or to all. Those that wait untracked get it too. */
 #define SIGNAL(type, returns, name, condition_type, is_to_one) \
     WRAPPED(type, name, condition_type *condition)             \
     {                                                          \
@@ -185,7 +185,7 @@ SIGNAL(void, , _ZNSt18condition_variable10notify_oneEv, pthread_cond_t, true)
 SIGNAL(void, , _ZNSt18condition_variable10notify_allEv, pthread_cond_t, false)
 
 /* What is being made once: others wait meanwhile, and acquire what was made. One thread runs at a time, so that nothing guards the table. What
-   finds no room there shares the last place, and may be waited for unseen. What has thrown leaves its place, and its control at 0. */
+   finds no room there shares the last place, and may be waited for untracked. What has thrown leaves its place, and its control at 0. */
 enum { MOST_MADE = 16 };
 static const void *made_now[MOST_MADE + 1];
 
@@ -250,18 +250,57 @@ WRAPPED(int, __cxa_guard_acquire, uint64_t *guard)
         end_making(guard, false);
     return is_own;
 }
-#define GUARD(name, is_made)                                                      \
-    WRAPPED(void, name, uint64_t *guard)                                          \
-    {                                                                             \
-        bool is_run = is_stepped();                                               \
-        if (is_run && is_made && __tsan_atomic8_store)                            \
-            __tsan_atomic8_store((volatile uint8_t *)guard, 1, __ATOMIC_RELEASE); \
-        __real_##name(guard);                                                     \
-        if (is_run)                                                               \
-            end_making(guard, true);                                              \
+#define LEAVE(name, at, given, is_marked, ...)                                 \
+    WRAPPED(void, name, __VA_ARGS__)                                           \
+    {                                                                          \
+        bool is_run = is_stepped();                                            \
+        if (is_run && is_marked && __tsan_atomic8_store)                       \
+            __tsan_atomic8_store((volatile uint8_t *)at, 1, __ATOMIC_RELEASE); \
+        __real_##name given;                                                   \
+        if (is_run) {                                                          \
+            end_making(at, true);                                              \
+            tmwatch_step_at(TMWATCH_CALLER, 1);                                \
+        }                                                                      \
     }
-GUARD(__cxa_guard_release, true)
-GUARD(__cxa_guard_abort, false)
+LEAVE(__cxa_guard_release, guard, (guard), true, uint64_t *guard)
+LEAVE(__cxa_guard_abort, guard, (guard), false, uint64_t *guard)
+
+/* OpenMP's critical sections, as GCC and Clang call them, can't be tried: others wait as for what is made once. The try of an OpenMP lock
+   returns how often the thread has it then, or 0. */
+#define SECTION(start, end, at, given, ...) \
+    WRAPPED(void, start, __VA_ARGS__)       \
+    {                                       \
+        if (is_stepped())                   \
+            begin_making(at);               \
+        __real_##start given;               \
+        has_locked(0, at, false);           \
+    }                                       \
+    LEAVE(end, at, given, false, __VA_ARGS__)
+#define OPENMP_LOCK(name, test_name, unset_name)        \
+    WRAPPED(int, test_name, void *lock)                 \
+    {                                                   \
+        is_stepped();                                   \
+        int times = __real_##test_name(lock);           \
+        has_locked(times > 0 ? 0 : EBUSY, lock, false); \
+        return times;                                   \
+    }                                                   \
+    WRAPPED(void, name, void *lock)                     \
+    {                                                   \
+        bool tries = is_stepped();                      \
+        while (tries && __real_##test_name(lock) <= 0)  \
+            tries = tmwatch_lock_awaited(lock);         \
+        if (!tries)                                     \
+            __real_##name(lock);                        \
+        has_locked(0, lock, false);                     \
+    }                                                   \
+    LEAVE(unset_name, lock, (lock), false, void *lock)
+static int critical = 1, indivisible = 1;
+OPENMP_LOCK(omp_set_lock, omp_test_lock, omp_unset_lock)
+OPENMP_LOCK(omp_set_nest_lock, omp_test_nest_lock, omp_unset_nest_lock)
+SECTION(GOMP_critical_start, GOMP_critical_end, &critical, (), void)
+SECTION(GOMP_critical_name_start, GOMP_critical_name_end, name, (name), void **name)
+SECTION(GOMP_atomic_start, GOMP_atomic_end, &indivisible, (), void)
+SECTION(__kmpc_critical, __kmpc_end_critical, name, (at, thread, name), void *at, int thread, void *name)
 
 /* A barrier orders all that meet there. The C library waits: a thread of the memory's own has to come, or no transaction would end alone. */
 WRAPPED(int, pthread_barrier_wait, pthread_barrier_t *barrier)
@@ -307,12 +346,28 @@ long __wrap_syscall(long number, long first, long what, long third, long fourth,
     return 0;
 }
 
+/* Calls by which threads may wait for each other, or wake each other, untracked: no steps, but what the thread has stored is out before. Each
+   passes six words on, so that a program's own function of such a name gets what it is given. */
+#define CALL(name)                                                                               \
+    __attribute__((weak)) long __real_##name(long, long, long, long, long, long);                \
+    long __wrap_##name(long first, long second, long third, long fourth, long fifth, long sixth) \
+    {                                                                                            \
+        if (tmwatch_step_drain)                                                                  \
+            tmwatch_step_drain();                                                                \
+        return __real_##name(first, second, third, fourth, fifth, sixth);                        \
+    } /* clang-format off */
+CALL(read) CALL(readv) CALL(recv) CALL(recvfrom) CALL(recvmsg) CALL(__read_chk) CALL(__recv_chk) CALL(eventfd_read)
+CALL(write) CALL(writev) CALL(send) CALL(sendto) CALL(sendmsg) CALL(eventfd_write)
+CALL(poll) CALL(ppoll) CALL(__poll_chk) CALL(select) CALL(pselect) CALL(epoll_wait)
+
 /* What links the program, or the library that has the bench in it, as it is loaded. (This file's own symbols are weak.) */
-extern ElfW(Dyn) _DYNAMIC[] __attribute__((weak));
+extern ElfW(Dyn) _DYNAMIC[] __attribute__((weak)); /* clang-format on */
 
 const char *tmwatch_step_unwrapped(void)
 {
-    static const char locks[] = "@(pthread_@(mutex_|spin_|rwlock_|cond_|once|barrier_)|mtx_|cnd_|call_once|sem_t|__cxa_guard_)*";
+    static const char locks[] =
+        "@(pthread_@(mutex_|spin_|rwlock_|cond_|once|barrier_)|mtx_|cnd_|call_once|sem_t|__cxa_guard_|omp_*lock|GOMP_critical|"
+        "GOMP_atomic|__kmpc_critical)*";
     static const unsigned char tables[][2] = {{DT_RELA, DT_RELASZ}, {DT_JMPREL, DT_PLTRELSZ}};
     ElfW(Addr) at[DT_NUM] = {0};
     for (const ElfW(Dyn) *it = _DYNAMIC; it && it->d_tag != DT_NULL; it++)

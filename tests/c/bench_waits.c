@@ -3,7 +3,7 @@ A memory of one lock on the bench, which a thread holds from a transaction's beg
 lock's; by -DPLAIN its words are plain data. The lock is one of the table below, as -DLOCK= or the environment's LOCK says; the word `names`
 alone prints those that the bench sees. Those of READ_WRITE are taken for writing by one transaction in two. By ONCE and CALL_ONCE
 transactions also look for what one in four of them makes; by BARRIER they meet a thread of the memory's own; by FIRST all wait until thread 0
-has a mutex that it waits for. By EVENT and ASSEMBLY the lock is one that the bench doesn't see.
+has a mutex that it waits for. By EVENT the lock is one that the bench doesn't see.
 
 Three are wrong. By LOST a signal may come between the look at the lock and the wait for it, and is lost; by RELAXED the lock orders
 nothing. By LATE some transactions wait for a while where the bench doesn't see it, and later ones read a wrong value.
@@ -226,19 +226,6 @@ static void give_to_first(void)
     leave_to_first();
 }
 
-/* A lock whose bytes no marked code touches. */
-static void take_assembly(void)
-{
-    static char *const held = (char *)&is_held;
-    for (char was = 1; was;)
-        __asm__ volatile("xchgb %0, %1" : "+q"(was), "+m"(*held) : : "memory");
-}
-
-static void give_assembly(void)
-{
-    __asm__ volatile("movb $0, %0" : "=m"(*(char *)&is_held) : : "memory");
-}
-
 /* Tries again until it is taken. */
 #define UNTIL_DONE(failed) while (failed)
 #define UNTIL_FREE(pause)                                                  \
@@ -301,7 +288,6 @@ static void take_late(void)
     KIND(SLEEP_C11, UNTIL_FREE(WELL(thrd_sleep(&moment, NULL))), FREE)                                                                     \
     KIND(FIRST, take_after_first(), give_to_first())                                                                                       \
     KIND(EVENT, take_event(), give_event())                                                                                                \
-    KIND(ASSEMBLY, take_assembly(), give_assembly())                                                                                       \
     KIND(LOST, take_lost(), give_lost())                                                                                                   \
     KIND(RELAXED, UNTIL_DONE(atomic_exchange_explicit(&is_held, true, memory_order_relaxed)),                                              \
          atomic_store_explicit(&is_held, false, memory_order_relaxed))                                                                     \

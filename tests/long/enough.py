@@ -1,26 +1,26 @@
 #!/usr/bin/env python3
-"""Measures whether a violation follows from the words of `show --why`, for tests/long/enough.sh, which says what is counted.
+"""Checks whether the sentences of `show --why` are enough to conclude the violation. For tests/long/enough.sh, whose head lists the counts.
 
-    tests/long/enough.py PROGRAM WINDOWS SEED
+    tests/long/enough.py PROGRAM WINDOWS DENSE SEED
 
-What a reader knows from the words alone:
+A reader of the sentences, without the drawing, may conclude this:
 
-- The states shown are all from which the window may begin: its serial orders begin from one of them.
-- A transaction that is drawn has the status that its last event shows. Which precede each other in real time a sentence says.
-- What a sentence says before its colon is so: who ended before another began, what was read, what a transaction leaves. What it says
-  after the colon is a conclusion, which the reader wants to see follow.
-- `which only T1's commit can have left` says that what isn't told didn't leave the value there. The reader still looks for other
-  sources among what is told: a state that has the value, and each transaction that by another sentence leaves it.
-- Where the lines go by where a value comes from, they name all sources that it may have.
-- A read without such words may have its value from anywhere. `not from T1` is a conclusion too.
+- The initial states that are shown are the only ones: each serial order of the window begins from one of them.
+- A transaction that is drawn has the status that its last event shows. The sentences state which transactions precede others in real time.
+- The part of a sentence before its colon is true. It states that a transaction ended before another began, what value one read, or what
+  value one leaves. The part after the colon is a conclusion, which the reader wants to verify.
+- `which only T1's commit can have left` means that nothing else that is not mentioned left the value there. But the reader still considers
+  other sources that are mentioned: a state with the value, and each transaction that leaves it according to another sentence.
+- If the lines distinguish sources of a value, they name all sources that it may have.
+- A read without such a clause may have its value from anywhere. `not from T1` is also a conclusion.
 
-What a reader knows from the drawing too: the real-time order of the transactions drawn, and their operations. Each read drawn was answered
-so, and each write or add drawn leaves its value, if none of its transaction's own is drawn after it.
+With the drawing, the reader also knows the real-time order of the transactions that are drawn, and their operations. Each read that is
+drawn has its answer, and each write or add that is drawn leaves its value, unless a later one of the same transaction is drawn.
 
-A history agrees with what is known if it has these transactions, their status, their real-time order, reads and changes, and perhaps others.
-Of these nothing is known: they may be anywhere in a serial order and put any value into any register, but not between a read and the source
-that it is said to have. An explanation is enough if no such history has a serial order: for each order of the transactions known, each
-completion and each state, some read can't have been answered as it was.
+A history agrees with this if it has these transactions with their status, real-time order, reads and changes, and perhaps others. Nothing
+is known about the others, because they may be anywhere in a serial order and put any value into any register, except between a read and the
+source that a sentence names. An explanation is enough if no such history has a serial order: for each order of the known transactions, each
+completion and each state, some read cannot have been answered as it was.
 """
 import json
 import os
@@ -57,12 +57,15 @@ class Known:
                 changed.add(register)
                 self.leaves[name][register] = left
 
+    def completions(self):
+        """The transactions that are held, of each completion."""
+        for choice in product(*[MAY_HOLD[status] for status in self.status.values()]):
+            yield frozenset(name for name, is_held in zip(self.status, choice) if is_held)
+
     def orders(self, criterion):
         """Each completion, with each order of its transactions that keeps real time: of all of them, or by strict those that are held."""
-        names = list(self.status)
-        for choice in product(*[MAY_HOLD[self.status[name]] for name in names]):
-            held = frozenset(name for name, is_held in zip(names, choice) if is_held)
-            for order in self.orders_of(frozenset(names if criterion == "opacity" else held)):
+        for held in self.completions():
+            for order in self.orders_of(frozenset(self.status if criterion == "opacity" else held)):
                 yield Order(order, held, self)
 
     def orders_of(self, left, done=()):
@@ -260,29 +263,71 @@ def is_put_rightly(sentence, shown):
 
 def follow(shown):
     """The sentences whose conclusion does not hold in some order of the whole window that keeps what is said up to it."""
-    orders, wrong = list(shown.known.orders(shown.criterion)), []
+    wrong = []
     for sentences, states in groups(shown.sentences, shown.states):
-        left = [(order, state) for order in orders for state in states]
+        said = []
         for it in sentences:
-            if it.read and it.source != NOBODY:
-                left = [(order, state) for order, state in left if it.read[0] not in order.places or order.finds(*it.read, state)]
-            if not all(concludes(order, it) for order, _ in left if order.has_case(it)):
+            said += [it.read] if it.read and it.source != NOBODY else []
+            completions = shown.known.completions() if it.before or it.not_from or it.source not in (None, NOBODY) else []
+            if any(Counterexample(shown, said, it, held, state).exists() for held in completions for state in states):
                 wrong.append(it)
     return wrong
 
 
-def concludes(order, sentence):
-    """Whether the order is as the sentence concludes: who stands before whom, where a value comes from, and who is held. Real time orders
-    those that the order has."""
-    if sentence.source not in (None, NOBODY) and (sentence.read[0] not in order.places or order.source(*sentence.read[:2]) != sentence.source):
+class Counterexample:
+    """An order from a state, of whose transactions these are held, that keeps what is said and has a sentence's case, but not what that
+    concludes: who stands before whom, where a value comes from, and who is held. Real time orders those that the order has."""
+
+    def __init__(self, shown, said, sentence, held, state):
+        self.names = list(shown.known.status) if shown.criterion == "opacity" else sorted(held)
+        self.known, self.said, self.sentence, self.held, self.state = shown.known, said, sentence, held, state
+        self.registers = sorted({register for _, register, *_ in [*said, *filter(None, [sentence.case, sentence.read])]})
+        self.seen = set()
+
+    def exists(self):
+        it = self.sentence
+        if it.case and it.case[0] not in self.names:
+            return False
+        fails = it.source not in (None, NOBODY) and it.read[0] not in self.names
+        fails |= bool(it.before and it.left) and it.left[0] not in self.held
+        fails |= bool(it.before and not it.ended) and not set(it.before) <= set(self.names)
+        return self.ends(frozenset(), (START,) * len(self.registers), fails)
+
+    def ends(self, placed, sources, fails):
+        """Whether such an order begins with those that are placed, which leave the registers' values so."""
+        if len(placed) == len(self.names):
+            return fails
+        if (placed, sources, fails) in self.seen:
+            return False
+        self.seen.add((placed, sources, fails))
+        for name in self.names:
+            if name in placed or any((other, name) in self.known.precedes for other in self.names if other not in placed):
+                continue
+            source = dict(zip(self.registers, sources))
+            if self.keeps(name, source):
+                left = self.known.leaves[name] if name in self.held else ()
+                more = tuple(name if register in left else source[register] for register in self.registers)
+                if self.ends(placed | {name}, more, fails or self.contradicts(name, placed, source)):
+                    return True
         return False
-    if sentence.not_from and sentence.read[0] in order.places and order.source(*sentence.read[:2]) == sentence.not_from:
-        return False
-    if sentence.before and sentence.left and sentence.left[0] not in order.held:
-        return False
-    if sentence.ended and not all(name in order.places for name in sentence.ended):
-        return True
-    return not sentence.before or order.is_before(*sentence.before)
+
+    def keeps(self, name, source):
+        """Whether the transaction finds what is said, and its value comes from where the sentence's case has it."""
+        finds = all(
+            value == (self.state[register] if source[register] == START else self.known.leaves[source[register]][register])
+            for reader, register, value in self.said
+            if reader == name
+        )
+        case = self.sentence.case
+        return finds and not (case and case[0] == name and source[case[1]] != case[3])
+
+    def contradicts(self, name, placed, source):
+        it = self.sentence
+        if it.read and it.read[0] == name:
+            own = source[it.read[1]]
+            if it.source not in (None, NOBODY, own) or it.not_from == own:
+                return True
+        return bool(it.before) and name == it.before[0] and it.before[1] in placed
 
 
 def is_drawn(sentence, shown):
@@ -299,6 +344,15 @@ def is_drawn(sentence, shown):
     return not sentence.put or sentence.put[3] in events
 
 
+def last_cut(events):
+    """The length of the longest prefix whose transactions are all over."""
+    running, cut = set(), 0
+    for place, event in enumerate(events):
+        (running.discard if event.kind[0] in "CA" else running.add)(event.thread)
+        cut = cut if running else place + 1
+    return cut
+
+
 def explanation(program, criterion, start, events):
     """What `show --why` writes of a history, read, if it is violated."""
     command = [program, "show", "--why", "--criterion", criterion]
@@ -307,8 +361,7 @@ def explanation(program, criterion, start, events):
     at = json.loads(report).get("at")
     if json.loads(report)["verdict"] != "violated":
         return None
-    begin = max(cut for cut in range(at) if all(t.is_over for t in transactions(events[:cut])))
-    window = events[begin:at]
+    window = events[last_cut(events[: at - 1]) : at]
     part = tuple(event for event in window if event.number in set(drawn))
     whole = {f"T{number}": t for number, t in enumerate(transactions(window), 1)}
     own = {event: name for name, t in whole.items() for event in t.events}
@@ -337,59 +390,69 @@ FAULTS = {
 }
 
 
-def judge(shown):
-    """What is counted of a violated window."""
+def judge(shown, dense):
+    """What is counted of a violated window. Of a dense one the orders are too many to see whether its explanation is enough."""
     found = Counter({"windows": 1, shown.criterion: 1, "sentences": len(shown.sentences), "several": len(shown.states) > 1})
-    found["no reason"] = not shown.sentences
+    found["dense, no reason" if dense else "no reason"] = not shown.sentences
     found["not so"] = sum(not is_said_rightly(it, shown) for it in shown.sentences)
     found["no conclusion"] = len(follow(shown))
     found["not drawn"] = sum(not is_drawn(it, shown) for it in shown.sentences)
     for way, (known_of, alone) in WAYS.items():
-        found[way] = bool(shown.sentences) and not is_enough(shown, known_of(shown), alone)
+        found[way] = not dense and bool(shown.sentences) and not is_enough(shown, known_of(shown), alone)
     return found
 
 
-def judge_history(program, seed, number):
-    """A random history by a random criterion, and if it is violated: what is counted, the lines of the reason and the events drawn."""
-    rng = random.Random(f"{seed} {number}")
-    (start, events), criterion = random_history(rng, from_several=0.4), rng.choice(["opacity", "strict"])
+def judge_history(program, seed, dense, number):
+    """A random history by a random criterion, or a dense one by strict, and if it is violated: what is counted, the lines of the reason and
+    the events drawn."""
+    rng = random.Random(f"{seed} {'dense ' if dense else ''}{number}")
+    if dense:
+        (start, events), criterion = random_history(rng, 8, rng.choice([100, 300, 1000]), 0.6, dense=True), "strict"
+    else:
+        (start, events), criterion = random_history(rng, from_several=0.4), rng.choice(["opacity", "strict"])
     try:
         shown = explanation(program, criterion, start, events)
-        judged = shown and (judge(shown), len(shown.lines), len(shown.part))
+        judged = shown and (judge(shown, dense), len(shown.lines), len(shown.part))
     except (LookupError, ValueError) as wrong:
         judged = Counter({"windows": 1, UNREAD: 1, repr(wrong): 1}), 0, 0
     return criterion, start, events, judged
 
 
-def main():
-    """Judges as many violated windows. Of each fault the shortest history is printed."""
-    program, windows, seed = sys.argv[1], int(sys.argv[2]), sys.argv[3]
+def judge_windows(program, windows, dense, seed):
+    """Judges as many violated windows. Returns the counts, the shortest history of each fault, and the sizes."""
     found, shortest, sizes, number = Counter(), {}, [], 0
     with ProcessPoolExecutor(int(os.environ.get("PROCESSES", "2"))) as pool:
         while found["windows"] < windows:
-            histories = pool.map(partial(judge_history, program, seed), range(number, number + CHUNK), chunksize=50)
+            histories = pool.map(partial(judge_history, program, seed, dense), range(number, number + CHUNK), chunksize=10)
             for criterion, start, events, (counts, *size) in [it for it in histories if it[-1]]:
                 found += counts
                 sizes.append(size)
-                for fault in set(counts) - {"windows", "sentences", "several", "opacity", "strict"}:
+                for fault in set(counts) & set(FAULTS):
                     if counts[fault] and len(events) < len(shortest.get(fault, (0, 0, range(len(events) + 1)))[2]):
                         shortest[fault] = criterion, start, events
             number += CHUNK
-    report(found, shortest, sizes)
+    return found, shortest, sizes
+
+
+def main():
+    """Judges violated windows, and dense ones. Of each fault the shortest history is printed."""
+    program, windows, dense, seed = sys.argv[1], int(sys.argv[2]), int(sys.argv[3]), sys.argv[4]
+    failed = sum(report(*judge_windows(program, *each, seed)) for each in ((windows, False), (dense, True)) if each[0])
+    print(f"{2 * len(FAULTS) - failed} passed, {failed} failed")
+    sys.exit(failed > 0)
 
 
 def report(found, shortest, sizes):
+    """Prints the counts, and returns how many faults there are."""
     for fault, (criterion, start, events) in shortest.items():
-        print(f"{FAULTS.get(fault, fault)}, by {criterion}:\n< {' | '.join(trace_of(start, events).splitlines())}")
+        print(f"{FAULTS[fault]}, by {criterion}:\n< {' | '.join(trace_of(start, events).splitlines())}")
     print(f"{found['windows']:8d} violated windows: {found['opacity']} by opacity, {found['strict']} by strict serializability")
-    print(f"{found['several']:8d} from several states\n{found['sentences']:8d} sentences")
+    print(f"{found['several']:8d} from several states\n{found['sentences']:8d} sentences\n{found['dense, no reason']:8d} dense ones without a reason")
     for fault, told in FAULTS.items():
         print(f"{found[fault]:8d} {told}")
     lines, drawn = [sorted(each) for each in zip(*sizes)]
     print(f"{lines[len(lines) // 2]:8d} lines in the median reason, {lines[-1]} at most; {drawn[len(drawn) // 2]} events in the median part, {drawn[-1]} at most")
-    failed = sum(found[fault] > 0 for fault in FAULTS)
-    print(f"{len(FAULTS) - failed} passed, {failed} failed")
-    sys.exit(failed > 0)
+    return sum(found[fault] > 0 for fault in FAULTS)
 
 
 if __name__ == "__main__":

@@ -1,23 +1,26 @@
 #!/usr/bin/env bash
-# Measures whether a violation follows from the words of `tmwatch show --why`.
+# Checks whether the sentences of `tmwatch show --why` are enough to conclude the violation.
 #
-#   tests/long/enough.sh [WINDOWS]
+#   tests/long/enough.sh [WINDOWS [DENSE]]
 #
-# tests/long/enough.py makes random histories until WINDOWS (100000) windows are violated, by a random criterion: of at most five
-# transactions, from 1 to 64 states, with adds, equal values, blind writes and values near 2^64. Of each window it reads what is written, by
-# the forms of tests/long/sentences.py, and counts:
-# - windows without a reason, and texts that it can't read
-# - sentences that are not so by the window's events, or whose conclusion fails in some state, completion and order of the whole window that
-#   keeps what is read in the sentences up to it
-# - sentences that name a transaction, a read, a change or an event that is not drawn
-# - explanations that are not enough: some history that agrees with the words, and by the last count with the drawing too, has a serial order,
-#   if nobody else exists or others do. The head of enough.py says what a reader knows from the words.
+# tests/long/enough.py makes random histories until WINDOWS (100000) windows are violated under a random criterion. A window has at most
+# five transactions, 1 to 64 initial states, adds, equal values, blind writes, and values near 2^64. Then it makes dense histories until
+# DENSE (2000) windows are violated under strict serializability. A dense window has at most eight long transactions that overlap, in up to
+# 1,000 events, and two to five values. The output for each window is parsed with the forms of tests/long/sentences.py. The script counts:
 #
-# Of each fault the shortest history is printed, then the counts, and the lines of a reason. A count that is not 0 has failed. The last line
-# is 'N passed, M failed'. The exit status is 1 if one failed, 2 if the program is not built.
+# - windows without a reason, and outputs that cannot be parsed
+# - sentences that are not true by the events of the window, or whose conclusion is false in some state, completion and order of the whole
+#   window that agrees with the reads in the sentences up to this one
+# - sentences that mention a transaction, a read, a change or an event that is not drawn
+# - explanations that are not enough: some history that agrees with the sentences has a serial order. This is counted three times: if no
+#   other transactions exist, if others do, and if others do and the history agrees with the drawing too. The head of enough.py describes
+#   the reader's conclusions. Dense windows are not counted here, because they have too many orders, and may have no reason.
+#
+# The output has the shortest history for each fault, then the counts, then the number of lines of a reason. A count other than 0 has
+# failed. The last line is 'N passed, M failed'. The exit status is 1 if one failed, 2 if the program is not built.
 # Environment: SEED (1); PROCESSES (2); PROGRAM (the built one).
 set -eu
 # shellcheck source=tests/common.sh
 . "$(dirname "${BASH_SOURCE[0]}")/../common.sh"
 [ -x "$program" ] || { echo 'enough.sh: the program is not built: ./build' >&2 && exit 2; }
-python3 "$top/tests/long/enough.py" "$program" "${1:-100000}" "${SEED:-1}"
+python3 "$top/tests/long/enough.py" "$program" "${1:-100000}" "${2:-2000}" "${SEED:-1}"

@@ -1,12 +1,12 @@
 #!/usr/bin/env bash
-# Shows that a test notices one lock round ring and monitor: in a copy of the bench, each worker holds it while it works, and the leader
-# while it judges. No clause says that threads work at once, so the copy is proved; its tests of two workers at once have to fail, the first
-# with an answer. Run it when the workers, the leader or these tests change.
+# Shows that a test notices a single lock around ring and monitor: in a copy of the bench, each worker holds such a lock while it works, and
+# the leader while it judges. No clause says that threads work concurrently, so the copy is proved; but its tests of two concurrent workers
+# must fail, the first one with an answer. Run it when the workers, the leader or these tests change.
 #
 #   tests/long/locked.sh
 #
-# It proves the crates below test_memories, in some half an hour of processor time. The last line is 'N passed, M failed', and the exit
-# status is 1 if a row failed.
+# It proves the crates below test_memories, which takes some half an hour of processor time. The last line is 'N passed, M failed', and the
+# exit status is 1 if a test case failed.
 set -eu
 # shellcheck source=tests/common.sh
 . "$(dirname "${BASH_SOURCE[0]}")/../common.sh"

@@ -1,15 +1,17 @@
 #!/usr/bin/env bash
-# Runs the memories of tests/orders/memories by --orders c++, each with its weakest right orders and with each one too weak; and the model
-# alone for longer than tests/orders.sh does.
+# Runs the memories of tests/orders/memories with --orders c++, each with its weakest correct orders and with each one that is too weak; and
+# the model by itself, for longer than tests/orders.sh does.
 #
 #   tests/long/orders.sh
 #
-# A row for each of tests/orders/memories/variants: what it has to be, the memory and its words for the compiler, in how many seeds it was
-# violated or had a delayed load, and stuck; after how many rounds it was violated: the least, the median and the most; and what is weaker. A
-# right one passes if no seed is violated or stuck, or has a delayed load or a rescue; a wrong one if nine in ten are violated, a stuck one
-# if nine in ten are stuck, a delayed one if nine in ten have a delayed load. The rows of rare ones only tell. The last line is 'N passed, M failed', and the exit status is 1 if one failed.
-# Environment: BUILT (tests/common.sh), SEEDS (20), ROUNDS (20000), ORDERS (c++; sequential and x86 only tell), ONLY (a pattern: the rows
-# that have it), CC (cc), RUNS (1000000 random runs of the model and a fiftieth of that in small programs, 0: none).
+# A test case for each line of tests/orders/memories/variants prints its required result, the memory and its options for the compiler; in
+# how many seeds it was violated or had a delayed load, and was stuck; after how many rounds it was violated (the least, the median and the
+# greatest number); and which order is weaker. A correct one passes if no seed is violated or stuck, or has a delayed load or a stall; a
+# wrong one if nine in ten are violated, a stuck one if nine in ten are stuck, a delayed one if nine in ten have a delayed load. Those of
+# rare ones are only for information. The last line is 'N passed, M failed', and the exit status is 1 if one failed.
+# Environment: BUILT (tests/common.sh), SEEDS (20), ROUNDS (20000), ORDERS (c++; sequential and x86 are only for information), ONLY (a
+# pattern: the test cases that match it), CC (cc), RUNS (1000000 random runs of the model, and a fiftieth of that in small programs; 0:
+# none).
 set -eu
 # shellcheck source=tests/common.sh
 . "$(dirname "${BASH_SOURCE[0]}")/../common.sh"
@@ -26,7 +28,7 @@ spread() {
 # Whether the seeds came out as such a memory's have to.
 is_wanted() {
     case $1 in
-    right) [ $((violated + delayed + stuck + rescued)) -eq 0 ] ;;
+    right) [ $((violated + delayed + stuck + stalled)) -eq 0 ] ;;
     delayed) [ $((10 * delayed)) -ge $((9 * seeds)) ] ;;
     wrong) [ $((10 * violated)) -ge $((9 * seeds)) ] ;;
     stuck) [ $((10 * (violated + stuck))) -ge $((9 * seeds)) ] ;;
@@ -35,7 +37,7 @@ is_wanted() {
 
 # Runs each seed of a row of the variants, by its fields.
 run_seeds() {
-    local kind=$1 words seed status violated=0 delayed=0 stuck=0 rescued=0
+    local kind=$1 words seed status violated=0 delayed=0 stuck=0 stalled=0
     read -r -a words <<<"$3"
     "$cc" -std=c11 -O2 -g -fsanitize=thread -Wno-tsan "-I$top/include" "${words[@]}" -c -o "$folder/memory.o" \
         "$top/tests/orders/memories/$2.c"
@@ -43,10 +45,10 @@ run_seeds() {
     : >"$folder/found"
     for seed in $(seq "$seeds"); do
         status=0
-        "$folder/memory" --schedule steps --orders "$orders" --rounds "$rounds" --seed "$seed" --patience 3 >"$folder/output" 2>&1 ||
+        "$folder/memory" --schedule steps --orders "$orders" --rounds "$rounds" --seed "$seed" --timeout 3 >"$folder/output" 2>&1 ||
             status=$?
         violated=$((violated + (status == 1))) stuck=$((stuck + (status == 4)))
-        ! grep -q '"rescues":[1-9]' "$folder/output" || rescued=$((rescued + 1))
+        ! grep -q '"stalls":[1-9]' "$folder/output" || stalled=$((stalled + 1))
         ! grep -q '"delayed":' "$folder/output" || delayed=$((delayed + 1))
         [ "$status" -ne 1 ] || sed -n 's/.*"rounds":\([0-9]*\).*/\1/p' "$folder/output" >>"$folder/found"
     done

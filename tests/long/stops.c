@@ -1,11 +1,11 @@
 /*
-Writers that stop wherever they are: amid a transaction, at a full ring, and where its places are spent. A watch judges what they record,
-meanwhile and to the end, and each call that was refused memory is made again. All that was recorded has to be judged, each writer's
-events in their order, and a second watch, to which the log is then given, has to tell the same.
+Writers that stop at any point: within a transaction, at a full ring, and when its places are used up. A watch judges their events,
+meanwhile and to the end, and each call that failed for lack of memory is repeated. All recorded events must be judged, each writer's events
+in their order, and a second watch, which is then given the log, must report the same.
 
     stops RUNS
 
-The last line tells what came of the runs.
+The last line has the results of the runs.
 */
 #define _POSIX_C_SOURCE 200809L
 #include "../c/check.h"
@@ -106,7 +106,7 @@ static void *record_some(void *recorder)
         const struct event event = nth(thread, recorded[thread]);
         uint64_t place = EVENTS;
         uint32_t status = record_tried(recorder, event, &place);
-        if (status == TMWATCH_DONE) {
+        if (status == TMWATCH_OK) {
             CHECK(place < EVENTS);
             events[place] = event;
             recorded[thread]++;
@@ -123,41 +123,41 @@ static void *record_some(void *recorder)
 /* Pumps so often, and looks after each whether what stands is what it answered. */
 static void pump_some(unsigned calls)
 {
-    tmwatch_told before, after;
+    tmwatch_result before, after;
     for (unsigned i = 0; i < calls; i++) {
         uint64_t judged = 0;
-        CHECK(tmwatch_report(&watch, &before) == TMWATCH_DONE);
-        CHECK(tmwatch_pump(&watch, run.max, &judged) == TMWATCH_DONE && judged <= run.max);
-        CHECK(tmwatch_report(&watch, &after) == TMWATCH_DONE && after.events == before.events + judged);
+        CHECK(tmwatch_report(&watch, &before) == TMWATCH_OK);
+        CHECK(tmwatch_pump(&watch, run.max, &judged) == TMWATCH_OK && judged <= run.max);
+        CHECK(tmwatch_report(&watch, &after) == TMWATCH_OK && after.events == before.events + judged);
         sched_yield();
     }
 }
 
-static tmwatch_told close_soon(size_t count)
+static tmwatch_result close_soon(size_t count)
 {
-    tmwatch_told told;
-    uint32_t status = TMWATCH_MEMORY;
-    for (int tries = 0; tries < SOON && status == TMWATCH_MEMORY; tries++)
-        status = tmwatch_close(&watch, recorders, count, &told);
-    CHECK(status == TMWATCH_DONE);
-    return told;
+    tmwatch_result result;
+    uint32_t status = TMWATCH_NO_MEMORY;
+    for (int tries = 0; tries < SOON && status == TMWATCH_NO_MEMORY; tries++)
+        status = tmwatch_close(&watch, recorders, count, &result);
+    CHECK(status == TMWATCH_OK);
+    return result;
 }
 
 static void open_soon(size_t count, const tmwatch_settings *settings)
 {
-    uint32_t status = TMWATCH_MEMORY;
-    for (int tries = 0; tries < SOON && status == TMWATCH_MEMORY; tries++)
+    uint32_t status = TMWATCH_NO_MEMORY;
+    for (int tries = 0; tries < SOON && status == TMWATCH_NO_MEMORY; tries++)
         status = tmwatch_open(&watch, recorders, count, settings);
-    CHECK(status == TMWATCH_DONE);
+    CHECK(status == TMWATCH_OK);
 }
 
 /* Lets the writers record while events are judged, and has the rest judged: what is told at the end. A writer whose thread can not be
    started records nothing. */
-static tmwatch_told run_threads(void)
+static tmwatch_result run_threads(void)
 {
     pthread_t threads[WRITERS];
     unsigned started = 0;
-    tmwatch_told told;
+    tmwatch_result result;
     while (started < run.writers && pthread_create(&threads[started], NULL, record_some, &recorders[started]) == 0)
         started++;
     pump_some(run.calls);
@@ -168,9 +168,9 @@ static tmwatch_told run_threads(void)
     for (unsigned i = started; i < run.writers; i++)
         tmwatch_discard_recorder(&recorders[i]);
     pump_some(CALLS);
-    CHECK(tmwatch_report(&watch, &told) == TMWATCH_DONE);
+    CHECK(tmwatch_report(&watch, &result) == TMWATCH_OK);
     tmwatch_discard(&watch);
-    return told;
+    return result;
 }
 
 /* Whether so many events are all that was recorded, each writer's in its order. */
@@ -186,34 +186,34 @@ static bool are_all(uint64_t count)
 }
 
 /* Whether a watch that is given the log tells the same. */
-static bool is_told_again(tmwatch_told told)
+static bool is_told_again(tmwatch_result result)
 {
     tmwatch_settings settings = run.settings;
     settings.cells = CELLS;
     settings.limit = CELLS;
     open_soon(WRITERS, &settings);
-    for (uint64_t place = 0; place < told.events; place++) {
+    for (uint64_t place = 0; place < result.events; place++) {
         const struct event *event = &events[place];
         uint64_t again;
-        CHECK(tmwatch_record(&recorders[event->thread], (uint32_t)event->letter, event->reg, event->value, &again) == TMWATCH_DONE);
+        CHECK(tmwatch_record(&recorders[event->thread], (uint32_t)event->letter, event->reg, event->value, &again) == TMWATCH_OK);
     }
-    tmwatch_told same = close_soon(WRITERS);
-    return tells(same, told.events, told.verdict, told.at, told.why);
+    tmwatch_result same = close_soon(WRITERS);
+    return tells(same, result.events, result.verdict, result.at, result.why);
 }
 
-static void add(tmwatch_told told)
+static void add(tmwatch_result result)
 {
-    judged_all += told.events;
+    judged_all += result.events;
     dropped += run.drops;
     for (unsigned i = 0; i < run.writers; i++) {
         full += stopped[i] == TMWATCH_FULL;
         spent += stopped[i] == TMWATCH_SPENT;
         amid += is_amid(recorded[i]);
     }
-    opaque += told.verdict == TMWATCH_OPAQUE_SO_FAR;
-    violated += told.verdict == TMWATCH_VIOLATED;
-    undecided += told.verdict == TMWATCH_UNDECIDED;
-    CHECK(told.verdict != TMWATCH_MALFORMED);
+    opaque += result.verdict == TMWATCH_OPAQUE_SO_FAR;
+    violated += result.verdict == TMWATCH_VIOLATED;
+    undecided += result.verdict == TMWATCH_UNDECIDED;
+    CHECK(result.verdict != TMWATCH_MALFORMED);
 }
 
 /* Makes a run, of which has to come what was promised. */
@@ -222,9 +222,9 @@ static void make_run(void)
     memset(recorded, 0, sizeof recorded);
     memset(stopped, 0, sizeof stopped);
     open_soon(run.writers, &run.settings);
-    tmwatch_told told = run_threads();
-    CHECK(are_all(told.events) && is_told_again(told));
-    add(told);
+    tmwatch_result result = run_threads();
+    CHECK(are_all(result.events) && is_told_again(result));
+    add(result);
 }
 
 int main(int count, char **words)

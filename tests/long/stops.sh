@@ -1,12 +1,12 @@
 #!/usr/bin/env bash
-# Runs writers that stop wherever they are, amid a transaction, at a full ring and where its places are spent, while a watch judges
-# what they record: 10,000 runs with all memory that is asked for, and 10,000 each with growths refused by chance.
+# Runs writers that stop at any point, within a transaction, at a full ring, and when its places are used up, while a watch judges their
+# events: 10,000 runs in which all allocations succeed, and 10,000 each in which some fail at random.
 #
 #   tests/long/stops.sh
 #
-# tests/long/stops.c says what each run has to end with. tests/long/chance.c is loaded with it, and refuses one growth in 50, in 20,
-# in 10 and in 5; what was refused is tried again. A line for each 10,000 runs says what came of them. The last line is
-# 'N passed, M failed', of these lines. The exit status is 1 if one has failed.
+# The head of tests/long/stops.c describes how each run must end. tests/long/chance.c is loaded with it, and makes one allocation in 50, in
+# 20, in 10 and in 5 fail; calls that failed are repeated. A line for each 10,000 runs has their results. The last line is 'N passed, M
+# failed', for these lines. The exit status is 1 if one failed.
 # Environment: CC (cc), BUILT (tests/common.sh), LIMIT (300, the seconds that 10,000 runs may take), SEED (1).
 set -eu
 ulimit -c 0

@@ -37,7 +37,7 @@ static void begin(void)
 {
     begin_run(orders);
     orders->has_race = false;
-    orders->unseen[UNMARKED_STORE] = NULL;
+    orders->untracked_at[UNMARKED_STORE] = NULL;
 }
 
 /* Whether the race is that of these. */
@@ -217,21 +217,21 @@ static void check_unmarked(void)
         makes(0, WRITE, X, 1, RELAXED);
         makes(0, WRITE, X, 2, RELAXED);
         words[X] = 7;
-        CHECK(makes(1, READ, X, 0, RELAXED) == 7 && orders->unseen[UNMARKED_STORE]);
+        CHECK(makes(1, READ, X, 0, RELAXED) == 7 && orders->untracked_at[UNMARKED_STORE]);
         begin();
         makes(0, READ, X, 0, RELAXED);
         words[X] = 7;
-        CHECK(makes(1, READ, X, 0, RELAXED) == 7 && orders->unseen[UNMARKED_STORE]);
+        CHECK(makes(1, READ, X, 0, RELAXED) == 7 && orders->untracked_at[UNMARKED_STORE]);
         begin();
         makes(0, WRITE, X, 1, RELAXED);
         stores(0, (const void *)(uintptr_t)&words[X], 8);
         words[X] = 7;
-        CHECK(makes(1, READ, X, 0, RELAXED) == 7 && !orders->unseen[UNMARKED_STORE]);
+        CHECK(makes(1, READ, X, 0, RELAXED) == 7 && !orders->untracked_at[UNMARKED_STORE]);
         begin();
         makes(0, WRITE, X, 1, RELAXED);
         tmwatch_orders_forget(orders, words, sizeof words);
         words[X] = 0;
-        CHECK(makes(1, READ, X, 0, RELAXED) == 0 && !orders->unseen[UNMARKED_STORE]);
+        CHECK(makes(1, READ, X, 0, RELAXED) == 0 && !orders->untracked_at[UNMARKED_STORE]);
     }
 }
 
@@ -507,7 +507,7 @@ static void check_wide(void)
         tmwatch_access wide = {orders, 0, words, words, 16, RELAXED};
         tmwatch_orders_wide(&wide);
         words[Y] = 7;
-        CHECK(makes(1, READ, Y, 0, ACQUIRE) == 7 && !orders->unseen[UNMARKED_STORE]);
+        CHECK(makes(1, READ, Y, 0, ACQUIRE) == 7 && !orders->untracked_at[UNMARKED_STORE]);
         CHECK(makes(1, READ, Z, 0, RELAXED) == 1);
         makes(1, WRITE, Z, 2, RELAXED);
         makes(1, WRITE, X, 1, RELEASE);

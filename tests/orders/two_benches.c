@@ -51,7 +51,7 @@ static bool commit(void *memory, void *tx)
 /* A bench: whether its memory is wrong, and what came out. */
 struct run {
     bool is_wrong;
-    tmwatch_benched benched;
+    tmwatch_bench_result result;
 };
 
 static void *run(void *to)
@@ -64,15 +64,15 @@ static void *run(void *to)
     plan.orders = TMWATCH_CXX;
     plan.rounds = 2000;
     plan.seed = it->is_wrong ? 3 : 4;
-    CHECK(tmwatch_bench(&memory, &plan, &it->benched) == TMWATCH_DONE);
+    CHECK(tmwatch_bench(&memory, &plan, &it->result) == TMWATCH_OK);
     return NULL;
 }
 
-static void check_same(const tmwatch_benched *one, const tmwatch_benched *other)
+static void check_same(const tmwatch_bench_result *one, const tmwatch_bench_result *other)
 {
-    CHECK(one->told.verdict == other->told.verdict && one->told.at == other->told.at && one->rounds == other->rounds);
-    CHECK(one->told.verdict == TMWATCH_VIOLATED || (one->steps == other->steps && one->switches == other->switches));
-    CHECK(strcmp(one->shown, other->shown) == 0 && one->rescues == 0 && other->rescues == 0);
+    CHECK(one->result.verdict == other->result.verdict && one->result.at == other->result.at && one->rounds == other->rounds);
+    CHECK(one->result.verdict == TMWATCH_VIOLATED || (one->steps == other->steps && one->context_switches == other->context_switches));
+    CHECK(strcmp(one->stale_loads, other->stale_loads) == 0 && one->stalls == 0 && other->stalls == 0);
 }
 
 int main(void)
@@ -85,9 +85,9 @@ int main(void)
         CHECK(pthread_create(&threads[i], NULL, run, &at_once[i]) == 0);
     for (unsigned i = 0; i < 2; i++) {
         CHECK(pthread_join(threads[i], NULL) == 0);
-        check_same(&alone[i].benched, &at_once[i].benched);
+        check_same(&alone[i].result, &at_once[i].result);
     }
-    CHECK(alone[0].benched.told.verdict == TMWATCH_VIOLATED && strstr(alone[0].benched.shown, "stale load"));
-    CHECK(alone[1].benched.told.verdict == TMWATCH_OPAQUE_SO_FAR && alone[1].benched.shown[0] == '\0');
+    CHECK(alone[0].result.result.verdict == TMWATCH_VIOLATED && strstr(alone[0].result.stale_loads, "stale load"));
+    CHECK(alone[1].result.result.verdict == TMWATCH_OPAQUE_SO_FAR && alone[1].result.stale_loads[0] == '\0');
     return 0;
 }

@@ -1,7 +1,7 @@
 /*
 A right memory of one lock on the bench, part of which the compiler does not mark: so --orders c++ does not see what that orders, and says
-so. By -DKIND=STORES the lock is given back by inline assembly; by -DKIND=FUTEX it is taken and given back so, and who meets it waits as a
-mutex of Rust's standard library does.
+so. By -DKIND=STORES the lock is given back by a plain store of inline assembly; by -DKIND=FUTEX it is taken so too, by an instruction that
+locks, and who meets it waits as a mutex of Rust's standard library does.
 */
 #include "memories/ordered.h"
 #include <linux/futex.h>
@@ -9,14 +9,16 @@ mutex of Rust's standard library does.
 
 long syscall(long number, ...);
 
-enum kind { STORES, FUTEX };
+enum { STORES, FUTEX };
 static atomic_uint lock;
 static _Atomic uint64_t words[REGISTERS];
 
-static unsigned exchange_unmarked(unsigned value)
+static unsigned exchange_unmarked(void)
 {
-    __asm__ volatile("xchgl %0, %1" : "+r"(value), "+m"(lock) : : "memory");
-    return value;
+    unsigned was = 1;
+    if (KIND == FUTEX)
+        __asm__ volatile("xchgl %0, %1" : "+r"(was), "+m"(lock) : : "memory");
+    return was;
 }
 
 static bool begin(void *memory UNUSED, void *tx)
@@ -25,7 +27,7 @@ static bool begin(void *memory UNUSED, void *tx)
         while (atomic_exchange(&lock, 1) == 1)
             ;
     else
-        while (exchange_unmarked(1) == 1)
+        while (exchange_unmarked() == 1)
             syscall(SYS_futex, &lock, FUTEX_WAIT_PRIVATE, 1, NULL);
     *(struct tx *)tx = (struct tx){0};
     return true;
@@ -33,7 +35,7 @@ static bool begin(void *memory UNUSED, void *tx)
 
 static bool commit(void *memory UNUSED, void *tx UNUSED)
 {
-    exchange_unmarked(0);
+    __asm__ volatile("movl $0, %0" : "=m"(lock) : : "memory");
     if (KIND == FUTEX)
         syscall(SYS_futex, &lock, FUTEX_WAKE_PRIVATE, 1);
     return true;

@@ -8,9 +8,10 @@ struct clock {
 };
 
 /* Up to which steps a thread knows all; what an acquire fence adds to that; and what a relaxed store releases, since a release fence. And of
-   each thread the last sequentially consistent fence that it knows, as looked up when it knew so much. */
+   each thread the last sequentially consistent fence that it knows, as looked up when it knew so much. Its attempts are counted. */
 struct view {
     struct clock knows, loaded, fenced, fences, looked_up;
+    uint32_t attempts;
 };
 
 static void join(struct clock *to, const struct clock *of)

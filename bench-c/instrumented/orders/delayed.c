@@ -1,11 +1,11 @@
-/* Load buffering: a load that is delayed past later stores of its thread. The model returns nothing that is stored later, but a first run finds
-   what may be: relaxed loads that reads have answered, and later stores to their places, by threads that have read what the load's thread has
-   stored since. A second run of the seed has one load return so. C++20 allows that:
+/* Load buffering: a load that is delayed past later stores of its thread. The model returns no store that is made later, but a first run finds
+   the candidates: relaxed loads whose values reads have returned, and later stores to the same place by threads that have read what the load's
+   thread has stored since. A second run with the same seed has one load return such a store. C++20 allows that, because
 
-   - who knows the load has not accessed the place before the store, nor is it who stores: coherence;
-   - neither of both, nor a fence since the load by who knows it, acquires or is sequentially consistent (but that the store may acquire): no
-     more happens before, and S orders no more;
-   - up to the store, the second run makes the same accesses, with the same values: the store doesn't depend on the load. */
+   - who knows of the load has not accessed the place before the store, nor made it: coherence;
+   - neither of the two, nor a fence since the load by who knows of it, acquires (but the store may) or is sequentially consistent: no more
+     happens before, and S orders no more;
+   - up to the store, the second run makes the same accesses with the same values: the store doesn't depend on the load. */
 
 /* A first run looks at so many rounds, and keeps so many pairs of the same lines. */
 enum { FOLLOWED_ROUNDS = 2000, MOST_ALIKE = 16 };

@@ -1,36 +1,26 @@
-/* Lines of the source: what addr2line says of addresses, if it is there. */
+/* Source lines of addresses, as addr2line prints them, if it is installed. */
 
-enum { MOST_LINE = 512 };
-
-/* Starts addr2line on an address: what it prints, and its number. The program's own name leads to another process's. */
-static FILE *start_addr2line(const struct found *it, pid_t *child)
+/* Starts a shell command whose arguments are the file of an address and these. Returns its output, or null. */
+static FILE *start_on_file(const struct found *it, const char *arguments, const char *command)
 {
-    char place[32], file[PATH_MAX];
-    char *words[] = {"addr2line", "-Cife", file, place, NULL};
-    posix_spawn_file_actions_t actions;
-    int ends[2];
-    snprintf(place, sizeof place, "0x%llx", (unsigned long long)it->at);
-    if (!realpath(it->name[0] ? it->name : "/proc/self/exe", file) || pipe2(ends, O_CLOEXEC) != 0)
+    char program[32], *line = NULL;
+    snprintf(program, sizeof program, "/proc/%d/exe", (int)getpid());
+    const char *file = it->name[0] ? it->name : program;
+    /* (a quote would end the name) */
+    if (strchr(file, '\'') || asprintf(&line, "set -- '%s' %s; exec 2>/dev/null; %s", file, arguments, command) < 0)
         return NULL;
-    posix_spawn_file_actions_init(&actions);
-    posix_spawn_file_actions_adddup2(&actions, ends[1], STDOUT_FILENO);
-    posix_spawn_file_actions_addopen(&actions, STDERR_FILENO, "/dev/null", O_WRONLY, 0);
-    bool is_started = posix_spawnp(child, words[0], &actions, NULL, words, environ) == 0;
-    posix_spawn_file_actions_destroy(&actions);
-    close(ends[1]);
-    FILE *printed = is_started ? fdopen(ends[0], "r") : NULL;
-    if (!printed)
-        close(ends[0]);
+    FILE *printed = popen(line, "re");
+    free(line);
     return printed;
 }
 
 /* Reads a line without its end, and without what addr2line says of parts of a line: whether there is one. */
-static bool read_line(FILE *file, char line[MOST_LINE])
+static bool read_line(FILE *file, char **line, size_t *size)
 {
-    if (!fgets(line, MOST_LINE, file))
+    if (getline(line, size, file) < 0)
         return false;
-    line[strcspn(line, "\n")] = '\0';
-    char *part = strstr(line, " (discriminator ");
+    (*line)[strcspn(*line, "\n")] = '\0';
+    char *part = strstr(*line, " (discriminator ");
     if (part)
         *part = '\0';
     return true;
@@ -40,23 +30,24 @@ static bool read_line(FILE *file, char line[MOST_LINE])
 static void print_place(FILE *to, const void *address)
 {
     struct found it = {(uintptr_t)address - 1, "", false};
-    char function[MOST_LINE], line[MOST_LINE] = "?";
-    pid_t child;
+    char place[32], *function = NULL, *line = NULL;
+    size_t sizes[2] = {0, 0};
     if (!address || !dl_iterate_phdr(find_library, &it)) {
         fputs("a place that is not known", to);
         return;
     }
-    FILE *printed = start_addr2line(&it, &child);
-    bool is_passed_on = printed != NULL;
-    while (is_passed_on && read_line(printed, function) && read_line(printed, line))
+    snprintf(place, sizeof place, "0x%llx", (unsigned long long)it.at);
+    FILE *printed = start_on_file(&it, place, "addr2line -Cife \"$@\"");
+    bool is_passed_on = printed != NULL, is_known = false;
+    while (is_passed_on && read_line(printed, &function, &sizes[0]) && (is_known |= read_line(printed, &line, &sizes[1])))
         is_passed_on = strstr(line, "/include/c++/") || strstr(line, "/src/sync/atomic.rs:");
-    if (printed) {
-        fclose(printed);
-        waitpid(child, NULL, 0);
-    }
-    const char *folder = strrchr(line, '/');
-    if (line[0] == '?')
-        fprintf(to, "0x%llx", (unsigned long long)it.at);
+    if (printed)
+        pclose(printed);
+    const char *folder = is_known ? strrchr(line, '/') : NULL;
+    if (!is_known || line[0] == '?')
+        fputs(place, to);
     else
         fprintf(to, "%s (%s)", folder ? folder + 1 : line, function);
+    free(function);
+    free(line);
 }

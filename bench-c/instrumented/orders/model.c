@@ -44,7 +44,7 @@ static uint64_t read_store(const tmwatch_access *a, struct place *it, unsigned f
     struct store *store = &it->stores[found];
     it->stale[a->thread] = found + 1 < it->count ? (uint8_t)(it->stale[a->thread] + 1) : 0;
     keep_deviation(a, it, found, STALE_LOAD);
-    meet(a, store);
+    meet(a, it, store);
     settle_access(a, it, found, stores);
     see(a, store);
     follow_access(a, it, store->value, false);
@@ -141,6 +141,7 @@ static struct store *add_store(const tmwatch_access *a, struct place *it, unsign
     store->before_reads = store->before_stores = before;
     store->value = value;
     store->thread = (uint8_t)a->thread;
+    store->attempt = view->attempts;
     store->caller = a->caller;
     store->releases = releases(a->order) ? view->knows : view->fenced;
     see(a, store);
@@ -179,6 +180,8 @@ void tmwatch_orders_change(const tmwatch_access *a, uint64_t value)
 void tmwatch_orders_fence(const tmwatch_access *a)
 {
     struct view *view = next_step(a->orders, a->thread);
+    for (unsigned i = 0; i < THREADS; i++)
+        a->orders->met[a->thread][i].is_acquired |= acquires(a->order);
     if (acquires(a->order))
         join(&view->knows, &view->loaded);
     follow_fence(a);
@@ -235,6 +238,7 @@ void tmwatch_orders_begins(tmwatch_simulation *o, unsigned thread)
 {
     follow_fence(&(tmwatch_access){.orders = o, .thread = thread, .order = __ATOMIC_ACQUIRE});
     join(&o->views[thread].knows, &o->ended);
+    o->views[thread].attempts++;
 }
 
 void tmwatch_orders_ends(tmwatch_simulation *o, unsigned thread)
@@ -263,7 +267,7 @@ void tmwatch_orders_unlocks(tmwatch_simulation *o, unsigned thread, const volati
 void tmwatch_orders_futex(tmwatch_simulation *o, const volatile void *word, const void *caller)
 {
     if (!look_up(o, (uintptr_t)word, sizeof(uint32_t)))
-        meet_unseen(o, UNMARKED_LOCK, caller);
+        meet_untracked(o, UNMARKED_LOCK, caller);
 }
 
 void tmwatch_orders_still(tmwatch_simulation *o)

@@ -62,10 +62,10 @@ static struct place *look_up(tmwatch_simulation *o, uintptr_t at, unsigned bytes
     return NULL;
 }
 
-static void meet_unseen(tmwatch_simulation *o, enum unseen kind, const void *caller)
+static void meet_untracked(tmwatch_simulation *o, enum untracked kind, const void *caller)
 {
-    if (!o->unseen[kind])
-        o->unseen[kind] = caller;
+    if (!o->untracked_at[kind])
+        o->untracked_at[kind] = caller;
 }
 
 /* The place of an access, or null. If memory doesn't hold its newest store, one that isn't simulated has come, and the history is forgotten. */
@@ -79,9 +79,10 @@ static struct place *find_place(const tmwatch_access *a)
     if (!it || (it->count > 0 && it->stores[it->count - 1].value == newest))
         return it;
     if (it->count > 0)
-        meet_unseen(o, UNMARKED_STORE, a->caller);
+        meet_untracked(o, UNMARKED_STORE, a->caller);
     end_history(o, it);
     memset(it->stale, 0, sizeof it->stale);
+    memset(it->read, 0, sizeof it->read);
     it->stores[0] = (struct store){.value = newest, .releases = it->count > 0 ? (struct clock){{0}} : it->stores[0].releases};
     it->count = 1;
     return it;

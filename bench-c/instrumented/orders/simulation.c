@@ -6,14 +6,14 @@ enum { CELL_BITS = 12, CELLS = 1 << CELL_BITS };
 enum { WORD_BITS = 3, WORD_BYTES = 1 << WORD_BITS, HEAD_BITS = 11, HEADS = 1 << HEAD_BITS, FEW_WORDS = 16 };
 static const uint64_t apart_words = 0x9E3779B97F4A7C15;
 
-/* A store: what an acquire that reads it gets to know; and at which step each thread has first read or written it, also by a sequentially
-   consistent operation. So who knows that step, or comes after that operation, reads no older one. And the last operations of that kind that
-   come before who reads it, and before who stores after it. */
+/* A store: what an acquire that reads it gets to know; at which step each thread first read or wrote it, also by a sequentially consistent
+   operation: whoever knows that step reads no older one; and the last such operations before its readers, and before later stores. */
 struct store {
     uint64_t value;
     struct clock releases, seen, ordered, before_reads, before_stores;
     bool is_change; /* a read-modify-write, of the store before it: none comes between */
     uint8_t thread;
+    uint32_t attempt;   /* of that thread */
     const void *caller; /* where it was made, or null: it was there before */
 };
 
@@ -28,6 +28,12 @@ struct sequential {
     struct past past;
 };
 
+/* A thread's last read of a place: at which step, in which attempt, and where. */
+struct read {
+    uint32_t step, attempt;
+    const void *caller;
+};
+
 /* The newest store is the last. */
 struct place {
     uintptr_t at;
@@ -35,6 +41,7 @@ struct place {
     uint32_t number;       /* of the round's histories */
     uint16_t next;
     uint8_t stale[THREADS]; /* how many loads in a row a thread had that weren't of the newest */
+    struct read read[THREADS];
     struct store stores[MOST_STORES];
 };
 
@@ -46,21 +53,29 @@ struct lock {
 };
 
 /* What orders threads and isn't simulated. */
-enum unseen { UNMARKED_STORE, UNMARKED_LOCK, UNSEEN_KINDS };
+enum untracked { UNMARKED_STORE, UNMARKED_LOCK, UNTRACKED_KINDS };
 
 enum deviation_kind { STALE_LOAD, LATE_STORE };
 
-/* The last store of another thread that a thread has read: at which step of the other it was made, where, and where it was loaded. */
+/* The last store of another thread that a thread has read: its step, and up to which it releases; where both are; whether an acquire followed. */
 struct met {
-    uint32_t step;
+    uint32_t step, released;
     const void *stored, *loaded;
+    bool is_acquired;
 };
 
-/* An access of an older store than the newest: by whom and where, who has made the next one; and what later store of that was read before. */
+/* What may forbid a deviation: of message passing a release and an acquire, or the half that is missing; of store buffering, fences. */
+enum cure { BOTH_HALVES = 1, ONE_HALF = 2, FENCES = 4 };
+
+/* An access that has missed newer stores: where, and where the next one is; which later store of that thread was read before; and for store
+   buffering, where the thread had stored what the other one has missed, and where the other one has read. */
 struct deviation {
     uint64_t event; /* how many events preceded */
     const void *caller, *other;
     struct met met;
+    const void *stored, *read;
+    uint8_t cures;
+    bool is_released;
     uint8_t kind, thread, other_thread;
     uint8_t newer; /* how many stores are newer */
 };
@@ -86,8 +101,7 @@ struct race {
     const void *caller, *other_caller;
 };
 
-/* A relaxed load of a round: what it has returned, which one it is, at which step of its thread, in which history, and where. Whether a read
-   has answered so, whether nothing that is stored later may be returned any more, and whether that is returned, by a second run. */
+/* A relaxed load of a round, in a place's history. `answers`: a read has returned its value. `is_closed`: it may return no later store any more. */
 struct load {
     uint64_t value;
     uint32_t index, step, place;
@@ -105,7 +119,7 @@ struct tmwatch_simulation {
     struct clock fences;
     struct past past;
     unsigned operations_used[THREADS];
-    uint32_t stale, late;
+    atomic_uint_least32_t stale, late; /* the watchdog ends them */
     unsigned used, locks_used, loads_used;
     uint32_t histories, loads_made;
     uint16_t heads[HEADS];
@@ -116,11 +130,12 @@ struct tmwatch_simulation {
     struct clock made;   /* the last sequentially consistent operations that come before who comes after this access */
     struct place *taken; /* of the read-modify-write that is under way: its place, or null, and which store it has read */
     unsigned taken_store;
-    uint64_t draws, deviated;
+    uint64_t draws;
+    atomic_uint_least64_t deviated; /* (this, untracked_at and has_race say what may be read while a thread is stuck) */
     uint32_t round;
     const atomic_uint_least64_t *recorded;
-    const void *unseen[UNSEEN_KINDS]; /* where each was first met, or null */
-    bool has_race;
+    const void *_Atomic untracked_at[UNTRACKED_KINDS]; /* where each was first met, or null */
+    atomic_bool has_race;
     struct race race;
     tmwatch_delays *delays; /* or null: none is looked for */
     uint64_t accesses;      /* a hash of all that were made */

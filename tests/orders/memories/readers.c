@@ -66,7 +66,7 @@ static bool begin(void *memory UNUSED, void *tx)
     if (tell())
         raced++;
     if (TELLS == 3)
-        tmwatch_asks();
+        tmwatch_external_call();
 #endif
     *(struct tx *)tx = (struct tx){0};
     return true;
