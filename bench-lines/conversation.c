@@ -18,7 +18,7 @@ static struct client {
 
 /* After so long, nothing more comes of half a line. */
 #define HALF_A_LINE (2 * SECOND)
-#define OURS "; standard output is the bench's: print to standard error"
+#define OURS ". (Use standard error for messages.)"
 
 const char *call_of(unsigned thread, bool *is_pending)
 {
@@ -39,7 +39,7 @@ static bool is_open(const struct client *it)
 /* Whose answer comes next, as far as can be told: of threads that share a program, this one's if it waits. */
 static unsigned expected(unsigned reader)
 {
-    for (unsigned i = 0; options.has_one && !is_open(&clients[reader]) && i < MOST_THREADS; i++)
+    for (unsigned i = 0; options.is_single && !is_open(&clients[reader]) && i < MOST_THREADS; i++)
         if (is_open(&clients[i]))
             return i;
     return reader;
@@ -55,12 +55,12 @@ static void give(unsigned reader, const char *line, size_t length)
     if (length > 0 && line[length - 1] == '\r')
         length--;
     if (length < 3 || length >= MOST_LINE || thread >= MOST_THREADS || line[1] != ' ')
-        fail(own, "\"%s\" is no answer" OURS, shown(line, length));
-    if (!options.has_one && thread != own)
-        fail(own, "\"%s\" is an answer of thread %u, whose calls another process gets", shown(line, length), thread);
+        fail_answer(own, shown(line, length), OURS);
+    if (!options.is_single && thread != own)
+        fail(own, "the line \"%s\" is an answer of thread %u, whose calls go to another process", shown(line, length), thread);
     struct client *it = &clients[thread];
     if (!is_open(it))
-        fail(thread, "\"%s\" answers no call" OURS, shown(line, length));
+        fail(thread, "the line \"%s\" answers no call" OURS, shown(line, length));
     memcpy(it->answer, line + 2, length - 2);
     it->answer[length - 2] = '\0';
     it->is_answered = true;
@@ -79,7 +79,7 @@ static void give_lines(struct program *it, unsigned reader)
     it->have -= (size_t)(at - it->text);
     memmove(it->text, at, it->have);
     if (it->have >= MOST_LINE)
-        fail(expected(reader), "\"%s\" is no answer" OURS, shown(it->text, it->have));
+        fail_answer(expected(reader), shown(it->text, it->have), OURS);
 }
 
 /* Waits until the program writes: whether it has by then. What follows half a line has to come soon. */
@@ -91,7 +91,7 @@ static bool is_readable(const struct program *it, unsigned reader, uint64_t unti
     struct pollfd polled = {it->from, POLLIN, 0};
     int count = ppoll(&polled, 1, &time, NULL);
     if (count == 0 && is_half)
-        fail(expected(reader), "half a line has come, \"%s\", and nothing more", shown(it->text, it->have));
+        fail(expected(reader), "the line \"%s\" has no end, and nothing follows", shown(it->text, it->have));
     return count > 0;
 }
 
@@ -114,7 +114,7 @@ static bool read_lines(struct program *it, unsigned reader, uint64_t until)
 static void stop_reading(struct program *it)
 {
     it->is_read = false;
-    for (unsigned i = 0; options.has_one && i < MOST_THREADS; i++)
+    for (unsigned i = 0; options.is_single && i < MOST_THREADS; i++)
         if (is_open(&clients[i])) {
             sem_post(&clients[i].woken);
             return;
@@ -172,8 +172,9 @@ static void write_call(unsigned thread)
         fail_ended(thread);
 }
 
-const char *ask(unsigned thread, const char *format, ...)
+const char *ask(const char *format, ...)
 {
+    unsigned thread = tmwatch_thread();
     struct client *it = &clients[thread];
     va_list words;
     if (has_crashed)
@@ -207,7 +208,7 @@ void begin_conversation(uint64_t until)
     }
     for (unsigned thread = 0; thread < options.threads; thread++) {
         if (!is_answered(thread, until))
-            fail(thread, "no answer to the first line within %llu seconds", (unsigned long long)options.start);
+            fail(thread, "no answer to the first line within %llu seconds (--startup-timeout)", (unsigned long long)options.startup_timeout);
         check_abort(thread, clients[thread].answer);
     }
     is_running = is_talking = true;

@@ -1,8 +1,6 @@
-/*
-A crash of the store. At a call that the seed draws, all programs are killed, and then a command kills the store, or its machine, and starts it
-again. The call has been written, and has no answer: nobody knows what became of it. Nor have the others that wait. New programs are started; one
-of a thread that had no part then looks at what is there.
-*/
+/* A crash of the store. At a random call all programs are killed, and a command kills the store, or its machine, and starts it again. That call was
+   written and got no answer, like those of the other threads that wait, so nobody knows its effect. Then new programs are started, and one of a
+   thread without a part in the round reads what is there. */
 #include "lines.h"
 #include <signal.h>
 #include <sys/wait.h>
@@ -36,9 +34,8 @@ bool crashes_now(void)
 }
 
 /* After all threads have ended their part. */
-static void restart(void *memory)
+static void restart(void *memory UNUSED)
 {
-    (void)memory;
     start_programs();
     has_crashed = false;
     draw_crash();
@@ -50,5 +47,5 @@ void crash(unsigned thread)
     tmwatch_bench_crash(restart);
     end_conversation();
     if (!run_command("the crash", options.crash))
-        fail(thread, "the crash has failed");
+        fail(thread, "the command of --crash failed");
 }

@@ -11,13 +11,13 @@ _Noreturn void fail(unsigned thread, const char *format, ...)
 {
     static atomic_flag is_said = ATOMIC_FLAG_INIT;
     static char text[512];
-    bool is_pending;
+    bool is_pending, is_answer = strncmp(format, "the answer", strlen("the answer")) == 0;
     const char *call = call_of(thread, &is_pending);
     va_list words;
     while (atomic_flag_test_and_set(&is_said))
         pause();
-    int length = is_pending ? snprintf(text, sizeof text, "thread %u, call \"%s\": ", thread, call)
-                            : snprintf(text, sizeof text, "thread %u, between calls: ", thread);
+    int length = is_pending && !is_answer ? snprintf(text, sizeof text, "thread %u, call \"%s\": ", thread, call)
+                                          : snprintf(text, sizeof text, "thread %u%s: ", thread, is_pending ? "" : ", between calls");
     va_start(words, format);
     vsnprintf(text + length, sizeof text - (size_t)length, format, words);
     va_end(words);
@@ -31,23 +31,32 @@ _Noreturn void fail(unsigned thread, const char *format, ...)
     _exit(FAULT);
 }
 
+_Noreturn void fail_answer(unsigned thread, const char *answer, const char *hint)
+{
+    bool is_pending;
+    const char *call = call_of(thread, &is_pending);
+    if (!is_pending)
+        fail(thread, "the line \"%s\" is not an answer%s", answer, hint);
+    const char *wanted = call[0] == 'W' ? "\"K\" or " : call[0] == 'T' ? "\"C\" or " : call[0] == 'X' ? "" : "\"V number\" or ";
+    fail(thread, "the answer to \"%s\" was \"%s\", not %s\"A\"%s", call, answer, wanted, hint);
+}
+
 /* How long a program that has closed its output has to end. */
 enum { END_TRIES = 1000, EACH_TRY = 1000 /* microseconds */ };
 
 _Noreturn void fail_ended(unsigned thread)
 {
     struct program *it = program_of(thread);
-    int status = 0;
-    pid_t ended = 0;
-    for (int i = 0; i < END_TRIES && (ended = waitpid(it->pid, &status, WNOHANG)) == 0; i++)
+    siginfo_t ended = {.si_signo = 0};
+    for (int i = 0; i < END_TRIES && waitid(P_PID, (id_t)it->pid, &ended, WEXITED | WNOHANG | WNOWAIT) == 0 && ended.si_pid == 0; i++)
         usleep(EACH_TRY);
     if (it->have > 0)
         fail(thread, "the program has ended after half a line, \"%s\"", shown(it->text, it->have));
-    if (ended != it->pid)
+    if (ended.si_pid == 0)
         fail(thread, "the program has closed its standard input or output, and goes on");
-    if (WIFSIGNALED(status))
-        fail(thread, "the program was ended by signal %d (%s)", WTERMSIG(status), strsignal(WTERMSIG(status)));
-    fail(thread, "the program has ended with status %d", WEXITSTATUS(status));
+    if (ended.si_code != CLD_EXITED)
+        fail(thread, "the program was ended by signal %d (%s)", ended.si_status, strsignal(ended.si_status));
+    fail(thread, "the program has ended with status %d", ended.si_status);
 }
 
 /* A copy of a line whose characters can be printed. */

@@ -17,18 +17,19 @@ enum {
 #define SECOND UINT64_C(1000000000)
 #define MILLISECOND UINT64_C(1000000)
 #define FOREVER UINT64_MAX
+#define UNUSED __attribute__((unused))
 
 /* What the words say, besides those of the bench. */
 struct options {
-    bool has_one, has_wide, has_add; /* one program for all threads; values of 64 bits; the program adds */
-    bool by_all;                     /* the schedule */
-    const char *setup, *teardown;    /* commands, or null */
-    const char *crash;               /* the same: kills the store and starts it again */
-    const char *whole;               /* the file of the whole run, or null */
-    uint64_t jobs;                   /* how many runs there are at once */
-    uint64_t start, wait;            /* seconds until a program is ready; milliseconds until a call waits, or 0 if that is found out */
-    unsigned threads, registers;     /* how many at most */
-    char **program;                  /* its words, up to a null */
+    bool is_single, has_add;                 /* one program for all threads; the program adds */
+    bool by_all;                             /* the schedule */
+    const char *setup, *teardown;            /* commands, or null */
+    const char *crash;                       /* the same: kills the store and starts it again */
+    const char *full_trace;                  /* the file of the whole run, or null */
+    uint64_t jobs;                           /* how many runs there are at once */
+    uint64_t startup_timeout, blocked_after; /* seconds until a program is ready; milliseconds until a call waits, or 0 if that is found out */
+    unsigned threads, registers;             /* how many at most */
+    char **program;                          /* its words, up to a null */
 };
 extern struct options options;
 
@@ -44,10 +45,10 @@ struct program {
 /* main.c */
 uint64_t now(void);
 
-/* What the processes of a run share: what a run of any job has shown; whether a job has failed before its run, or had one; the programs' leaders. */
+/* What the processes of a run share: what any job has shown, or whether it failed before its run; the runs of each; the programs' process groups. */
 struct shared {
-    atomic_bool have_met /* two calls have run at once */, is_to_add, has_added, has_failed, has_run[MOST_JOBS];
-    pid_t supervisor, programs[MOST_JOBS][MOST_THREADS];
+    atomic_bool have_met /* two calls have run at once */, is_to_add, has_added, has_failed;
+    atomic_int supervisor, runs[MOST_JOBS], programs[MOST_JOBS][MOST_THREADS]; /* (0 once the group is gone) */
 };
 extern struct shared *shared;
 
@@ -66,11 +67,12 @@ void kill_programs(void);
 /* failures.c: each says in one line what is wrong, and doesn't return. The call of that thread stays without an answer. */
 extern atomic_bool is_running;
 _Noreturn void fail(unsigned thread, const char *format, ...) __attribute__((format(printf, 2, 3)));
+_Noreturn void fail_answer(unsigned thread, const char *answer, const char *hint);
 _Noreturn void fail_ended(unsigned thread);
 const char *shown(const char *line, size_t length);
 
-/* conversation.c: a thread's call and its answer, or null after a crash. */
-const char *ask(unsigned thread, const char *format, ...) __attribute__((format(printf, 2, 3)));
+/* conversation.c: writes a call of this thread, and returns its answer, or null after a crash. */
+const char *ask(const char *format, ...) __attribute__((format(printf, 1, 2)));
 bool is_answered(unsigned thread, uint64_t until);
 void end_call(unsigned thread);
 const char *call_of(unsigned thread, bool *is_pending);

@@ -1,19 +1,12 @@
-/*
-A bench for a memory or a store in any language: calls and answers as lines. docs/LINES.md is its page.
-
-    tmwatch-bench [OPTION].. -- PROGRAM [WORD]..
-
-The bench is that of tmwatch_bench.h, and so are all options but those listed here.
-*/
+/* tmwatch-bench: the bench of tmwatch_bench.h for a memory or a store in any language, by calls and answers that are lines (docs/LINES.md). Its own
+   options are here; all others are the bench's. */
 #include "lines.h"
-#include <errno.h>
-#include <inttypes.h>
 #include <signal.h>
 #include <stdlib.h>
 #include <string.h>
 #include <time.h>
 
-struct options options = {.by_all = true, .start = 60, .threads = MOST_THREADS, .registers = MOST_REGISTERS, .jobs = 1};
+struct options options = {.by_all = true, .startup_timeout = 60, .threads = MOST_THREADS, .registers = MOST_REGISTERS, .jobs = 1};
 
 /* The words of the bench: its name, what was given, and a null. */
 static char **bench_words;
@@ -32,52 +25,31 @@ static const struct option {
     bool *flag;
     const char **command;
     uint64_t *number;
-} own[] = {{"--one", "", "one program for all threads (one for each)", &options.has_one, NULL, NULL},
-           {"--setup", "COMMAND", "runs before: leaves 0 in each register", NULL, &options.setup, NULL},
-           {"--teardown", "COMMAND", "runs at the end, however the run ended", NULL, &options.teardown, NULL},
-           {"--crash", "COMMAND", "kills the store and starts it again, at calls that the seed draws", NULL, &options.crash, NULL},
-           {"--whole", "FILE", "the whole run as a trace; rounds go on after a violation", NULL, &options.whole, NULL},
-           {"--add", "", "the program adds (N); --adds needs it", &options.has_add, NULL, NULL},
-           {"--wide", "", "values have all 64 bits (they are small)", &options.has_wide, NULL, NULL},
-           {"--jobs", "1-64", "runs at once, a store each: the setup runs for each, with TMWATCH_JOB (1)", NULL, NULL, &options.jobs},
-           {"--start", "SECONDS", "until each program is ready (60)", NULL, NULL, &options.start},
-           {"--wait", "MS", "a call that takes longer waits for another client (is found out)", NULL, NULL, &options.wait}};
-enum { OWN = sizeof own / sizeof own[0], MOST_NUMBER = 1000000, USUAL_THREADS = 4, MORE_WORDS = 6 };
-
-/* Prints the options of the bench, but for those that say nothing of a program elsewhere. */
-static void tell_bench_options(void)
-{
-    char *text = NULL, name[16];
-    size_t size = 0;
-    FILE *file = open_memstream(&text, &size);
-    if (!file)
-        return;
-    tmwatch_bench_options(file);
-    fclose(file);
-    for (char *line = strtok(text, "\n"); line; line = strtok(NULL, "\n"))
-        if (sscanf(line, "%15s", name) == 1 && !strstr("--event --jobs --orders --plain --races", name))
-            puts(line);
-    free(text);
-}
+} own[] = {{"--setup", "COMMAND", "run this first; it must set every register to 0", NULL, &options.setup, NULL},
+           {"--teardown", "COMMAND", "run this last, however the run ended", NULL, &options.teardown, NULL},
+           {"--single-process", "", "start PROGRAM only once, for all threads", &options.is_single, NULL, NULL},
+           {"--add", "", "PROGRAM supports adds (N)", &options.has_add, NULL, NULL},
+           {"--startup-timeout", "N", "seconds until PROGRAM must be ready (60)", NULL, NULL, &options.startup_timeout},
+           {"--blocked-after", "MS", "after this time a call counts as blocked (measured)", NULL, NULL, &options.blocked_after},
+           {"--crash", "COMMAND", "kill and restart the store with this, at random calls", NULL, &options.crash, NULL},
+           {"--full-trace", "FILE", "write the whole run to FILE; implies --keep-going", NULL, &options.full_trace, NULL}};
+enum { OWN = sizeof own / sizeof own[0], MOST_NUMBER = 1000000, USUAL_THREADS = 4, MORE_WORDS = 4 };
 
 static int tell_help(void)
 {
-    puts("usage: tmwatch-bench [OPTION].. -- PROGRAM [WORD]..\n"
-         "Starts the program, has it make random transactions by lines, and judges whether they are opaque.");
+    puts("usage: tmwatch-bench [OPTION].. -- PROGRAM [ARGUMENT]..\n"
+         "Tests a database or any other store for opacity. Starts PROGRAM once per thread,\n"
+         "sends it the calls of random transactions, and checks its answers (LINES.md).\n\nThe store:");
     for (size_t i = 0; i < OWN; i++)
-        printf("  %-11s %-10s %s\n", own[i].name, own[i].takes, own[i].text);
-    tell_bench_options();
-    puts("  --help, --version      alone\nStatus: 0 opaque so far, 1 violated, 2 undecided, 3 malformed, 4 a fault");
+        printf("  %s %-*s %s\n", own[i].name, 21 - (int)strlen(own[i].name), own[i].takes, own[i].text);
+    puts("What to run:");
+    tmwatch_bench_print_help(stdout);
+    puts("  --help, --version      print this, or the version\n"
+         "Exit status: 0 opaque so far, 1 violated, 2 undecided, 3 malformed, 4 fault");
     return fflush(stdout) == 0 ? 0 : FAULT;
 }
 
-static int tell_usage(const char *what, const char *word)
-{
-    puts("{\"fault\":\"usage\"}");
-    fflush(stdout);
-    fprintf(stderr, "%s%s\nusage: tmwatch-bench [OPTION].. -- PROGRAM [WORD]..; --help tells the options\n", what, word);
-    return FAULT;
-}
+#define REFUSE(...) (puts("{\"fault\":\"usage\"}"), fflush(stdout), fprintf(stderr, __VA_ARGS__), fputs("\nTry --help.\n", stderr), FAULT)
 
 /* The number that a word is, or one too many if it is none. */
 static uint64_t number_of(const char *word)
@@ -119,6 +91,8 @@ static void look_at(char **words)
     }
     if (strcmp(words[0], "--registers") == 0 && number >= 1 && number <= MOST_REGISTERS)
         options.registers = (unsigned)number;
+    if (strcmp(words[0], "--jobs") == 0 && number >= 1 && number <= MOST_JOBS)
+        options.jobs = number;
     if (strcmp(words[0], "--schedule") == 0 && words[1])
         options.by_all = strcmp(words[1], "all") == 0;
     if (!options.by_all && !is_given)
@@ -190,30 +164,27 @@ static void set_environment(void)
 
 int main(int count, char **words)
 {
+    if (!tmwatch_bench_open_standard())
+        return FAULT;
     if (count == 2 && strcmp(words[1], "--help") == 0)
         return tell_help();
     bench_words = calloc((size_t)count + MORE_WORDS, sizeof *bench_words);
     if (!bench_words)
         return FAULT;
     bench_words[bench_count++] = words[0];
+    bench_words[bench_count++] = "--values";
+    bench_words[bench_count++] = "small";
     if (count == 2 && strcmp(words[1], "--version") == 0)
         return tmwatch_bench_main(NULL, count, words);
     const char *wrong = read_words(words + 1);
     if (wrong)
-        return tell_usage("wrong, or without its value: ", wrong);
+        return REFUSE("%s: the value is %s", wrong, find_own(wrong)->number ? "not a number from 1 to 1000000" : "missing");
     if (!options.program[0])
-        return tell_usage("no program: it comes after --", "");
-    if (options.whole && options.crash)
-        return tell_usage("a run with crashes is no whole trace: --whole", "");
-    if (options.jobs > MOST_JOBS)
-        return tell_usage("more jobs than 64: --jobs", "");
-    char jobs[] = {(char)('0' + options.jobs / 10), (char)('0' + options.jobs % 10), '\0'};
-    bench_words[bench_count++] = "--jobs";
-    bench_words[bench_count++] = jobs;
-    if (!options.has_wide)
-        bench_words[bench_count++] = "--small";
-    if (options.whole)
-        bench_words[bench_count++] = "--go-on";
+        return REFUSE("tmwatch-bench: the program is missing. Write it after --");
+    if (options.full_trace && options.crash)
+        return REFUSE("--full-trace: not with --crash");
+    if (options.full_trace)
+        bench_words[bench_count++] = "--keep-going";
     if (options.crash)
         bench_words[bench_count++] = "--crashes";
     if (options.crash && options.threads < MOST_THREADS)

@@ -12,7 +12,7 @@ static struct program programs[MOST_THREADS];
 
 struct program *program_of(unsigned thread)
 {
-    return &programs[options.has_one ? 0 : thread];
+    return &programs[options.is_single ? 0 : thread];
 }
 
 /* Starts a program in a group of its own, with the usual signals: 0, or the number of an error. */
@@ -45,13 +45,13 @@ static void start_program(unsigned thread)
     int in[2], out[2], status;
     char number[] = {(char)('0' + thread), '\0'};
     if (pipe2(in, O_CLOEXEC) != 0 || pipe2(out, O_CLOEXEC) != 0)
-        fail(thread, "no pipe to the program can be made");
-    if (options.has_one)
+        fail(thread, "cannot make a pipe to the program");
+    if (options.is_single)
         unsetenv("TMWATCH_THREAD");
     else
         setenv("TMWATCH_THREAD", number, 1);
     if ((status = spawn(it, in[0], out[1])) != 0)
-        fail(thread, "%s can't be started: %s", options.program[0], strerror(status));
+        fail(thread, "cannot start %s: %s", options.program[0], strerror(status));
     note_program(thread, it->pid);
     close(in[0]);
     close(out[1]);
@@ -69,6 +69,7 @@ void kill_programs(void)
     for (unsigned thread = 0; thread < MOST_THREADS; thread++)
         if (programs[thread].pid > 0) {
             kill(-programs[thread].pid, SIGKILL);
+            note_program(thread, 0);
             waitpid(programs[thread].pid, NULL, 0);
             programs[thread].pid = 0;
         }
@@ -76,9 +77,9 @@ void kill_programs(void)
 
 void start_programs(void)
 {
-    uint64_t until = now() + options.start * SECOND;
+    uint64_t until = now() + options.startup_timeout * SECOND;
     signal(SIGPIPE, SIG_IGN);
-    for (unsigned thread = 0; thread < (options.has_one ? 1 : options.threads); thread++)
+    for (unsigned thread = 0; thread < (options.is_single ? 1 : options.threads); thread++)
         start_program(thread);
     begin_conversation(until);
 }

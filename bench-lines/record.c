@@ -11,17 +11,17 @@ static int file = -1;
 static void write_line(const char *line, size_t length)
 {
     if (write(file, line, length) != (ssize_t)length)
-        fail(0, "%s can't be written", options.whole);
+        fail(0, "cannot write %s", options.full_trace);
 }
 
 void open_record(void)
 {
     char header[100];
-    if (!options.whole)
+    if (!options.full_trace)
         return;
-    file = open(options.whole, O_WRONLY | O_CREAT | O_TRUNC | O_APPEND | O_CLOEXEC, 0666);
+    file = open(options.full_trace, O_WRONLY | O_CREAT | O_TRUNC | O_APPEND | O_CLOEXEC, 0666);
     if (file < 0)
-        fail(0, "%s can't be written: %s", options.whole, strerror(errno));
+        fail(0, "cannot write %s: %s", options.full_trace, strerror(errno));
     /* (only version 2 has adds; it names what registers hold at first) */
     int length = snprintf(header, sizeof header, "opacity-trace %d %u", options.has_add ? 2 : 1, options.registers);
     for (unsigned reg = 0; options.has_add && reg < options.registers; reg++)

@@ -1,10 +1,6 @@
-/*
-The processes of a run. Each ends what it has started, and so nothing is left behind, whichever of them is killed.
-
-The first one is what the user starts and signals. The second runs the setup, starts the bench, and at the end ends all programs, runs the
-teardown, and ends what the setup has left. The third is the bench, which starts the programs. Processes that have lost their parent come to
-the second, or else to the first.
-*/
+/* The processes of a run. Each ends what it has started, so nothing is left behind if one of them is killed. The user starts and signals the
+   first. The second runs the setup, starts the bench, and in the end kills all programs, runs the teardown and ends what the setup has left. The
+   third is the bench, which starts the programs. Orphans become children of the second, or of the first. */
 #include "lines.h"
 #include <errno.h>
 #include <fcntl.h>
@@ -32,13 +28,6 @@ static unsigned own_job;
 void note_program(unsigned number, pid_t pid)
 {
     shared->programs[own_job][number] = pid;
-}
-
-static void be_job(unsigned job)
-{
-    const char number[] = {(char)('0' + job / 10), (char)('0' + job % 10), '\0'};
-    own_job = job;
-    setenv("TMWATCH_JOB", job < 10 ? number + 1 : number, 1);
 }
 
 /* Who gets the signals that come: a process, or by a negative number a group. */
@@ -76,17 +65,38 @@ static void catch_none(void)
         raise(SIGTERM);
 }
 
-/* Waits for a child, to which signals are handed on meanwhile, or to its group: the status of waitpid. */
+/* Signals each group of programs: whether one is left. A group that is gone is forgotten, because its number may become that of a foreign one. */
+static bool signal_programs(int signal)
+{
+    bool is_left = false;
+    for (unsigned i = 0; i < MOST_JOBS * MOST_THREADS; i++) {
+        atomic_int *noted = &shared->programs[i / MOST_THREADS][i % MOST_THREADS];
+        int leader = *noted;
+        bool is_there = leader > 0 && kill(-leader, signal) == 0;
+        if (leader > 0 && !is_there)
+            atomic_compare_exchange_strong(noted, &leader, 0);
+        is_left = is_left || is_there;
+    }
+    return is_left;
+}
+
+/* Waits for a child, to which signals are handed on meanwhile, or to its group: the status of waitpid, or as by exit(FAULT) if there is none. */
 static int wait_for(pid_t pid, bool has_group)
 {
     int status = 0;
+    siginfo_t ended = {.si_signo = 0};
+    if (pid < 0)
+        return FAULT << 8;
     signalled = has_group ? -pid : pid;
     if (is_interrupted)
         kill(signalled, SIGTERM);
-    /* (what others have left behind ends too) */
-    for (pid_t ended = 0; ended != pid && (ended >= 0 || errno == EINTR);)
-        ended = waitpid(has_group ? pid : -1, &status, 0);
+    /* (what others have left behind is reaped too) */
+    while (ended.si_pid != pid && (waitid(has_group ? P_PID : P_ALL, (id_t)pid, &ended, WEXITED | WNOWAIT) == 0 || errno == EINTR))
+        if (ended.si_pid != pid && waitpid(ended.si_pid, NULL, WNOHANG) > 0)
+            signal_programs(0);
+    /* Until it is reaped, its number is no other process's. */
     signalled = 0;
+    waitpid(pid, &status, 0);
     return status;
 }
 
@@ -94,6 +104,8 @@ static int wait_for(pid_t pid, bool has_group)
 static pid_t start_own(int (*make)(int (*)(void)), int (*run)(void))
 {
     pid_t parent = getpid(), pid = fork();
+    if (pid < 0)
+        perror("cannot start a process"), puts("{\"fault\":\"memory\"}");
     if (pid != 0)
         return pid;
     setpgid(0, 0);
@@ -122,32 +134,26 @@ bool run_command(const char *name, const char *command)
     return status == 0;
 }
 
-/* Runs a command for the job, if there is one. */
+/* Makes this process the job, and runs a command for it, if there is one. */
 static bool run_for(unsigned job, const char *name, const char *command)
 {
-    be_job(job);
+    const char number[] = {(char)('0' + job / 10), (char)('0' + job % 10), '\0'};
+    own_job = job;
+    setenv("TMWATCH_JOB", job < 10 ? number + 1 : number, 1);
     return !command || run_command(name, command);
 }
 
 bool begin_job(unsigned job)
 {
-    if (!atomic_exchange(&shared->has_run[job], true))
-        return job < options.jobs ? run_for(job, "", NULL) : run_for(job, "the setup", options.setup);
+    int runs = shared->runs[job]++;
+    if (runs == 0)
+        return run_for(job, "", NULL);
     for (unsigned i = 0; i < MOST_THREADS; i++)
         if (shared->programs[job][i] > 0)
             kill(-shared->programs[job][i], SIGKILL);
-    return run_for(job, "the teardown", options.teardown) && run_for(job, "the setup", options.setup);
-}
-
-/* Signals each group of programs: whether one is left. */
-static bool signal_programs(int signal)
-{
-    bool is_left = false;
-    for (unsigned i = 0; i < MOST_JOBS * MOST_THREADS; i++) {
-        pid_t leader = shared->programs[i / MOST_THREADS][i % MOST_THREADS];
-        is_left = (leader > 0 && kill(-leader, signal) == 0) || is_left;
-    }
-    return is_left;
+    /* (what the teardown removes may have been there before the setup) */
+    return (runs == 1 && run_for(job, "the setup", options.setup)) ||
+           (run_for(job, "the teardown", options.teardown) && run_for(job, "the setup", options.setup));
 }
 
 /* Whether all groups of programs are gone by then. */
@@ -170,21 +176,20 @@ static void end_programs(void)
         signal_programs(signals[i]);
 }
 
-/* Signals each child: whether there was any. */
+/* Signals each child: whether there is any. Its number is no other process's, because nobody but this process, which has one thread, reaps it. */
 static bool signal_children(int signal)
 {
-    char name[64], pids[4096];
+    char name[64];
+    bool is_any = false;
+    siginfo_t unused;
     snprintf(name, sizeof name, "/proc/self/task/%d/children", (int)getpid());
-    int file = open(name, O_RDONLY);
-    ssize_t count = file < 0 ? 0 : read(file, pids, sizeof pids - 1);
-    close(file);
-    pids[count > 0 ? count : 0] = '\0';
-    char *at = pids, *end = pids;
-    for (long pid = strtol(at, &end, 10); end != at; pid = strtol(at, &end, 10)) {
-        kill((pid_t)pid, signal);
-        at = end;
-    }
-    return count > 0;
+    FILE *file = fopen(name, "r");
+    for (int child; file && fscanf(file, "%d", &child) == 1;)
+        if (waitid(P_PID, (id_t)child, &unused, WEXITED | WNOHANG | WNOWAIT) == 0 && kill(child, signal) == 0)
+            is_any = true;
+    if (file)
+        fclose(file);
+    return is_any;
 }
 
 /* Ends all children, and those that come from them. */
@@ -240,6 +245,7 @@ int supervise_run(int (*run)(void))
     if (mapped == MAP_FAILED)
         return FAULT;
     shared = mapped;
+    signal(SIGCHLD, SIG_DFL); /* (where it is ignored, the system reaps children) */
     prctl(PR_SET_CHILD_SUBREAPER, 1);
     catch_signals(hand_on);
     int status = wait_for(start_own(make_run, run), false);

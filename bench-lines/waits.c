@@ -1,9 +1,7 @@
-/*
-When a call waits for another client. By steps one thread runs at a time, so a store that has the call wait for another thread's transaction
-would never answer. A call is taken for one that waits if it takes longer than answers do, and nothing computes meanwhile: neither a program
-nor what it or the setup has started. Of a server elsewhere only the time tells. If a slow call is taken for one that waits, the run goes on
-rightly, but need not come again.
-*/
+/* Calls that wait for another client. With the schedule `steps` one thread runs at a time, so a store would never answer a call that waits for
+   another thread's transaction. A call is taken to wait if it takes longer than answers do, and neither a program nor anything that it or the
+   setup has started computes. Of a server elsewhere only the time is known. If a slow call is taken to wait, the run remains correct, but may not
+   be reproducible. */
 #include "lines.h"
 #include <dirent.h>
 #include <string.h>
@@ -15,7 +13,8 @@ rightly, but need not come again.
 #define MOST (100 * MILLISECOND)
 #define LONGEST SECOND
 #define EACH_LOOK (MILLISECOND / 2)
-enum { TIMES = 3, QUIET_LOOKS = 3, FORGOTTEN = 64 };
+#define LATER_LOOK (50 * MILLISECOND) /* of a call that takes long */
+enum { TIMES = 3, QUIET_LOOKS = 3, FORGOTTEN = 64, MOST_FILES = 64 /* of which one may be a socket */ };
 
 /* What answers have taken of late. */
 static atomic_uint_least64_t slow = 5 * MILLISECOND;
@@ -23,13 +22,7 @@ static atomic_uint_least64_t slow = 5 * MILLISECOND;
 static uint64_t longest_answer(void)
 {
     uint64_t wait = LEAST + TIMES * slow;
-    return options.wait > 0 ? options.wait * MILLISECOND : wait < MOST ? wait : MOST;
-}
-
-static void learn(uint64_t took)
-{
-    uint64_t before = slow - slow / FORGOTTEN;
-    slow = took > before ? took : before;
+    return options.blocked_after > 0 ? options.blocked_after * MILLISECOND : wait < MOST ? wait : MOST;
 }
 
 /* Whether this thread of a process has a processor, or is to get one, or waits for a disk. */
@@ -44,38 +37,65 @@ static bool has_processor(const char *task)
     return after && after[1] == ' ' && (after[2] == 'R' || after[2] == 'D');
 }
 
-static bool computes(pid_t pid);
-
-/* Whether a child of this thread of a process computes. */
-static bool has_computing_child(const char *task)
+/* Whether this thread of a process has a socket open, at whose other end may be a server. */
+static bool has_socket(const char *task)
 {
-    char name[100];
+    char name[120], is[] = "socket:";
     bool is_found = false;
-    snprintf(name, sizeof name, "%s/children", task);
-    FILE *file = fopen(name, "r");
-    for (int child; file && !is_found && fscanf(file, "%d", &child) == 1;)
-        is_found = computes(child);
-    if (file)
-        fclose(file);
+    for (int file = STDERR_FILENO + 1; file < MOST_FILES && !is_found; file++) {
+        snprintf(name, sizeof name, "%s/fd/%d", task, file);
+        is_found = readlink(name, is, sizeof is - 1) == sizeof is - 1 && strcmp(is, "socket:") == 0;
+    }
     return is_found;
 }
 
-/* Whether a process computes, or one that has come from it. This one and its parent don't count, nor other jobs. */
-static bool computes(pid_t pid)
+/* Whether a process has such a thread, or one that has come from it. This one and its parent don't count, nor other jobs. */
+static bool is_any(pid_t pid, bool (*of)(const char *task))
 {
+    char name[40], task[80], children[100];
+    bool counts = pid != getpid() && pid != getppid(), is_found = false;
     if (pid == getppid() && pid != shared->supervisor)
-        return computes(getpid());
-    char name[40], task[80];
+        return is_any(getpid(), of);
     snprintf(name, sizeof name, "/proc/%d/task", (int)pid);
     DIR *folder = opendir(name);
-    bool counts = pid != getpid() && pid != getppid(), is_found = false;
     for (struct dirent *entry; folder && !is_found && (entry = readdir(folder));) {
         snprintf(task, sizeof task, "%s/%.20s", name, entry->d_name);
-        if (entry->d_name[0] != '.')
-            is_found = (counts && has_processor(task)) || has_computing_child(task);
+        snprintf(children, sizeof children, "%s/children", task);
+        is_found = counts && entry->d_name[0] != '.' && of(task);
+        FILE *file = fopen(children, "r");
+        for (int child; file && !is_found && fscanf(file, "%d", &child) == 1;)
+            is_found = is_any(child, of);
+        if (file)
+            fclose(file);
     }
     if (folder)
         closedir(folder);
+    return is_found;
+}
+
+/* Whether anything on this machine has a processor besides this thread, or waits for a disk. */
+static bool is_machine_busy(void)
+{
+    char line[100];
+    unsigned running = 0, blocked = 0;
+    FILE *file = fopen("/proc/stat", "r");
+    while (file && fgets(line, sizeof line, file))
+        if (sscanf(line, "procs_running %u", &running) != 1)
+            sscanf(line, "procs_blocked %u", &blocked);
+    if (file)
+        fclose(file);
+    return running > 1 || blocked > 0;
+}
+
+/* Whether a program computes or waits for a disk, at the last look, or a server elsewhere may: which process that is can't be known. */
+bool tmwatch_bench_computes(void)
+{
+    static uint64_t looked;
+    static bool is_found;
+    if (now() - looked >= LATER_LOOK) {
+        is_found = is_any(shared->supervisor, has_processor) || (is_machine_busy() && is_any(shared->supervisor, has_socket));
+        looked = now();
+    }
     return is_found;
 }
 
@@ -83,8 +103,8 @@ static bool computes(pid_t pid)
 static bool is_answered_soon(unsigned thread, uint64_t began)
 {
     bool is_there = is_answered(thread, began + longest_answer());
-    for (int quiet = 0; !is_there && options.wait == 0 && quiet < QUIET_LOOKS && now() - began < LONGEST;
-         quiet = computes(shared->supervisor) ? 0 : quiet + 1)
+    for (int quiet = 0; !is_there && options.blocked_after == 0 && quiet < QUIET_LOOKS && now() - began < LONGEST;
+         quiet = is_any(shared->supervisor, has_processor) ? 0 : quiet + 1)
         is_there = is_answered(thread, now() + EACH_LOOK);
     return is_there;
 }
@@ -100,13 +120,15 @@ static bool has_call_beside(unsigned thread)
 
 void await_answer(unsigned thread)
 {
-    bool is_beside_others = tmwatch_asks();
+    bool is_beside_others = tmwatch_external_call();
     if (!is_beside_others && !shared->have_met)
         shared->have_met = has_call_beside(thread);
     uint64_t began = now();
     if (is_beside_others && !is_answered_soon(thread, began))
-        tmwatch_waits();
-    else if (is_answered(thread, FOREVER))
-        learn(now() - began);
+        tmwatch_external_blocked();
+    else if (is_answered(thread, FOREVER)) {
+        uint64_t took = now() - began, before = slow - slow / FORGOTTEN;
+        slow = took > before ? took : before;
+    }
     is_answered(thread, FOREVER);
 }

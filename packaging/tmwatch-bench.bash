@@ -1,4 +1,4 @@
-# Completion of the words of tmwatch-bench, for bash: what `tmwatch-bench --help` lists. After -- come files.
+# Completion for tmwatch-bench in bash: the options that `tmwatch-bench --help` lists. Files follow after --.
 
 _tmwatch_bench() {
     local word=$2 before=$3 helped options given
@@ -9,6 +9,7 @@ _tmwatch_bench() {
     helped=$("$1" --help 2>/dev/null)
     case $before in
     --schedule) options='steps rounds permits all' ;;
+    --values) options='small wide' ;;
     *)
         # An option that takes something has no list of it.
         ! grep -qE -- "^  $before +([A-Z]+|[0-9]+-[0-9]+) " <<<"$helped" || return

@@ -4,8 +4,9 @@ A little store by lines, with one client a process or all in one, and with somet
     little one WRONG          all threads in this process: registers that are read and validated by value
     little lock FILE WRONG    one thread; registers in a file, locked from a transaction's first call to its end
 
-WRONG: right; reads or commit, which don't validate; adds, which are refused; slow, an answer that takes long; computes, one that is computed
-for long, and child or thread, if another one computes it; pieces, of which one has the end of a line and the begin of the next; first,
+WRONG: right; reads or commit, which don't validate; adds, which are refused; slow, an answer that takes LONG microseconds (environment; 120000);
+computes, one that is computed three times as long, and child or thread, if another one computes it; disk, one for which the process can't be
+interrupted for so long; pieces, of which one has the end of a line and the begin of the next; first,
 registers that begin with 7; or what goes wrong at call WHEN (environment; 26), by the words below.
 */
 #define _GNU_SOURCE
@@ -24,7 +25,7 @@ registers that begin with 7; or what goes wrong at call WHEN (environment; 26), 
 #include <time.h>
 #include <unistd.h>
 
-enum { THREADS = 8, REGISTERS = 8, LONG = 120000 /* microseconds */ };
+enum { THREADS = 8, REGISTERS = 8, LATER = 12000 /* microseconds */ };
 
 struct transaction {
     bool has_seen[REGISTERS], has_kept[REGISTERS];
@@ -36,6 +37,7 @@ static uint64_t own[REGISTERS], *words = own;
 static int lock = -1;
 static bool has_lock;
 static const char *wrong;
+static long how_long = 120000;
 
 static bool is_wrong(const char *what)
 {
@@ -112,12 +114,13 @@ static void say(const char *text)
 static const char *text_of_wrong(const char *call, const char *answer)
 {
     static char text[200];
-    const char *line[][2] = {{"half", "%c V"},           {"text", "hello from the store\n"},
-                             {"blank", "\n"},            {"register", "9 C\n"},
-                             {"kind", "%c K\n"},         {"huge", "%c V 18446744073709551616\n"},
-                             {"negative", "%c V -1\n"},  {"long", "%c V 0000000000000000000000000000000000000000000000000000000000000000001\n"},
-                             {"control", "%c \001\n"},   {"silent", ""},
-                             {"empty", "%c V \n"},       {"unended", "%c V 0000000000000000000000000000000000000000000000000000000000000000001"}};
+    const char *line[][2] = {
+        {"half", "%c V"},          {"text", "hello from the store\n"},
+        {"blank", "\n"},           {"register", "9 C\n"},
+        {"kind", "%c K\n"},        {"huge", "%c V 18446744073709551616\n"},
+        {"negative", "%c V -1\n"}, {"long", "%c V 0000000000000000000000000000000000000000000000000000000000000000001\n"},
+        {"control", "%c \001\n"},  {"silent", ""},
+        {"empty", "%c V \n"},      {"unended", "%c V 0000000000000000000000000000000000000000000000000000000000000000001"}};
     for (size_t i = 0; i < sizeof line / sizeof line[0]; i++)
         if (is_wrong(line[i][0])) {
             snprintf(text, sizeof text, line[i][1], call[0]);
@@ -137,11 +140,11 @@ static void *compute(void *unused)
     clock_gettime(CLOCK_MONOTONIC, &began);
     do
         clock_gettime(CLOCK_MONOTONIC, &time);
-    while ((time.tv_sec - began.tv_sec) * 1000000 + (time.tv_nsec - began.tv_nsec) / 1000 < 3 * LONG);
+    while ((time.tv_sec - began.tv_sec) * 1000000 + (time.tv_nsec - began.tv_nsec) / 1000 < 3 * how_long);
     return unused;
 }
 
-/* Has another one compute, and sleeps until it has. */
+/* Has another one compute or sleep, and sleeps until it has. */
 static void let_compute(void)
 {
     pthread_t thread;
@@ -154,6 +157,10 @@ static void let_compute(void)
     }
     if (child > 0)
         waitpid(child, NULL, 0);
+    if (is_wrong("disk") && vfork() == 0) {
+        usleep((useconds_t)(3 * how_long));
+        _exit(0);
+    }
 }
 
 /* Ends, or writes something else than the answer, or something more. */
@@ -168,14 +175,14 @@ static void go_wrong(const char *call, const char *answer)
     if (is_wrong("closes"))
         close(1), pause();
     if (is_wrong("slow"))
-        usleep(LONG);
+        usleep((useconds_t)how_long);
     if (is_wrong("computes"))
         compute(NULL);
     let_compute();
     const char *text = text_of_wrong(call, answer);
     say(text ? text : answer);
     if (is_wrong("more"))
-        usleep(LONG / 10), say(answer);
+        usleep(LATER), say(answer);
 }
 
 /* Stays when it is asked to end, with a child in a session of its own that stays too. */
@@ -227,8 +234,9 @@ static void serve(int when)
 
 int main(int count, char **given)
 {
-    const char *when = getenv("WHEN");
+    const char *when = getenv("WHEN"), *given_long = getenv("LONG");
     wrong = count > 2 ? given[count - 1] : "";
+    how_long = given_long ? atol(given_long) : how_long;
     if (count == 4) {
         lock = open(given[2], O_RDWR | O_CREAT, 0600);
         if (lock < 0 || ftruncate(lock, sizeof own) != 0)

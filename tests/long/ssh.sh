@@ -1,11 +1,11 @@
 #!/usr/bin/env bash
-# Runs programs of the bench by lines by ssh, on a server of its own on this machine: the same seed gives the same trace as without, and a connection
-# that is lost is a program that has ended.
+# Runs the programs of tmwatch-bench over ssh, with a server of its own on this machine. The same seed must give the same trace as without
+# ssh, and a lost connection must be reported as a program that ended.
 #
 #   tests/long/ssh.sh
 #
-# A line for each row. The last one is 'N passed, M failed', and the exit status is 1 if a row failed. Without sshd or a C compiler nothing is tested:
-# a line says so, and the status is 0.
+# Prints a line for each test case, and 'N passed, M failed' as the last line. The exit status is 1 if a test case failed. Without sshd or a
+# C compiler, nothing is tested: a line says so, and the status is 0.
 # Environment: CC (cc), BUILT (tests/common.sh), TMWATCH_BENCH, the bench (built/bin/tmwatch-bench), PORT (22122).
 set -eu
 # shellcheck source=tests/common.sh
@@ -34,15 +34,15 @@ for _ in $(seq 50); do ! "${client[@]}" true 2>/dev/null || break; sleep 0.1; do
 ends 'a connection' 0 "${client[@]}" true
 
 bench() {
-    timeout 120 "$TMWATCH_BENCH" --schedule steps --rounds 100 --patience 30 "$@" >printed 2>said
+    timeout 120 "$TMWATCH_BENCH" --schedule steps --rounds 100 --timeout 30 "$@" >printed 2>said
 }
-ends 'one program, here' 0 bench --trace here --one -- ./little one right
+ends 'one program, here' 0 bench --trace here --single-process -- ./little one right
 # (this store holds no locks; beside other work an answer may take long)
-ends 'one program, by ssh' 0 bench --wait 10000 --trace there --one -- "${client[@]}" "$folder/little" one right
+ends 'one program, by ssh' 0 bench --blocked-after 10000 --trace there --single-process -- "${client[@]}" "$folder/little" one right
 ends 'one program: the same trace' 0 cmp here there
 ends 'a program for each thread, by ssh' 0 bench -- "${client[@]}" "$folder/little" lock "$folder/registers" right
-ends 'a program for each thread, by ssh: waits, and no rescue' 0 grep -q '"rescues":0,.*"waits":[1-9]' printed
-ends 'a wrong store, by ssh' 1 bench --one -- "${client[@]}" "$folder/little" one reads
-ends 'a connection that is lost' 4 bench --one -- "${client[@]}" 'kill -9 $PPID'
+ends 'a program for each thread, by ssh: waits, and no stall' 0 grep -q '"stalls":0,.*"waits":[1-9]' printed
+ends 'a wrong store, by ssh' 1 bench --single-process -- "${client[@]}" "$folder/little" one reads
+ends 'a connection that is lost' 4 bench --single-process -- "${client[@]}" 'kill -9 $PPID'
 ends 'a connection that is lost: what is said' 0 grep -q '^thread 0, call "X": the program has ended with status 255$' said
 end_rows
