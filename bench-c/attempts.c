@@ -6,7 +6,7 @@ static _Thread_local tmwatch_attempt *this_thread;
 /* Stops the bench, since the watch has answered what wasn't to be. */
 static void stop(struct bench *b, uint32_t status)
 {
-    uint_least32_t none = TMWATCH_DONE;
+    uint_least32_t none = TMWATCH_OK;
     atomic_compare_exchange_strong(&b->fault, &none, status);
     b->stops = true;
 }
@@ -22,6 +22,8 @@ void tmwatch_step_at(const void *caller, unsigned pauses)
     if (!this_thread)
         return;
     this_thread->caller = caller;
+    if (tmwatch_step_drain_of)
+        tmwatch_step_drain_of(&this_thread->how, pauses);
     pause_sometimes(this_thread, pauses);
 }
 
@@ -40,10 +42,10 @@ static void set_place(tmwatch_attempt *a, enum place place, unsigned reg)
     atomic_store_explicit(&a->inside, (unsigned)place + 256 * reg, memory_order_relaxed);
 }
 
-/* Whether the attempt is one of before the memory's crash, so that nothing more is known of it. */
+/* Whether nothing more is known of the attempt: it is one of before the memory's crash, or the record is closed. */
 static bool is_lost(const tmwatch_attempt *a)
 {
-    return a->bench->restart && a->thread < a->bench->plan.threads;
+    return a->bench->is_closed || (a->bench->restart && a->thread < a->bench->plan.threads);
 }
 
 void tmwatch_bench_crash(void (*restart)(void *memory))
@@ -57,26 +59,42 @@ void tmwatch_bench_crash(void (*restart)(void *memory))
 static void record(tmwatch_attempt *a, const tmwatch_call *answer)
 {
     struct bench *b = a->bench;
-    const tmwatch_call *it = answer ? answer : &a->now.calls[a->turn.place];
+    const tmwatch_call *it = answer ? answer : &a->now.calls[a->cursor.place];
     bool looks = a->by->looks && it->letter == 'C' && a->now.calls[0].letter == 'R';
     uint64_t place = 0;
-    if (is_lost(a))
-        return;
+    uint32_t status = TMWATCH_OK;
     if (tmwatch_step_drain)
         tmwatch_step_drain();
+    if (is_lost(a))
+        return;
     if (b->schedule->record)
         b->schedule->record(b);
-    uint32_t status = answer ? tmwatch_answered(a->recorder, a->now.calls, a->now.count, &a->turn, it->letter, it->value, &place)
-                             : tmwatch_next(a->recorder, a->now.calls, a->now.count, &a->turn, &place);
-    if (status != TMWATCH_DONE) {
+    a->is_recording = true;
+    bool is_open = !b->is_closed;
+    if (is_open)
+        status = answer ? tmwatch_record_answer(a->recorder, a->now.calls, a->now.count, &a->cursor, it->letter, it->value, &place)
+                        : tmwatch_record_next_call(a->recorder, a->now.calls, a->now.count, &a->cursor, &place);
+    if (status != TMWATCH_OK)
         stop(b, status);
-        return;
+    else if (is_open) {
+        a->stores += it->letter == 'W' || it->letter == 'N';
+        b->kept[place % KEPT] = (struct kept){it->value, (uint8_t)a->thread, (uint8_t)it->register_number, (char)it->letter, looks};
+        if (a->by->looks && a->now.made <= FIRST_ATTEMPTS)
+            b->rejected_at = place + 1;
+        a->keeps++;
     }
-    a->stores += it->letter == 'W' || it->letter == 'N';
-    b->kept[place % KEPT] = (struct kept){it->value, (uint8_t)a->thread, (uint8_t)it->register_number, (char)it->letter, looks};
-    if (a->by->looks && a->now.made <= FIRST_ATTEMPTS)
-        b->rejected_at = place + 1;
-    a->keeps++;
+    atomic_store_explicit(&a->is_recording, false, memory_order_release);
+}
+
+/* Closes the record, so that nobody writes any more what the result is read from, though stuck threads may come back: then they end. */
+static void close_record(struct bench *b)
+{
+    b->stops = b->is_closed = true;
+    for (unsigned i = 0; i < MOST_THREADS; i++)
+        while (b->parts[i].is_recording)
+            nap(REST);
+    await(&b->steps.free);
+    post(&b->steps.free);
 }
 
 static void note_call(tmwatch_attempt *a)
@@ -84,7 +102,7 @@ static void note_call(tmwatch_attempt *a)
     if (is_lost(a))
         return;
     record(a, NULL);
-    if (a->turn.place == 0) {
+    if (a->cursor.place == 0) {
         a->before = a->bench->asked;
         if (a->bench->orders)
             tmwatch_orders_begins(a->bench->orders, a->thread);
@@ -126,11 +144,11 @@ static void wait_for_room(tmwatch_attempt *a)
     /* The watch's 2^40 places come to their end: so do the rounds. */
     if (status == TMWATCH_SPENT)
         b->stops = true;
-    else if (status != TMWATCH_DONE && status != TMWATCH_FULL)
+    else if (status != TMWATCH_OK && status != TMWATCH_FULL)
         stop(b, status);
 }
 
-bool tmwatch_begins(tmwatch_attempt *a)
+bool tmwatch_begin_attempt(tmwatch_attempt *a)
 {
     if (a->is_live)
         end_attempt(a, false);
@@ -141,7 +159,7 @@ bool tmwatch_begins(tmwatch_attempt *a)
     a->is_live = true;
     a->has_called = false;
     a->writes = 0;
-    a->turn = (tmwatch_turn)TMWATCH_FIRST_TURN;
+    a->cursor = (tmwatch_cursor)TMWATCH_CURSOR_INIT;
     /* It writes and adds other values than the one before. With addends below 2^64 - 1, hardly a sum comes twice. */
     for (tmwatch_call *call = a->now.calls; call < a->now.calls + a->now.count; call++)
         if (call->letter == 'W')
@@ -172,10 +190,10 @@ static bool make_call(tmwatch_attempt *a, const tmwatch_call *call)
     return is_done;
 }
 
-bool tmwatch_calls(tmwatch_attempt *a)
+bool tmwatch_run_body(tmwatch_attempt *a)
 {
     if (a->is_live && a->has_called)
-        stop(a->bench, TMWATCH_OUT_OF_TURN);
+        stop(a->bench, TMWATCH_WRONG_PHASE);
     if (!a->is_live || a->has_called)
         return false;
     a->has_called = true;
@@ -195,13 +213,13 @@ bool tmwatch_calls(tmwatch_attempt *a)
 /* Makes one attempt in a memory that makes none again by itself: whether it has committed. */
 static bool run_once(const tmwatch_memory *m, tmwatch_attempt *a)
 {
-    if (!tmwatch_begins(a))
+    if (!tmwatch_begin_attempt(a))
         return false;
     set_place(a, IN_BEGIN, 0);
     if (!m->begin(m->memory, a->tx))
         return false;
     set_place(a, OUTSIDE, 0);
-    bool commits = tmwatch_calls(a);
+    bool commits = tmwatch_run_body(a);
     if (commits || a->has_asked)
         set_place(a, commits ? IN_COMMIT : IN_ABORT, 0);
     if (commits)
@@ -227,7 +245,7 @@ static void make_transaction(tmwatch_attempt *a)
         if (a->is_live)
             end_attempt(a, has_committed);
         else if (m->run && has_committed)
-            stop(a->bench, TMWATCH_MISFIT);
+            stop(a->bench, TMWATCH_WRONG_ANSWER);
         goes_on = a->tried > before || a->is_put_off;
         if (a->is_put_off) {
             const struct transaction held = a->now;
@@ -242,7 +260,6 @@ static void make_transaction(tmwatch_attempt *a)
 static void make_share(tmwatch_attempt *a)
 {
     bool is_mixed = draw_share(a), has_tried = true;
-    a->how.has_buffers = a->bench->steps.has_buffers;
     while (a->left > 0 && has_tried) {
         uint64_t before = a->tried;
         draw_transaction(a);

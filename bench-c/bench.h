@@ -23,7 +23,7 @@
 enum { MOST_THREADS = 8, MOST_REGISTERS = 8, MOST_ATTEMPTS = 8, MOST_USES = 16, MOST_CALLS = 2 * MOST_USES + 1 };
 enum { LOOK = 64, KEPT = 1 << 17, STARTS = 1 << 13, LISTED = 1 << 14, STEPS_LEGS = 20, LEG_ROUNDS = 1000 };
 enum { MOST_LOOKED = KEPT / 2 /* events of one look */, FIRST_ATTEMPTS = 8 /* of a look: what is written of one that is given up */ };
-enum { SECOND = 1000000 /* microseconds */, APART = 128 /* bytes */ };
+enum { SECOND_US = 1000000 /* microseconds */, APART = 128 /* bytes */ };
 
 /* An event. `looks` is set if it ends a transaction that has read all registers alone. */
 struct kept {
@@ -48,7 +48,7 @@ struct tmwatch_attempt {
     unsigned thread;
     const struct schedule *by; /* the bench's, or a look's */
     struct transaction now;
-    tmwatch_turn turn;
+    tmwatch_cursor cursor;
     atomic_uint inside;                  /* in which function of the memory it is, and with which register (a `place`, and 256 times it) */
     bool is_live, has_called, has_asked; /* an attempt is recorded and not ended; its calls are made; it has asked to abort */
     bool is_put_off;                     /* by permits, a look comes before its next attempt */
@@ -57,11 +57,12 @@ struct tmwatch_attempt {
     uint64_t uses, left;                 /* in this round: how many registers a transaction uses, and how many attempts are left */
     atomic_uint_least64_t begun;         /* by permits: how many transactions were begun */
     uint64_t written;                    /* how many values were drawn to be written */
-    atomic_uint_least64_t keeps;         /* how many events it has kept: whoever reads this may read them */
-    uint64_t look_from, look_began;      /* how many it had kept when its look began, and when that was */
+    atomic_bool is_recording;            /* it writes what comes next, `kept` and `rejected_at`, unless the record is closed */
+    uint64_t keeps;                      /* how many events it has kept */
     uint64_t stores;                     /* how many writes and adds were recorded */
+    uint64_t look_from, look_began;      /* how many it had kept when its look began, and when that was */
     uint64_t before;                     /* how many commits were asked for when the attempt began */
-    uint64_t foreign;                    /* the most commits of others within an attempt */
+    atomic_uint_least64_t foreign;       /* the most commits of others within an attempt */
     tmwatch_step_how how;                /* its accesses are made */
     const void *caller;                  /* where its last step returns to */
     uint64_t draws, addends, pauses;     /* what is drawn for transactions, for what they add, and for pauses: each by the seed alone */
@@ -78,12 +79,12 @@ struct listed {
 };
 
 struct steps {
-    sem_t free;               /* whether nobody has locked the sets and the runner, which a rescue changes too */
+    sem_t free;               /* whether nobody has locked the sets and the runner, which a stall changes too */
     atomic_int runner, awake; /* who may run, or nobody; and who does so, in the memory or beside it, where it may be blocked */
     unsigned ready;           /* which threads have not ended the round */
     unsigned waiting;         /* which of them wait for a lock that another of them holds, or for a condition */
     unsigned lost;            /* which of those wait for a signal that nobody can send any more, unless one of them goes on */
-    unsigned stuck;           /* which of them were running when a rescue came, or wait outside, and have made no step since */
+    unsigned stuck;           /* which of them were running when a stall came, or wait outside, and have made no step since */
     const volatile void *lock[MOST_THREADS];
     uint64_t draws;
     uint64_t odds; /* by walk: one step in so many hands over; 0: by priorities */
@@ -91,17 +92,18 @@ struct steps {
     uint64_t changes, change[MOST_CHANGES]; /* after which steps of the round the runner gets the lowest priority */
     uint64_t step, spin;                    /* the round's steps, and the pauses since the runner's last call or turn */
     uint64_t length[2];                     /* about how many steps a round has, times 16: an even one, a mixed one */
-    bool is_mixed, has_buffers;             /* of the round: it is mixed; stores are buffered */
-    atomic_uint_least64_t steps, switches, rescues, waits;
-    atomic_bool asks; /* the runner asks outside, so that no rescue comes */
+    bool is_mixed;                          /* of the round */
+    atomic_bool has_buffers;                /* stores may be delayed now: never in a look, nor once a thread waits untracked */
+    atomic_uint_least64_t steps, context_switches, stalls, waits;
+    atomic_bool asks; /* the runner asks outside, so that no stall comes */
     sem_t go[MOST_THREADS];
     atomic_int tid[MOST_THREADS];
-    atomic_uint_least64_t recorded; /* how many events */
-    uint64_t starts[STARTS];        /* how many events precede a round */
-    atomic_uint_least64_t begun;    /* the round that has begun last */
-    atomic_uint_least64_t ordered;  /* how many rounds were to have stale loads or delayed stores */
-    struct listed listed[LISTED];
-    atomic_uint_least64_t inner; /* how many steps were the memory's own */
+    atomic_uint_least64_t recorded;       /* how many events */
+    atomic_uint_least64_t starts[STARTS]; /* how many events precede a round */
+    atomic_uint_least64_t begun;          /* the round that has begun last */
+    atomic_uint_least64_t ordered;        /* how many rounds were to have stale loads or delayed stores */
+    struct listed listed[LISTED];         /* written where the steps are locked, until the record is closed */
+    atomic_uint_least64_t inner;          /* how many steps were the memory's own */
 };
 
 /* Where a thread is: in none of the memory's functions, or in one. */
@@ -124,10 +126,10 @@ struct session {
     uint64_t written[MOST_THREADS], looked;
     uint64_t start[MOST_REGISTERS];  /* what the registers hold */
     uint64_t began, shown;           /* when the session began, and when its progress was last shown: microseconds */
-    bool is_stuck, has_steps;        /* no event has come for too long; the memory has steps of its own */
-    bool asks, is_slow;              /* the memory asks elsewhere, and then a leg by steps has taken long */
+    uint32_t stuck;                  /* if no event has come for too long: the status by which the run ends, or 0 */
+    bool has_steps, asks, is_slow;   /* the memory has steps of its own; it asks elsewhere, and then a leg by steps has taken long */
     uint64_t took;                   /* how long the last leg by steps has taken: microseconds */
-    tmwatch_benched all;             /* of all legs before this one */
+    tmwatch_bench_result all;        /* of all legs before this one */
     struct second_runs *second_runs; /* or null: none are to be made */
 };
 
@@ -159,6 +161,7 @@ struct bench {
     atomic_bool stops, is_late;             /* no round is to follow, since something is wrong, or since the time is up */
     atomic_bool has_no_time;                /* no leg is to follow, since the time of all is up */
     atomic_bool is_over;                    /* no round follows */
+    atomic_bool is_closed;                  /* nothing more is recorded: the result is read while threads are stuck, or come back */
     void (*_Atomic restart)(void *memory);  /* after a crash, so that nothing is recorded but a look; or null */
     atomic_bool has_asked;                  /* the memory asks outside */
     unsigned running;                       /* how many threads have a part now */
@@ -166,20 +169,21 @@ struct bench {
     atomic_uint_least64_t asked, committed; /* how many commits are recorded, or about to be; and how many are recorded */
     atomic_uint refused, stored; /* since the last look, which registers were written by attempts that were rolled back, or committed */
     uint64_t looked;             /* how many values looks have written */
-    struct transaction rejected; /* of a look that was given up, since it was rolled back again and again; or no attempt */
+    atomic_bool has_rejected;    /* a look was given up, since it was rolled back again and again: */
+    struct transaction rejected; /* this one */
     unsigned rejected_thread;    /* whose look that was */
     uint64_t rejected_at;        /* how many events there were after the first attempts of the last look */
 };
 
 /* How threads go, by a schedule or in a look. What is null isn't done. */
 struct schedule {
-    bool (*next)(tmwatch_attempt *);                        /* whether the thread makes another share, once it may */
-    void (*pause)(tmwatch_attempt *, unsigned pauses);      /* beside a call, or in the memory */
-    bool (*enter)(tmwatch_attempt *);                       /* whether another attempt begins, */
-    void (*look)(tmwatch_attempt *);                        /* or is put off for this */
-    void (*leave)(tmwatch_permits *);                       /* an attempt has ended */
-    void (*record)(struct bench *);                         /* an event is about to be recorded */
-    void (*count)(const struct bench *, tmwatch_benched *); /* how many rounds a leg had */
+    bool (*next)(tmwatch_attempt *);                             /* whether the thread makes another share, once it may */
+    void (*pause)(tmwatch_attempt *, unsigned pauses);           /* beside a call, or in the memory */
+    bool (*enter)(tmwatch_attempt *);                            /* whether another attempt begins, */
+    void (*look)(tmwatch_attempt *);                             /* or is put off for this */
+    void (*leave)(tmwatch_permits *);                            /* an attempt has ended */
+    void (*record)(struct bench *);                              /* an event is about to be recorded */
+    void (*count)(const struct bench *, tmwatch_bench_result *); /* how many rounds a leg had */
     bool repeats, looks; /* a run is what its seed says, so no time ends a leg unless the memory asks outside; nobody else goes */
 };
 

@@ -45,7 +45,7 @@ static void draw_transaction(tmwatch_attempt *a)
     a->now.most = plan->attempts > 0 && plan->attempts < a->left ? plan->attempts : a->left;
     a->now.count = 0;
     bool asks_abort = draw(&a->draws, 100) < plan->aborts;
-    bool is_blind = draw(&a->draws, 100) < plan->blinds && plan->writes > 0;
+    bool is_blind = draw(&a->draws, 100) < plan->blind_writes && plan->writes > 0;
     for (uint64_t used = 0; used < a->uses; used++) {
         uint64_t reg = draw(&a->draws, plan->registers);
         bool adds = draw(&a->draws, 100) < plan->adds && a->bench->memory.add;
@@ -62,7 +62,7 @@ static void draw_transaction(tmwatch_attempt *a)
 static bool draw_mix(const struct bench *b, uint64_t *draws)
 {
     *draws = b->plan.seed * apart_rounds + b->round;
-    return b->round > 0 && b->plan.threads > 1 && draw(draws, 100) < b->plan.mixes;
+    return b->round > 0 && b->plan.threads > 1 && draw(draws, 100) < b->plan.mixed_rounds;
 }
 
 /* Draws the thread's share of a round: whether that is mixed. Then all have eight attempts, of which the long transaction has one. */
@@ -70,7 +70,7 @@ static bool draw_share(tmwatch_attempt *a)
 {
     const tmwatch_plan *plan = &a->bench->plan;
     uint64_t draws, threads = plan->threads;
-    a->uses = plan->calls;
+    a->uses = plan->accesses;
     a->left = plan->attempts > 0 ? plan->attempts : most_of_thread(plan);
     if (!draw_mix(a->bench, &draws))
         return false;
@@ -78,6 +78,6 @@ static bool draw_share(tmwatch_attempt *a)
     a->left = a->thread == first;
     for (unsigned i = 1; i < MOST_ATTEMPTS - plan->crashes; i++)
         a->left += a->thread == (first + 1 + draw(&draws, others)) % threads;
-    a->uses = a->thread != first ? 1 + draw(&a->draws, 2) : 2 * plan->calls < MOST_USES ? 2 * plan->calls : MOST_USES;
+    a->uses = a->thread != first ? 1 + draw(&a->draws, 2) : 2 * plan->accesses < MOST_USES ? 2 * plan->accesses : MOST_USES;
     return true;
 }

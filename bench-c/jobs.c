@@ -1,26 +1,28 @@
-/* Jobs: processes that run the same plan, each by a seed and on a memory of its own, so that a hunt uses all processors. The first that has
-   something to tell claims that. If none has, the first one tells what all have counted. The process that is started looks after them. */
+/* Jobs: processes that run the same plan, each with a seed and a memory of its own, so that all processors are used. The first one with something
+   wrong claims the report; if there is none, job 0 reports what all have counted. The process that the user starts watches over them. */
 
-/* So far apart are seeds; how many jobs there are at most, and by default; for how many rounds, or how long, the first is alone, so that what is
-   found soon comes with the given seed; and how often the jobs are looked after, and their progress is shown: microseconds. */
-enum { SEED_APART = 1000000, MOST_JOBS = 64, USUAL_JOBS = 8, ROUNDS_ALONE = 1000, LOOK_AFTER = 4000, SHOWN_EACH = SECOND / 2 };
+/* Job 0 is alone for its first rounds, or a second, so that an early violation has the given seed. Times are microseconds. */
+enum { SEED_APART = 1000000, MOST_JOBS = 64, USUAL_JOBS = 8, ROUNDS_ALONE = 1000, LOOK_AFTER = 4000, SHOWN_EACH = SECOND_US / 2 };
 enum { MOST_FILES = 1024, LEFT = 64 /* the exit status of a job that leaves it to another to tell what came out */ };
 
 /* What the processes share. */
 static struct jobs {
-    atomic_bool is_interrupted; /* as by tmwatch_bench_end, in any of them */
+    atomic_bool is_interrupted; /* as by tmwatch_bench_stop, in any of them */
     atomic_uint teller;         /* 1 more than the job that tells what came out, or 0 */
     bool makes_smaller;         /* one that has a certain violation offers it first, so that smaller ones are tried, */
     atomic_bool offers, goes;   /* and goes on if there is none */
+    atomic_bool is_repeated;    /* what another process has shown came again */
+    uint64_t digest;            /* of the trace of the smaller one */
     unsigned count;
     uint64_t began; /* or 0, in microseconds */
     struct job {
         pid_t process; /* or 0, once it has exited, */
         int status;    /* with this */
         uint64_t seed;
-        atomic_bool is_done;             /* it has nothing to tell, and `benched` says what it has counted */
+        atomic_bool is_done;             /* it has nothing to tell, and `result` says what it has counted */
         atomic_uint_least64_t counts[3]; /* so far: rounds, events, unasked aborts */
-        tmwatch_benched benched;
+        uint64_t digest;                 /* of its trace */
+        tmwatch_bench_result result;
     } job[MOST_JOBS];
 } alone, *jobs = &alone;
 
@@ -34,7 +36,7 @@ static void show_progress(FILE *file)
     uint64_t counts[3] = {0, 0, 0};
     for (unsigned i = 0; i < 3 * MOST_JOBS; i++)
         counts[i % 3] += jobs->job[i / 3].counts[i % 3];
-    fprintf(file, "\r\033[K%" PRIu64 " rounds, %" PRIu64 " events, %" PRIu64 " unasked aborts", counts[0], counts[1], counts[2]);
+    fprintf(file, "\r\033[K%" PRIu64 " rounds, %" PRIu64 " events, %" PRIu64 " forced aborts", counts[0], counts[1], counts[2]);
     fflush(file);
 }
 
@@ -48,57 +50,63 @@ static void claim(FILE *progress)
 }
 
 /* What a job does that has nothing to tell. The first one takes over what all others have counted, as if its own run came after theirs. */
-static void settle(tmwatch_benched *all)
+static void settle(tmwatch_bench_result *all)
 {
-    jobs->job[own_job].benched = *all;
+    jobs->job[own_job].result = *all;
     jobs->job[own_job].is_done = !is_last;
     if (own_job > 0 || is_last)
         _Exit(LEFT);
     for (unsigned i = 1; i < jobs->count; i++) {
         while (!jobs->job[i].is_done)
             nap(LOOK_AFTER);
-        tmwatch_benched own = *all;
-        *all = jobs->job[i].benched;
+        tmwatch_bench_result own = *all;
+        *all = jobs->job[i].result;
         add_leg(all, &own);
     }
 }
 
-/* What a job does once its run is over, which was wrong or wasn't: it returns if it tells what came out. */
-static void come_to_tell(tmwatch_benched *all, bool is_wrong)
+/* Defined by a program whose memory is made anew in each process; and if it is another process's. */
+extern bool tmwatch_bench_job(unsigned job, const tmwatch_plan *plan) __attribute__((weak));
+extern bool tmwatch_bench_computes(void) __attribute__((weak));
+
+/* What a job does once its run is over, which was wrong or wasn't: it returns if it tells what came out. What another process has shown may
+   come otherwise the next time, so a try comes first. */
+static void come_to_tell(tmwatch_bench_result *all, bool is_wrong)
 {
-    bool is_certain = all->told.verdict == TMWATCH_VIOLATED && are_certain(all);
-    if (jobs != &alone && (!is_wrong || (is_last && !is_certain)))
+    bool is_deterministic = all->result.verdict == TMWATCH_VIOLATED && are_certain(all);
+    if (jobs != &alone && (!is_wrong || (is_last && !(is_deterministic && jobs->job[own_job].digest == jobs->digest))))
         settle(all);
     claim(NULL);
-    if (is_last || !jobs->makes_smaller || !is_certain)
-        return;
-    jobs->job[own_job].benched = *all;
-    jobs->offers = true;
-    while (!jobs->goes)
-        nap(LOOK_AFTER);
+    if (jobs != &alone && !is_last && is_deterministic && (jobs->makes_smaller || tmwatch_bench_computes)) {
+        jobs->job[own_job].result = *all;
+        jobs->offers = true;
+        while (!jobs->goes)
+            nap(LOOK_AFTER);
+    }
+    all->is_deterministic = all->is_deterministic && (!tmwatch_bench_computes || jobs->is_repeated);
 }
-
-/* Defined by a program whose memory is made anew in each process. */
-extern bool tmwatch_bench_job(unsigned job, const tmwatch_plan *plan) __attribute__((weak));
 
 /* Whether a line of /proc/self tells of other threads, which a fork leaves behind, a debugger, or shared bytes that may be written. */
 static bool is_tie(const char *line)
 {
     unsigned number;
-    const char *rights = strstr(line, " rw");
-    return (sscanf(line, "Threads: %u", &number) == 1 && number > 1) || (sscanf(line, "TracerPid: %u", &number) == 1 && number > 0) ||
-           (rights && rights[4] == 's' && !tmwatch_bench_job);
+    char rights[] = "----"; /* as of /proc/self/maps, after the addresses */
+    return (sscanf(line, "Threads: %u", &number) == 1 && number > 1 && !tmwatch_bench_computes) ||
+           (sscanf(line, "TracerPid: %u", &number) == 1 && number > 0) ||
+           (sscanf(line, "%*x-%*x %4s", rights) == 1 && rights[1] == 'w' && rights[3] == 's' && !tmwatch_bench_job);
 }
 
 static bool has_tie(const char *name)
 {
-    char line[512];
+    char *line = NULL;
+    size_t size = 0;
     bool is_found = false;
     FILE *file = fopen(name, "r");
-    while (file && !is_found && fgets(line, sizeof line, file))
+    while (file && !is_found && getline(&line, &size, file) > 0)
         is_found = is_tie(line);
     if (file)
         fclose(file);
+    free(line);
     return is_found;
 }
 
@@ -118,15 +126,15 @@ static bool can_split(void)
     return !has_tie("/proc/self/status") && !has_tie("/proc/self/maps") && (tmwatch_bench_job || !shares_files());
 }
 
-/* How many jobs run a plan: as many as are said, or, by TMWATCH_DRAWN, one for each processor by a time alone, and else one, which repeats. */
+/* How many jobs run a plan: as many as are said, or, by TMWATCH_RANDOM, one for each processor by a time alone, and else one, which repeats. */
 static unsigned count_jobs(const tmwatch_plan *plan, uint64_t said)
 {
     cpu_set_t set;
-    bool is_said = said != TMWATCH_DRAWN, hunts = plan->schedule == TMWATCH_ALL && plan->rounds == UINT64_MAX && !plan->legs;
+    bool is_said = said != TMWATCH_RANDOM, hunts = plan->schedule == TMWATCH_ALL && plan->rounds == UINT64_MAX && !plan->phases_file;
     uint64_t count = is_said ? said : 1;
     if (!is_said && hunts && !tmwatch_bench_job && sched_getaffinity(0, sizeof set, &set) == 0)
         count = CPU_COUNT(&set) < USUAL_JOBS ? (uint64_t)CPU_COUNT(&set) : USUAL_JOBS;
-    uint64_t most = plan->round > 0 || plan->goes_on ? 1 : plan->rounds;
+    uint64_t most = plan->round > 0 || plan->keep_going ? 1 : plan->rounds;
     return (unsigned)(count < most ? count : most);
 }
 
@@ -147,7 +155,7 @@ static void begin_job(unsigned number, tmwatch_plan *plan)
     plan->seed = jobs->job[number].seed;
     if (plan->rounds != UINT64_MAX)
         plan->rounds = plan->rounds / jobs->count + (number > 0 ? 0 : plan->rounds % jobs->count);
-    while (number > 0 && first->counts[0] < ROUNDS_ALONE && !first->is_done && microseconds_of(CLOCK_MONOTONIC) - jobs->began < SECOND)
+    while (number > 0 && first->counts[0] < ROUNDS_ALONE && !first->is_done && microseconds_of(CLOCK_MONOTONIC) - jobs->began < SECOND_US)
         nap(LOOK_AFTER);
 }
 

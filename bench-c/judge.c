@@ -1,6 +1,6 @@
 /* The judge: it judges what the threads record until they end, the time is up, or nothing comes for too long. */
 
-void tmwatch_bench_end(void)
+void tmwatch_bench_stop(void)
 {
     jobs->is_interrupted = true;
 }
@@ -19,32 +19,34 @@ void tmwatch_bench_fail(const char *why)
 /* Judges some of what is recorded: how many events. Another verdict than opaque so far ends the rounds. */
 static uint64_t judge_some(struct bench *b)
 {
-    tmwatch_told told = {0, 0, 0, 0};
+    tmwatch_result result = {0, 0, 0, 0};
     uint64_t judged = 0;
     uint32_t status;
-    if ((status = tmwatch_pump(&b->watch, 1024, &judged)) != TMWATCH_DONE || (status = tmwatch_report(&b->watch, &told)) != TMWATCH_DONE)
+    if ((status = tmwatch_pump(&b->watch, 1024, &judged)) != TMWATCH_OK || (status = tmwatch_report(&b->watch, &result)) != TMWATCH_OK)
         stop(b, status);
-    if (told.verdict != TMWATCH_OPAQUE_SO_FAR && !b->plan.goes_on)
+    if (result.verdict != TMWATCH_OPAQUE_SO_FAR && !b->plan.keep_going)
         b->stops = true;
     return judged;
 }
 
-/* A look counts for MOST_WAITED at most, and while the runner computes for what the process was given: neither a debugger's stop nor a load
-   is a wait. For MOST_STEPS or rescues without an event no time counts: each other thread tries until it is held for one that waits. */
-enum { MOST_WAITED = SECOND / 200, INTERRUPTED_WAIT = SECOND / 2, MOST_STEPS = MOST_THREADS * MOST_SPIN };
+/* Of the time since the last look, MOST_WAITED counts at most, and while the running thread computes, what the process was given: neither a debugger
+   nor a load is a wait. No time counts for MOST_STEPS or stalls without an event, because each thread tries until it is taken to wait. Once a call
+   has taken long, time in which another process computes or waits for a disk counts a tenth. */
+enum { MOST_WAITED = SECOND_US / 200, INTERRUPTED_WAIT = SECOND_US / 2, MOST_STEPS = MOST_THREADS * MOST_SPIN };
+enum { COUNTED_PART = 10, TAKES_LONG = SECOND_US / 10 };
 
 static void note_progress(struct bench *b, uint64_t now)
 {
-    const tmwatch_benched *all = &b->session->all;
+    const tmwatch_bench_result *all = &b->session->all;
     tmwatch_counts counts;
-    tmwatch_told told;
+    tmwatch_result result;
     jobs->job[own_job].counts[0] = all->rounds + (b->round > 0 ? b->round - 1 : 0);
-    if (!b->plan.progress || now - b->session->shown < SHOWN_EACH || tmwatch_summary(&b->watch, &counts) != TMWATCH_DONE ||
-        tmwatch_report(&b->watch, &told) != TMWATCH_DONE)
+    if (!b->plan.progress || now - b->session->shown < SHOWN_EACH || tmwatch_summary(&b->watch, &counts) != TMWATCH_OK ||
+        tmwatch_report(&b->watch, &result) != TMWATCH_OK)
         return;
     b->session->shown = now;
-    jobs->job[own_job].counts[1] = all->told.events + told.events;
-    jobs->job[own_job].counts[2] = all->counts.unasked + counts.unasked;
+    jobs->job[own_job].counts[1] = all->result.events + result.events;
+    jobs->job[own_job].counts[2] = all->counts.forced_aborts + counts.forced_aborts;
     if (jobs == &alone)
         show_progress(b->plan.progress);
 }
@@ -53,7 +55,8 @@ static void note_progress(struct bench *b, uint64_t now)
 static void judge(struct bench *b)
 {
     uint64_t began = microseconds_of(CLOCK_MONOTONIC), looked = began, used = 0, moved = 0, steps = 0, steps_moved = 0;
-    while (b->ended < b->running && !b->session->is_stuck) {
+    uint64_t last = began, counted = 0;
+    while (b->ended < b->running && !b->session->stuck) {
         uint64_t judged = judge_some(b);
         if (judged == 0)
             nap(b->has_asked ? LONG_REST : REST);
@@ -63,49 +66,61 @@ static void judge(struct bench *b)
         watch_steps(b, now);
         passed = b->watchdog.computes && !b->is_over && given < passed ? given : passed;
         moved = b->round + b->attempted + b->ended;
-        steps = b->steps.steps + b->steps.rescues;
+        steps = b->steps.steps + b->steps.stalls;
         bool has_moved = judged > 0 || moved != moved_before;
         steps_moved = has_moved ? steps : steps_moved;
         bool steps_on = steps != steps_before && steps - steps_moved < MOST_STEPS;
-        b->idle = has_moved || steps_on ? 0 : b->idle + (passed < MOST_WAITED ? passed : MOST_WAITED);
-        b->session->is_stuck = failure || (jobs->is_interrupted && b->idle >= INTERRUPTED_WAIT) ||
-                               (b->plan.patience > 0 && b->idle / SECOND >= b->plan.patience);
+        passed = passed < MOST_WAITED ? passed : MOST_WAITED;
+        bool computes = b->idle > TAKES_LONG && tmwatch_bench_computes && tmwatch_bench_computes();
+        last = has_moved ? now : last;
+        counted = has_moved || steps_on ? 0 : counted + (computes ? passed / COUNTED_PART : passed);
+        b->idle = has_moved || steps_on ? 0 : b->idle + passed;
+        b->session->stuck = failure                       ? TMWATCH_FAILED
+                            : !jobs->is_interrupted       ? (b->plan.timeout > 0 && counted / SECOND_US >= b->plan.timeout ? TMWATCH_HANG : 0)
+                            : b->idle >= INTERRUPTED_WAIT ? TMWATCH_INTERRUPTED
+                                                          : 0;
         note_progress(b, now);
-        b->has_no_time = jobs->is_interrupted || (b->plan.seconds > 0 && (now - b->session->began) / SECOND >= b->plan.seconds);
+        b->has_no_time = jobs->is_interrupted || (b->plan.seconds > 0 && (now - b->session->began) / SECOND_US >= b->plan.seconds);
         b->is_late = b->has_no_time || (b->most_time > 0 && (!b->schedule->repeats || b->has_asked) && now - began >= b->most_time);
     }
-    /* What is stuck may come back: then it ends. */
-    if (b->session->is_stuck)
-        b->stops = true;
+    if (b->has_asked && b->idle >= SECOND_US)
+        b->idle = looked - last;
+    if (b->session->stuck)
+        close_record(b);
     while (judge_some(b) > 0)
         ;
 }
 
-/* Tells how the memory has lost progress: why it can't answer, where each thread is that is stuck, or which transaction was rolled back. */
-static void tell_lost(struct bench *b)
+/* Tells how the memory has lost progress: why it can't answer, where each thread is that is stuck, or which transaction was rolled back. After an
+   interrupt, where each thread is goes with the verdict, as what orders have shown. */
+static void tell_lost(struct bench *b, tmwatch_bench_result *out)
 {
-    static const char *const places[] = {"none", "begin", "read", "write", "add", "commit", "abort", "run"};
-    claim(b->plan.progress);
+    static const char *const places[] = {"waiting for the other threads", "begin", "read", "write", "add", "commit", "abort", "run"};
+    FILE *file = b->session->stuck == TMWATCH_INTERRUPTED ? fmemopen(out->stale_loads, sizeof out->stale_loads - 1, "a") : stderr;
+    if (!file)
+        return;
+    if (file == stderr)
+        claim(b->plan.progress);
     if (failure)
-        fprintf(stderr, "%s\n", failure);
-    else if (!b->session->is_stuck) {
+        fprintf(file, "%s\n", failure);
+    else if (!b->session->stuck) {
         const tmwatch_call *call = b->rejected.calls;
-        fprintf(stderr, "a transaction of thread %u that ran alone was rolled back %" PRIu64 " times: ", b->rejected_thread, b->rejected.made);
+        fprintf(file, "no progress: thread %u ran alone, but its ", b->rejected_thread);
         if (call->letter == 'W')
-            fprintf(stderr, "it writes register %u. Is a lock left held, or a reader's mark?\n", (unsigned)call->register_number);
-        else
-            fputs("it reads all registers. Is a lock left held, or has a clock wrapped?\n", stderr);
-    } else if (b->idle < SECOND)
-        fputs("interrupted, and no event for half a second\n", stderr);
+            fprintf(file, "write to register %u", (unsigned)call->register_number);
+        fprintf(file, "%s was rolled back %" PRIu64 " times. Was a lock or a reader flag not released%s?\n",
+                call->letter == 'W' ? "" : "read of all registers", b->rejected.made, call->letter == 'W' ? "" : ", or did a clock wrap");
+    } else if (file != stderr)
+        fputs("interrupted: no event for half a second\n", file);
     else
-        fprintf(stderr, "no event for %" PRIu64 " seconds\n", b->idle / SECOND);
-    for (unsigned i = 0; i < b->plan.threads && b->session->is_stuck && !failure; i++) {
+        fprintf(file, "hang: no event for %" PRIu64 " seconds (--timeout)\n", b->idle / SECOND_US);
+    for (unsigned i = 0; i < b->plan.threads && b->session->stuck && !failure; i++) {
         unsigned inside = b->parts[i].inside, place = inside % 256;
-        if (place == OUTSIDE)
-            fprintf(stderr, "thread %u waits for the others\n", i);
-        else if (place == IN_READ || place == IN_WRITE || place == IN_ADD)
-            fprintf(stderr, "thread %u: `%s` of register %u has not returned\n", i, places[place], inside / 256);
-        else
-            fprintf(stderr, "thread %u: `%s` has not returned\n", i, places[place]);
+        fprintf(file, "thread %u: %s", i, places[place]);
+        if (place == IN_READ || place == IN_WRITE || place == IN_ADD)
+            fprintf(file, "(register %u)", inside / 256);
+        fputs(place == OUTSIDE ? "\n" : " has not returned\n", file);
     }
+    if (file != stderr)
+        fclose(file);
 }

@@ -1,14 +1,14 @@
-/* A plan is run: in one leg, or by all schedules in several. Here is which leg goes how, and why.
+/* A plan is run in one leg, or by all schedules in several. Here is which plan each leg has.
 
-   The first STEPS_LEGS go by steps, so that what they find comes with words that repeat it. Then CYCLE legs come again and again: one in
-   rounds, one by permits, which find what only processors do, and all others by steps. If the memory has none, one leg in four goes by steps.
+   The first STEPS_LEGS go by steps, because what they find is reproducible. Then CYCLE legs repeat: one in rounds and one by permits, which find
+   what only real processors do, and all others by steps. If the memory has no steps of its own, one leg in four goes by steps.
 
-   If the memory asks elsewhere, its rounds may be slow, so legs go by time: the first ones by steps end with one that has taken SLOW_LEG, later
-   ones take LATER_LEG, and those in rounds or by permits twice as long as the last one by steps. What is made again goes by rounds.
+   If the memory calls an external store, its rounds may be slow, so legs end by time: the first ones by steps with one that has taken SLOW_LEG,
+   later ones after LATER_LEG, and those in rounds or by permits after twice the time of the last one by steps. A reproducer goes by rounds.
 
-   One leg in two has the usual numbers and another seed. In the others all is drawn. With libtmwatch_steps.a one leg by steps in four has
-   delayed stores, one in four the orders of C++20, and one in eight plain accesses that are steps too: each finds what the others can't. */
-enum { CYCLE = 20, FEW_STEPS_CYCLE = 4, LEG_MICROSECONDS = SECOND / 10, SLOW_LEG = 5 * SECOND, LATER_LEG = SECOND };
+   One leg in two has the usual numbers and another seed; in the others all is random. With libtmwatch_steps.a, one leg by steps in four has store
+   buffers, one in four the C++20 memory model, and one in eight steps at plain accesses: each finds what the others can't. */
+enum { CYCLE = 20, FEW_STEPS_CYCLE = 4, LEG_MICROSECONDS = SECOND_US / 10, SLOW_LEG = 5 * SECOND_US, LATER_LEG = SECOND_US };
 enum { USUAL_LEGS = 2, ORDERED_LEGS = 4, PLAIN_LEGS = 8 };
 
 /* Draws what a leg that isn't the first has in its plan, but the seed. */
@@ -19,7 +19,7 @@ static void draw_plan(tmwatch_plan *plan, uint64_t *draws)
     tmwatch_plan it = usual;
     it.threads = 2 + draw(draws, 3 + 4 * draw(draws, 2));
     it.registers = 1 + draw(draws, 4 + 4 * draw(draws, 2));
-    it.calls = 1 + draw(draws, 5);
+    it.accesses = 1 + draw(draws, 5);
     it.writes = 30 + 20 * draw(draws, 4);
     it.adds = 20 * draw(draws, 2);
     it.aborts = draw(draws, 4) == 0 ? 52 : 12;
@@ -97,31 +97,29 @@ static bool keep_start(const struct bench *b, uint64_t events)
 }
 
 /* Tells by which plan the end of the run is made again, and whether that is certain: then it goes by steps from the beginning. */
-static void set_again(struct session *session, const tmwatch_plan *plan, uint64_t leg, const tmwatch_benched *out)
+static void set_again(struct session *session, const tmwatch_plan *plan, uint64_t leg, const tmwatch_bench_result *out)
 {
-    tmwatch_benched *all = &session->all;
-    bool is_right = !is_wrong(session->plan, out) && out->rejected == 0 && !session->is_stuck;
+    tmwatch_bench_result *all = &session->all;
+    bool is_right = !is_wrong(session->plan, out) && out->solo_rollbacks == 0 && !hangs(session);
     bool has_steps = plan->schedule == TMWATCH_STEPS && !is_right && all->crashes == 0;
     bool is_given = is_right || session->plan->schedule != TMWATCH_ALL || leg < STEPS_LEGS;
     uint64_t rounds = is_given ? all->rounds : out->rounds;
-    all->again = is_given ? *session->plan : *plan;
-    all->leg = *plan;
+    all->reproducer = is_given ? *session->plan : *plan;
+    all->phase = *plan;
     /* (the first look is of round 1) */
     if (has_steps) {
-        all->again.rounds = all->again.round = rounds > 0 ? rounds : 1;
-        all->again.seconds = all->again.event = 0;
-        all->again.look = session->plan->look && session->plan->round == all->again.round;
+        all->reproducer.rounds = all->reproducer.round = rounds > 0 ? rounds : 1;
+        all->reproducer.seconds = all->reproducer.event = 0;
+        all->reproducer.audit_first = session->plan->audit_first && session->plan->round == all->reproducer.round;
     }
-    all->is_certain = has_steps && is_given && all->rescues == 0 && all->waits == 0 && !plan->goes_on;
+    all->is_deterministic = has_steps && is_given && all->stalls == 0 && all->waits == 0 && !plan->keep_going;
 }
 
 static void print_leg(FILE *file, uint64_t leg, tmwatch_plan plan)
 {
-    if (!file)
-        return;
     plan.seconds = 0;
-    fprintf(file, "leg %" PRIu64 ": ", leg);
-    tmwatch_bench_words(file, &plan);
+    fprintf(file, "phase %" PRIu64 ": ", leg);
+    tmwatch_bench_print_options(file, &plan);
     fputc('\n', file);
 }
 
@@ -129,45 +127,48 @@ static void print_leg(FILE *file, uint64_t leg, tmwatch_plan plan)
 static uint32_t run_legs(struct session *session)
 {
     const tmwatch_plan *plan = session->plan;
-    tmwatch_benched *all = &session->all, out;
+    tmwatch_bench_result *all = &session->all, out;
     uint64_t draws = plan->seed, leg = 0;
-    bool goes_on = true;
-    uint32_t status = TMWATCH_DONE;
-    while (goes_on) {
+    uint32_t status = TMWATCH_OK;
+    for (bool goes_on = true; goes_on;) {
         struct bench *b = calloc(1, sizeof *b);
         if (!b)
-            return TMWATCH_MEMORY;
+            return TMWATCH_NO_MEMORY;
         tmwatch_plan it = next_plan(session, leg, &draws);
         b->most_time = time_of_leg(session, it.schedule);
         b->delays = leg == 0 && session->second_runs ? &session->second_runs->delays : NULL;
-        print_leg(plan->legs, leg + 1, it);
+        if (plan->phases_file)
+            print_leg(plan->phases_file, leg + 1, it);
         uint64_t began = microseconds_of(CLOCK_MONOTONIC);
         status = run_leg(b, session, &it, &out);
         add_leg(all, &out);
         set_again(session, &it, leg, &out);
         leg = leg_after(session, leg, b, microseconds_of(CLOCK_MONOTONIC) - began);
-        goes_on = status == TMWATCH_DONE && (plan->schedule == TMWATCH_ALL || out.crashes > 0) && !is_wrong(plan, &out) && !b->has_no_time &&
-                  !session->is_stuck && out.rejected == 0 && all->rounds < plan->rounds && keep_start(b, out.told.events);
-        if (!goes_on && status == TMWATCH_DONE) {
-            come_to_tell(all, is_wrong(plan, all) || session->is_stuck || out.rejected > 0);
-            if (plan->trace)
-                all->from = all->told.events - out.told.events + write_trace(b, out.told);
-            if (plan->listing && (out.told.at > 0 || out.rejected > 0))
-                write_steps(b, plan->listing, out.rounds);
-            status = failure ? TMWATCH_FAILED : session->is_stuck ? TMWATCH_STUCK : out.rejected > 0 ? TMWATCH_NO_PROGRESS : TMWATCH_DONE;
+        goes_on = status == TMWATCH_OK && (plan->schedule == TMWATCH_ALL || out.crashes > 0) && !is_wrong(plan, &out) && !b->has_no_time &&
+                  !session->stuck && out.solo_rollbacks == 0 && all->rounds < plan->rounds && keep_start(b, out.result.events);
+        if (!goes_on && status == TMWATCH_OK) {
+            jobs->job[own_job].digest = digest_of(b, out.result);
+            come_to_tell(all, is_wrong(plan, all) || hangs(session) || out.solo_rollbacks > 0);
+            if (left.is_wanted && all->result.verdict == TMWATCH_VIOLATED && !are_certain(all))
+                b->plan.trace = open_left();
+            if (b->plan.trace)
+                all->skipped = all->result.events - out.result.events + write_trace(b, out.result);
+            if (plan->steps_file && (out.result.at > 0 || out.solo_rollbacks > 0))
+                write_steps(b, plan->steps_file, out.rounds);
+            status = session->stuck > 0 ? session->stuck : out.solo_rollbacks > 0 ? TMWATCH_NO_PROGRESS : TMWATCH_OK;
         }
         /* What is stuck still uses it. */
-        if (!session->is_stuck)
+        if (!session->stuck)
             free(b);
     }
     return status;
 }
 
-uint32_t tmwatch_bench(const tmwatch_memory *memory, const tmwatch_plan *plan, tmwatch_benched *benched)
+uint32_t tmwatch_bench(const tmwatch_memory *memory, const tmwatch_plan *plan, tmwatch_bench_result *result)
 {
     uint64_t now = jobs->began > 0 ? jobs->began : microseconds_of(CLOCK_MONOTONIC);
     uint32_t status = check(memory, plan);
-    if (status != TMWATCH_DONE)
+    if (status != TMWATCH_OK)
         return status;
     struct session session = {.memory = memory, .plan = plan, .began = now, .shown = now};
     memcpy(session.start, plan->start, sizeof session.start);
@@ -177,7 +178,7 @@ uint32_t tmwatch_bench(const tmwatch_memory *memory, const tmwatch_plan *plan, t
     end_second_runs(&session, status);
     claim(plan->progress);
     if (has_run(status))
-        *benched = session.all;
-    end_threads(&session, session.is_stuck);
+        *result = session.all;
+    end_threads(&session, session.stuck);
     return status;
 }

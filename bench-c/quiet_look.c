@@ -1,10 +1,10 @@
-/* A look: a thread makes transactions while no other does. One reads all registers, so that what they hold is known, whatever serial order
-   the transactions before have. Before that, each register is written that attempts since the last look have asked to write, and none that
-   committed. What is rolled back by chance is tried again. Again and again, progress is lost, as by a lock that is left held. */
+/* A look: a thread runs transactions while no other does. One reads all registers, so that their values are known, whatever serial order the
+   transactions before have. Before it, each register is written that attempts since the last look wanted to write and none committed. A look that
+   is rolled back is retried: if that happens again and again, as with a lock that is never released, the memory makes no progress. */
 
-/* A look is given up after FEW attempts that took the plan's patience, or after so many events that the look before it is still kept. The
-   first half of those come as fast as they can, for what is rolled back by chance; the others take the patience, for what a time ends. */
-enum { FEW = 200, FAST_EVENTS = MOST_LOOKED / 2, LONGEST_NAP = SECOND / 10 };
+/* A look ends without success after FEW attempts that took the plan's patience, or after so many events that the look before it is still stored.
+   The first FAST_EVENTS come as fast as they can, because rollbacks may be chance; the others take the patience, because a time may end them. */
+enum { FEW = 200, FAST_EVENTS = MOST_LOOKED / 2, LONGEST_NAP = SECOND_US / 10 };
 
 /* Whether a look's transaction is attempted, or again. Once the time of all is up, that it is rolled back says nothing of the memory. */
 static bool enter_alone(tmwatch_attempt *a)
@@ -13,9 +13,9 @@ static bool enter_alone(tmwatch_attempt *a)
     if (b->stops || (b->has_no_time && a->now.made > 0))
         return false;
     uint64_t events = a->keeps - a->look_from, slow = events > FAST_EVENTS ? events - FAST_EVENTS : 0;
-    uint64_t patience = b->plan.patience * SECOND, passed = microseconds_of(CLOCK_MONOTONIC) - a->look_began;
-    uint64_t due = patience / (MOST_LOOKED - FAST_EVENTS) * slow;
-    if (events < MOST_LOOKED && (patience == 0 || a->now.made < FEW || passed < patience)) {
+    uint64_t timeout = b->plan.timeout * SECOND_US, passed = microseconds_of(CLOCK_MONOTONIC) - a->look_began;
+    uint64_t due = timeout / (MOST_LOOKED - FAST_EVENTS) * slow;
+    if (events < MOST_LOOKED && (timeout == 0 || a->now.made < FEW || passed < timeout)) {
         if (due > passed)
             nap(due - passed < LONGEST_NAP ? (long)(due - passed) : LONGEST_NAP);
         wait_for_room(a);
@@ -24,7 +24,7 @@ static bool enter_alone(tmwatch_attempt *a)
     }
     b->rejected = a->now;
     b->rejected_thread = a->thread;
-    b->stops = true;
+    b->has_rejected = b->stops = true;
     return false;
 }
 

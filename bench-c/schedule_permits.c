@@ -39,7 +39,7 @@ static bool take_permit(tmwatch_attempt *a)
     return begins;
 }
 
-static void count_begun(const struct bench *b, tmwatch_benched *out)
+static void count_begun(const struct bench *b, tmwatch_bench_result *out)
 {
     out->rounds = UINT64_MAX; /* (as many transactions as each thread has begun) */
     for (unsigned i = 0; i < b->plan.threads; i++) {

@@ -19,10 +19,10 @@ static void end_round(tmwatch_attempt *a, uint64_t round)
     struct bench *b = a->bench;
     b->is_over = b->stops || b->is_late || round == b->plan.rounds;
     if (!b->is_over && round + 1 == b->plan.round && b->plan.event == 0)
-        tmwatch_break();
-    if (!b->stops && (b->is_over || round % LOOK == 0 || (b->plan.look && round + 1 == b->plan.round)))
+        tmwatch_breakpoint();
+    if (!b->stops && (b->is_over || round % LOOK == 0 || (b->plan.audit_first && round + 1 == b->plan.round)))
         look(a);
-    b->is_over = b->is_over || b->rejected.made > 0;
+    b->is_over = b->is_over || b->has_rejected;
 }
 
 /* Waits for all threads: whether another round follows. If the memory asks outside, the thread sleeps: what is asked needs the processors. */
@@ -47,7 +47,7 @@ static bool meet(tmwatch_attempt *a)
     return !b->is_over;
 }
 
-static void count_rounds(const struct bench *b, tmwatch_benched *out)
+static void count_rounds(const struct bench *b, tmwatch_bench_result *out)
 {
     out->rounds = b->round > 0 ? b->round - 1 : 0; /* (after the last one the threads have met once more) */
 }

@@ -1,13 +1,10 @@
-/* By steps: one thread runs at a time, the runner. At each step, beside a call or at a pause, it may hand over, as drawn from the seed
-   alone. A round goes by walk, which hands over often, or by priorities, which starve a thread for long (Burckhardt, Kothari, Musuvathi
-   and Nagarakatte, ASPLOS 2010). */
+/* The schedule `steps`: one thread runs at a time, and may yield at each step, at random by the seed alone. A round is a random walk, with many
+   context switches, or goes by priorities, which starve a thread for long (Burckhardt, Kothari, Musuvathi and Nagarakatte, ASPLOS 2010). */
 
-/* In the first rounds of a leg no load is stale and no store delayed: they show whether all that threads wait for is seen. If a thread has
-   waited for something else, which may order threads, no later round has stale loads or delayed stores either. */
-enum { PROBED = 16 };
-
-/* After so many pauses without a call, a thread is held for one that waits; and what a round's length is taken for at first. */
-enum { MOST_SPIN = 128, FIRST_LENGTH = 64 };
+/* The first PROBED rounds of a leg have no stale load and no delayed store, and show whether the bench sees all that threads wait for. If it
+   doesn't, what they wait for may order them, so no later round of the leg has these either. After MOST_SPIN pauses without a call, a thread is
+   taken to wait, and yields at a random one of SPIN_ODDS steps: at a fixed one, a loop might always yield at the same place. */
+enum { PROBED = 16, MOST_SPIN = 128, SPIN_ODDS = 4, FIRST_LENGTH = 64 /* of a round, in steps, until one is known */ };
 
 /* Any of these threads, of which there is one. The steps are locked. */
 static int any_of(struct steps *s, unsigned threads)
@@ -51,7 +48,7 @@ static void let_go(struct steps *s, int next)
         post(&s->go[next]);
 }
 
-/* Locks the steps as the runner. A thread that a rescue held for stuck waits for its turn first, as all others. */
+/* Locks the steps as the runner. A thread that a stall held for stuck waits for its turn first, as all others. */
 static void lock_as_runner(tmwatch_attempt *a)
 {
     struct steps *s = &a->bench->steps;
@@ -74,9 +71,10 @@ static void step(tmwatch_attempt *a, unsigned pauses)
     s->asks = false;
     s->step++;
     s->spin = pauses > 0 ? s->spin + pauses : 0;
-    if (pauses > 0)
+    if (pauses > 0 && !a->bench->is_closed)
         s->listed[s->inner++ % LISTED] = (struct listed){s->recorded, a->caller, a->thread};
-    bool hands_over = s->spin > MOST_SPIN || (s->odds > 0 && draw(&s->draws, s->odds) == 0);
+    bool hands_over = s->spin > MOST_SPIN && (pauses > MOST_SPIN || draw(&s->draws, SPIN_ODDS) == 0);
+    hands_over = hands_over || (s->odds > 0 && draw(&s->draws, s->odds) == 0);
     for (unsigned i = 0; i < s->changes; i++)
         hands_over = hands_over || s->change[i] + 1 == s->step;
     if (hands_over) {
@@ -89,7 +87,7 @@ static void step(tmwatch_attempt *a, unsigned pauses)
         post(&s->free);
         return;
     }
-    s->switches++;
+    s->context_switches++;
     let_go(s, next);
     wait_turn(a);
 }
@@ -97,9 +95,11 @@ static void step(tmwatch_attempt *a, unsigned pauses)
 /* A memory of this process asks another one, which this one's debugger doesn't show. */
 static atomic_bool asks_elsewhere;
 
-bool tmwatch_asks(void)
+bool tmwatch_external_call(void)
 {
     bool is_beside = this_thread && this_thread->by->repeats;
+    if (tmwatch_step_drain)
+        tmwatch_step_drain();
     if (this_thread)
         this_thread->bench->has_asked = asks_elsewhere = true;
     if (is_beside)
@@ -107,11 +107,13 @@ bool tmwatch_asks(void)
     return is_beside;
 }
 
-void tmwatch_waits(void)
+void tmwatch_external_blocked(void)
 {
     if (!this_thread || !this_thread->by->repeats)
         return;
     struct steps *s = &this_thread->bench->steps;
+    if (tmwatch_step_drain)
+        tmwatch_step_drain();
     lock_as_runner(this_thread);
     s->asks = false;
     s->stuck |= 1u << this_thread->thread;
@@ -138,7 +140,7 @@ static void draw_round(struct bench *b)
         s->change[i] = draw(&s->draws, length + length / 4 + 1);
 }
 
-__attribute__((noinline)) void tmwatch_break(void)
+__attribute__((noinline)) void tmwatch_breakpoint(void)
 {
     __asm__ volatile("");
 }
@@ -150,6 +152,7 @@ static void turn_round(tmwatch_attempt *a)
     struct steps *s = &b->steps;
     uint64_t round = b->round;
     s->awake = NOBODY;
+    s->has_buffers = false;
     if (round > 0)
         s->length[s->is_mixed] += s->step - s->length[s->is_mixed] / 16;
     wait_for_room(a);
@@ -157,7 +160,7 @@ static void turn_round(tmwatch_attempt *a)
     end_round(a, round);
     s->starts[b->round % STARTS] = s->recorded;
     s->begun = b->round;
-    bool is_ordered = b->plan.orders != TMWATCH_SEQUENTIAL && b->round > PROBED && s->rescues == 0;
+    bool is_ordered = b->plan.orders != TMWATCH_SEQUENTIAL && b->round > PROBED && s->stalls == 0;
     s->ordered += is_ordered;
     s->has_buffers = is_ordered && b->plan.orders == TMWATCH_X86;
     if (b->orders)
@@ -183,7 +186,7 @@ static bool meet_by_steps(tmwatch_attempt *a)
             post(&s->free);
             turn_round(a);
         } else {
-            s->switches++;
+            s->context_switches++;
             let_go(s, choose(s, ~0u));
         }
     }
@@ -197,16 +200,16 @@ static void count_event(struct bench *b)
     struct steps *s = &b->steps;
     uint64_t round = s->begun > 0 ? s->begun : 1; /* (the first look is of round 1) */
     if (round == b->plan.round && s->recorded + 1 - s->starts[s->begun % STARTS] == b->plan.event)
-        tmwatch_break();
+        tmwatch_breakpoint();
     s->recorded++;
 }
 
 /* The rounds up to that of the violation, which may not be the last. */
-static void count_steps(const struct bench *b, tmwatch_benched *out)
+static void count_steps(const struct bench *b, tmwatch_bench_result *out)
 {
     const struct steps *s = &b->steps;
-    uint64_t at = out->told.at;
-    out->rounds = at > 0 ? s->begun : b->round - !b->session->is_stuck;
+    uint64_t at = out->result.at;
+    out->rounds = at > 0 ? s->begun : b->round - (b->round > 0 && !hangs(b->session));
     while (at > 0 && out->rounds > 0 && s->starts[out->rounds % STARTS] >= at)
         out->rounds--;
     out->event = at > 0 ? at - s->starts[out->rounds % STARTS] : 0;

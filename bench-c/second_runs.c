@@ -1,7 +1,6 @@
-/* Loads that are delayed past later stores, by the orders of C++20 (instrumented/orders/delayed.c). If a run is opaque so far, second runs
-   make what its first leg has found, each up to the store. The load's answer then comes after that, with what its thread has recorded since.
-
-   A memory can't be put back to its beginning. So a process is split off before the run, and waits; each second run is a child of it. */
+/* Load buffering in the C++20 memory model (instrumented/orders/delayed.c). If a run is opaque so far, second runs repeat each load that its first
+   leg has found, up to the store: then the load's answer comes after that store, with what its thread has recorded since. A memory can't be put
+   back to its initial state, so a process is forked before the run, and waits. Each second run is a child of it. */
 
 /* A second run takes so many seconds of the processors at most. */
 enum { MOST_TRACE = 1 << 19, MOST_SECONDS = 5 };
@@ -21,12 +20,12 @@ static uint32_t judge_moved(struct bench *b, struct second_runs *runs, uint64_t 
     const tmwatch_delays *delays = &runs->delays;
     uint64_t from = first_of_trace(b, delays->stored, b->steps.recorded, true), place;
     tmwatch_settings settings = TMWATCH_SETTINGS(b->plan.registers);
-    tmwatch_told told = {0, 0, TMWATCH_UNDECIDED, 0};
+    tmwatch_result result = {0, 0, TMWATCH_UNDECIDED, 0};
     for (unsigned reg = 0; reg < b->plan.registers; reg++)
         settings.start[reg] = start_of_trace(b, from, delays->stored, reg);
     b->plan.trace = fmemopen(runs->trace, sizeof runs->trace, "w");
-    if (!b->plan.trace || tmwatch_open(&b->watch, b->recorders, b->plan.threads, &settings) != TMWATCH_DONE)
-        return told.verdict;
+    if (!b->plan.trace || tmwatch_open(&b->watch, b->recorders, b->plan.threads, &settings) != TMWATCH_OK)
+        return result.verdict;
     write_header(b, from, delays->stored);
     b->kept[delays->answered % KEPT].value = value;
     for (unsigned is_late = 0; is_late < 2; is_late++)
@@ -35,12 +34,12 @@ static uint32_t judge_moved(struct bench *b, struct second_runs *runs, uint64_t 
             if ((i >= delays->answered && it->thread == delays->made->loader) != is_late)
                 continue;
             write_event(b->plan.trace, it);
-            if (tmwatch_record(&b->recorders[it->thread], (uint32_t)it->letter, it->reg, it->value, &place) != TMWATCH_DONE ||
-                tmwatch_pump(&b->watch, 1, &place) != TMWATCH_DONE)
-                return told.verdict;
+            if (tmwatch_record(&b->recorders[it->thread], (uint32_t)it->letter, it->reg, it->value, &place) != TMWATCH_OK ||
+                tmwatch_pump(&b->watch, 1, &place) != TMWATCH_OK)
+                return result.verdict;
         }
     bool is_written = fclose(b->plan.trace) == 0;
-    return tmwatch_close(&b->watch, b->recorders, b->plan.threads, &told) == TMWATCH_DONE && is_written ? told.verdict : TMWATCH_UNDECIDED;
+    return tmwatch_close(&b->watch, b->recorders, b->plan.threads, &result) == TMWATCH_OK && is_written ? result.verdict : TMWATCH_UNDECIDED;
 }
 
 /* Whether the record is violated by the load's answer, and not by its first one: else others have read what the load's thread stored later. */
@@ -56,14 +55,14 @@ static bool make_second_run(struct session *session, tmwatch_plan plan)
 {
     static struct bench bench;
     struct second_runs *it = session->second_runs;
-    tmwatch_benched out;
+    tmwatch_bench_result out;
     plan.rounds = it->delays.made->round - 1;
     plan.seconds = 0;
-    plan.patience = 1;
+    plan.timeout = 1;
     plan.progress = NULL;
     it->delays.answered = it->delays.stored = 0;
     bench.delays = &it->delays;
-    bool is_whole = run_leg(&bench, session, &plan, &out) == TMWATCH_DONE && !out.unseen && !out.race[0];
+    bool is_whole = run_leg(&bench, session, &plan, &out) == TMWATCH_OK && !out.untracked && !out.race[0];
     return is_whole && it->delays.answered > 0 && it->delays.answered < it->delays.stored && is_violated_by_load(&bench, it);
 }
 
@@ -91,7 +90,7 @@ static void make_second_runs(struct session *session, const tmwatch_plan *first)
 /* Splits off the process of the second runs, if the first leg has the orders of C++20. */
 static void start_second_runs(struct session *session, const tmwatch_plan *first)
 {
-    if (first->orders != TMWATCH_CXX || first->crashes > 0)
+    if (first->orders != TMWATCH_CXX || first->crashes > 0 || tmwatch_orders_unmarked(session->memory))
         return;
     struct second_runs *it = mmap(NULL, sizeof *it, PROT_READ | PROT_WRITE, MAP_SHARED | MAP_ANONYMOUS, -1, 0);
     if (it == MAP_FAILED)
@@ -107,10 +106,10 @@ static void start_second_runs(struct session *session, const tmwatch_plan *first
 static void end_second_runs(struct session *session, uint32_t status)
 {
     struct second_runs *it = session->second_runs;
-    tmwatch_benched *all = &session->all;
+    tmwatch_bench_result *all = &session->all;
     if (!it)
         return;
-    if (status != TMWATCH_DONE || is_wrong(session->plan, all) || all->unseen || all->race[0] || all->waits || session->asks ||
+    if (status != TMWATCH_OK || is_wrong(session->plan, all) || all->untracked || all->race[0] || all->waits || session->asks ||
         jobs->is_interrupted)
         it->delays.count = 0;
     post(&it->goes);
@@ -118,7 +117,9 @@ static void end_second_runs(struct session *session, uint32_t status)
         await_process(it->process);
     if (it->is_violated)
         tmwatch_orders_tell_delay(it->delays.made, all->delayed, sizeof all->delayed);
-    if (it->is_violated && session->plan->listing)
-        fputs(it->trace, session->plan->listing);
-    munmap(it, sizeof *it);
+    if (it->is_violated && session->plan->steps_file)
+        fputs(it->trace, session->plan->steps_file);
+    /* (threads that are stuck may still use it) */
+    if (!session->stuck)
+        munmap(it, sizeof *it);
 }

@@ -1,7 +1,7 @@
 /* Waiting: naps and semaphores; and what a clock has counted. */
 
 /* How long who waits for the judge, or it for events, lets others run: microseconds. Events of a memory that asks outside come slowly. */
-enum { REST = 50, LONG_REST = 1000, MOST_ACCESS = 10000 /* what an access takes at most that is under way */ };
+enum { REST = 50, LONG_REST = 1000 };
 
 /* The C library's, also in a program that wraps them. */
 extern int __real_nanosleep(const struct timespec *time, struct timespec *left) __attribute__((weak));

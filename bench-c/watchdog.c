@@ -1,9 +1,9 @@
-/* The watchdog of the steps: when the runner is blocked by what the bench doesn't see, as by a lock that another thread holds, another one
-   goes too. It goes by the processor's time, so that neither load nor a debugger is taken for that. */
+/* The watchdog of the schedule `steps`. If the running thread is blocked by what the bench doesn't see, as by a lock that another thread holds,
+   another one runs too. Time is the processor's, so that neither load nor a debugger is taken for that.
 
-/* How long the runner may make no step: so many looks, that far apart, that find it asleep, or so many microseconds of a processor, of which a
-   look counts MOST_EACH at most, since a virtual one that stands still counts on. After two rescues no run repeats: few are enough. */
-enum { LOOK_MICROSECONDS = 1000, MOST_SLEEPS = 50, MOST_USED = 250000, MOST_EACH = 5000, FEW_RESCUES = 2, LATER_SLEEPS = 5, LATER_USED = 5000 };
+   The running thread may make no step for so many looks that find it asleep, or so many microseconds of a processor, of which a look counts
+   MOST_EACH at most, because a virtual processor's clock goes on while it is stopped. After two stalls no run is reproducible, so few suffice. */
+enum { LOOK_MICROSECONDS = 1000, MOST_SLEEPS = 50, MOST_USED = 250000, MOST_EACH = 5000, FEW_STALLS = 2, LATER_SLEEPS = 5, LATER_USED = 5000 };
 
 /* Whether a thread sleeps, as far as the system tells. */
 static bool is_asleep(int tid)
@@ -11,12 +11,10 @@ static bool is_asleep(int tid)
     char name[64], line[256] = "";
     snprintf(name, sizeof name, "/proc/self/task/%d/stat", tid);
     FILE *file = fopen(name, "r");
-    if (!file)
-        return false;
-    bool has_read = fgets(line, sizeof line, file) != NULL;
-    fclose(file);
-    const char *after = strrchr(line, ')');
-    return has_read && after && after[1] == ' ' && after[2] == 'S';
+    const char *after = file && fgets(line, sizeof line, file) ? strrchr(line, ')') : NULL;
+    if (file)
+        fclose(file);
+    return after && after[1] == ' ' && after[2] == 'S';
 }
 
 /* Whether the runner has made no step for too long. */
@@ -32,7 +30,7 @@ static bool is_blocked(struct bench *b, int runner, uint64_t steps)
     if (w->runner == NOBODY || pthread_getcpuclockid(b->session->workers[runner]->thread, &clock) != 0)
         return false;
     uint64_t used = microseconds_of(clock), passed = used - w->clock;
-    bool is_late = s->rescues >= FEW_RESCUES;
+    bool is_late = s->stalls >= FEW_STALLS;
     w->sleeps = !is_new && is_asleep(s->tid[runner]) ? w->sleeps + 1 : 0;
     w->used = is_new ? 0 : w->used + (passed < MOST_EACH ? passed : MOST_EACH);
     w->clock = used;
@@ -40,7 +38,18 @@ static bool is_blocked(struct bench *b, int runner, uint64_t steps)
     return w->sleeps >= (is_late ? LATER_SLEEPS : MOST_SLEEPS) || w->used >= (is_late ? LATER_USED : MOST_USED);
 }
 
-/* Looks at the runner, and rescues the others from one that is blocked. */
+/* Ends all delays, since a thread waits untracked: nothing is stale or delayed any more. The steps are locked. */
+static void end_delays(struct bench *b)
+{
+    b->steps.stalls++;
+    b->steps.has_buffers = false;
+    for (unsigned i = 0; i < b->plan.threads && tmwatch_step_drain_of; i++)
+        tmwatch_step_drain_of(&b->parts[i].how, 0);
+    if (b->orders)
+        tmwatch_orders_still(b->orders);
+}
+
+/* Looks at the runner. If it is blocked, another one goes on, and what is delayed comes out, which may end its wait. */
 static void watch_steps(struct bench *b, uint64_t now)
 {
     struct steps *s = &b->steps;
@@ -52,12 +61,12 @@ static void watch_steps(struct bench *b, uint64_t now)
     if (!is_blocked(b, runner, steps))
         return;
     await(&s->free);
-    int next = s->runner == runner && s->steps == steps && s->awake == runner ? choose(s, ~(1u << runner)) : NOBODY;
+    bool is_same = s->runner == runner && s->steps == steps && s->awake == runner;
+    int next = is_same ? choose(s, ~(1u << runner)) : NOBODY;
+    if (next != NOBODY || (is_same && b->parts[runner].how.buffered > 0))
+        end_delays(b);
     if (next != NOBODY) {
         s->stuck |= 1u << runner;
-        s->rescues++;
-        if (b->orders)
-            tmwatch_orders_still(b->orders);
         let_go(s, next);
     } else
         post(&s->free);

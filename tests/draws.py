@@ -1,11 +1,14 @@
 #!/usr/bin/env python3
-"""Compares the transactions of a bench's trace with those that its plan says, drawn here anew.
+"""Compares the transactions in a bench's trace with those that this script computes from the plan.
 
     tests/draws.py TRACE ROUNDS SEED THREADS CALLS WRITES ADDS ABORTS MIXES BLINDS [ATTEMPTS]
 
-The trace is that of a whole run in rounds or by steps, of a memory with `add`. Each attempt of each thread has to be the beginning of what
-the plan says, with its registers and values, and each round has to have its share of attempts, of which a transaction has ATTEMPTS at most;
-one that reads all registers alone is a look, and one that writes one alone, with a value that only looks write, belongs to it. Prints how many attempts were compared, and how many values, all of which differ. Exit status: 0 all is so; 1 it is not.
+The trace is that of a whole run with --schedule rounds or steps, of a memory with `add`. Each attempt of each thread must be a beginning of
+the transaction that the plan requires, with its registers and values. Each round must have its share of attempts, of which a transaction
+has at most ATTEMPTS. A transaction that reads all registers while no other one runs is an audit; one that writes a register while no other
+one runs, with a value that only audits write, belongs to it. Prints the number of attempts that were compared, and the number of values,
+which must all be different.
+Exit status: 0 if all is as required, 1 otherwise.
 """
 import sys
 from copy import deepcopy

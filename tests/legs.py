@@ -1,18 +1,18 @@
 #!/usr/bin/env python3
-"""Compares the legs of a bench with those that its seed says, drawn here anew.
+"""Compares the phases of a bench with those that this script computes from the seed.
 
     tests/legs.py LEGS SEED MARKED INSTRUMENTED
 
-LEGS is what the bench has written by --legs, of a run by default with this seed. MARKED is 1 if the memory has steps of its own, and
-INSTRUMENTED 1 if it is linked with libtmwatch_steps.a. Prints how many legs went by each schedule. Exit status: 0 all is so, and there are
-more than 40; 1 it is not.
+LEGS is the output of --print-phases, from a run with the default options and this seed. MARKED is 1 if the memory has steps of its own, and
+INSTRUMENTED is 1 if it is linked with libtmwatch_steps.a. Prints the number of phases with each schedule.
+Exit status: 0 if all are as computed and there are more than 40, 1 otherwise.
 """
 import re
 import sys
 
 from draws import Draws
 
-NAMES = ("threads", "registers", "calls", "writes", "adds", "aborts", "pause", "mixes", "blinds")
+NAMES = ("threads", "registers", "accesses", "writes", "adds", "aborts", "pause", "mixed-rounds", "blind-writes")
 USUAL = (4, 3, 3, 50, 20, 12, 100, 50, 10)
 FIRST, MARKED_CYCLE, OTHER_CYCLE = 20, 20, 4
 
@@ -43,7 +43,7 @@ def plan_of(draws, schedule, is_instrumented):
 def main(words):
     seed, is_marked, is_instrumented = int(words[1]), words[2] == "1", words[3] == "1"
     with open(words[0], encoding="ascii") as it:
-        legs = [line.split(": ", 1)[1].strip() for line in it if line.startswith("leg ")]
+        legs = [line.split(": ", 1)[1].strip() for line in it if line.startswith("phase ")]
     draws, counts = Draws(seed), {}
     for leg, found in enumerate(legs):
         schedule = schedule_of(leg, is_marked)

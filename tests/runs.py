@@ -1,12 +1,13 @@
 #!/usr/bin/env python3
-"""Compares all that a bench in C writes with what its run has to be, which is made here anew: the draws, the schedule, the memory.
+"""Compares the whole output of a bench in C with the output that this script computes: the random choices, the schedule, the memory.
 
     tests/runs.py PROGRAM REPLAY FAULT OPTION..
 
-PROGRAM is tests/c/bench_marks.c on the bench, which has this FAULT, and REPLAY is tests/c/bench_replay.c; the OPTIONs are the program's. It runs
-by steps or by all, or has one thread: else its threads run as they may. Compared are standard output and error, the trace, FILE.run,
-FILE.steps, whose addresses are those of the functions that pause, and the report of --junit. What a run has only since its judge comes
-late is left out. Exit status: 0 all is so; 1 it is not.
+PROGRAM is tests/c/bench_marks.c on the bench, with this FAULT, and REPLAY is tests/c/bench_replay.c; the OPTIONs are those of the program.
+It runs with --schedule steps or all, or with one thread, because threads run in an arbitrary order otherwise. The script compares standard
+output and error, the trace, FILE.report, FILE.steps (whose addresses are those of the functions that pause), and the report of --junit. It
+leaves out the part of a run that exists only because the judge is late.
+Exit status: 0 if nothing differs, 1 otherwise.
 """
 import json
 import os
@@ -22,23 +23,23 @@ import legs
 
 WORD, UNDRAWN = 2**64, 2**64 - 1
 REGISTERS, THREADS, LOOK, ATTEMPTS, LEG, KEPT, MOST_LOOKED, FIRST_ATTEMPTS = 8, 8, 64, 8, 1000, 2**17, 2**16, 8
-LOOK_ATTEMPTS = 200  # after which, and the plan's patience, a look may be given up
+LOOK_ATTEMPTS = 200  # after which, and the plan's timeout, a look may be given up
 # The options in their order, each with its default, and the usual number of those that may be drawn.
 DEFAULTS = {
-    "schedule": "all", "rounds": 100000, "seconds": 0, "seed": 1, "round": 0, "event": 0, "look": 0, "threads": UNDRAWN, "registers": UNDRAWN,
-    "calls": UNDRAWN, "writes": UNDRAWN, "adds": UNDRAWN, "aborts": UNDRAWN, "pause": UNDRAWN, "mixes": UNDRAWN, "blinds": UNDRAWN,
-    "attempts": 0, "orders": UNDRAWN, "plain": 0, "races": "tell", "small": 0, "go-on": 0,
-    "crashes": 0, "patience": 5,
+    "schedule": "all", "rounds": 100000, "seconds": 0, "seed": 1, "keep-going": 0, "crashes": 0, "timeout": 5, "round": 0, "event": 0,
+    "audit-first": 0, "threads": UNDRAWN, "registers": UNDRAWN, "accesses": UNDRAWN, "writes": UNDRAWN, "adds": UNDRAWN, "aborts": UNDRAWN,
+    "pause": UNDRAWN, "mixed-rounds": UNDRAWN, "blind-writes": UNDRAWN, "attempts": 0, "orders": UNDRAWN, "plain": 0, "races": "report",
+    "values": "wide",
 }  # fmt: skip
-FLAGS = ("look", "plain", "small", "go-on", "crashes")
+FLAGS = ("audit-first", "plain", "keep-going", "crashes")
 USUAL = dict(zip(legs.NAMES, legs.USUAL)) | {"orders": "sequential"}
 LACKS = {
-    "threads": "one thread ran: no two transactions can overlap",
-    "overlap": "no two transactions overlapped: this run shows nothing",
-    "stores": "nothing was written: this run shows nothing",
-    "commits": "no transaction has committed: this run shows little",
-    "aborts": "no transaction was aborted unasked: the memory locks, lacks a check, or few have met",
-    "progress": "nearly all transactions were rolled back: this run shows little",
+    "threads": "warning: only one thread ran, so no two transactions could overlap",
+    "overlap": "warning: no two transactions overlapped, so this run tests nothing",
+    "stores": "warning: nothing was written, so this run tests nothing",
+    "commits": "warning: no transaction committed, so this run tests little",
+    "aborts": "warning: the memory never aborted a transaction. Either it uses locks, or a conflict check is missing, or there were too few conflicts",
+    "progress": "warning: nearly all transactions were rolled back, so this run tests little",
 }
 MEETS, NOBODYS = object(), 12345
 
@@ -55,8 +56,8 @@ def read_options(words):
 
 
 def words_of(plan):
-    """Returns the words that say a plan: its seed, and what isn't the default."""
-    left = {"patience"}
+    """Returns the options of a plan: its seed, and what isn't the default."""
+    left = {"timeout"}
     left |= {"rounds"} if plan["round"] or plan["rounds"] == UNDRAWN else set()
     left |= {"orders"} if plan["schedule"] != "all" and plan["orders"] == "sequential" else set()
     return " ".join(f"--{name}" if name in FLAGS else f"--{name} {plan[name]}" for name in DEFAULTS
@@ -151,11 +152,11 @@ class Thread(draws.Thread):
     """A thread of a leg: what it draws, and its transaction of the memory."""
 
     def __init__(self, number, plan, start, written):
-        names = ("seed", "threads", "calls", "writes", "adds", "aborts", "mixes", "blinds", "attempts")
+        names = ("seed", "threads", "accesses", "writes", "adds", "aborts", "mixed-rounds", "blind-writes", "attempts")
         # (a memory without `add` is asked for none)
         given = plan | ({"adds": 0} if os.environ.get("LACKS") == "add" else {})
         super().__init__(number, [given[name] for name in names], start)
-        self.written, self.tx, self.has_permits, self.is_small = written, {}, plan["schedule"] == "permits", plan["small"] == 1
+        self.written, self.tx, self.has_permits, self.is_small = written, {}, plan["schedule"] == "permits", plan["values"] == "small"
 
     def draw_share(self):
         if not self.has_permits:
@@ -286,7 +287,7 @@ class Leg:
     def end_round(self, thread):
         """What is between two rounds: a look after each 64th, and at the end."""
         self.is_over = self.round == self.plan["rounds"]
-        looks = self.round % LOOK == 0 or (self.plan["look"] and self.round + 1 == self.plan["round"])
+        looks = self.round % LOOK == 0 or (self.plan["audit-first"] and self.round + 1 == self.plan["round"])
         if self.is_over or looks:
             self.look(thread)
         self.is_over = self.is_over or self.rejected > 0
@@ -340,7 +341,7 @@ class Leg:
             self.lengths[self.is_mixed] = length + self.step_of_round - length // 16
         self.end_round(thread)
         mix = draws.Draws(self.plan["seed"] * draws.ROUNDS + self.round)
-        self.is_mixed = self.plan["threads"] > 1 and mix.below(100) < self.plan["mixes"]
+        self.is_mixed = self.plan["threads"] > 1 and mix.below(100) < self.plan["mixed-rounds"]
         self.ready, self.step_of_round, self.changes = {it.number for it in self.threads}, 0, []
         self.odds = 2 << self.draws.below(4) if self.draws.below(2) == 0 else 0
         self.lowest = 2**32
@@ -361,7 +362,7 @@ class Leg:
         self.spin = self.spin + 1 if place else 0
         if place:
             self.listed.append((len(self.events), runner, place))
-        hands_over = self.spin > 128 or self.odds > 0 and self.draws.below(self.odds) == 0
+        hands_over = self.spin > 128 and self.draws.below(4) == 0 or self.odds > 0 and self.draws.below(self.odds) == 0
         if not hands_over and self.step_of_round - 1 not in self.changes:
             return runner
         self.lowest -= 1
@@ -387,7 +388,7 @@ class Session:
 
     def look_value(self):
         self.looked += 1
-        return self.looked * draws.SMALL_APART + THREADS if self.plan["small"] else (2**63 + self.looked) * draws.VALUES % WORD
+        return self.looked * draws.SMALL_APART + THREADS if self.plan["values"] == "small" else (2**63 + self.looked) * draws.VALUES % WORD
 
     def plans(self):
         """Yields the plan of each leg."""
@@ -401,7 +402,7 @@ class Session:
             plan = read_options(words.split()) | {name: it for name, it in self.plan.items() if name in USUAL and it != UNDRAWN}
             left = self.plan["round"] - rounds
             plan |= {"rounds": min(LEG, self.plan["rounds"] - rounds), "round": left if 0 < left <= LEG else 0, "orders": "sequential"}
-            plan |= {name: self.plan[name] for name in ("seconds", "attempts", "event", "look", "patience")}
+            plan |= {name: self.plan[name] for name in ("seconds", "attempts", "event", "audit-first", "timeout")}
             number, rounds = number + 1, rounds + plan["rounds"]
             yield plan
 
@@ -421,7 +422,7 @@ class Session:
 
 def counts_of(events):
     """Returns the counts of these events, by their definitions (docs/FORMATS.md)."""
-    live, count = {}, dict.fromkeys(("aborted", "committed", "cuts", "live", "overlapping", "transactions", "unasked", "widest"), 0)
+    live, count = {}, dict.fromkeys(("aborted", "committed", "cuts", "live", "concurrent", "transactions", "forced_aborts", "max_window"), 0)
     overlap, before, window = set(), {}, 0
     for event in events:
         thread, letter = event.split()[:2]
@@ -432,13 +433,13 @@ def counts_of(events):
             live[thread] = count["transactions"]
         if letter in "CA":
             count["committed" if letter == "C" else "aborted"] += 1
-            count["unasked"] += letter == "A" and before[thread] != "X"
+            count["forced_aborts"] += letter == "A" and before[thread] != "X"
             del live[thread]
         before[thread] = letter
-        count["widest"] = max(count["widest"], window)
+        count["max_window"] = max(count["max_window"], window)
         if not live:
             count["cuts"], window = count["cuts"] + 1, 0
-    return count | {"live": len(live), "overlapping": len(overlap)}
+    return count | {"live": len(live), "concurrent": len(overlap)}
 
 
 def line_of(it):
@@ -481,12 +482,12 @@ class Told:
 
     def again(self):
         again = dict(self.plan)
-        is_certain = self.fails and self.last.by_steps
-        if is_certain:
+        is_deterministic = self.fails and self.last.by_steps
+        if is_deterministic:
             # (the first look is of round 1)
             again |= dict.fromkeys(("rounds", "round"), max(1, self.rounds())) | {"seconds": 0, "event": 0}
-            again["look"] = int(again["look"] and again["round"] == self.plan["round"])
-        return {"again": words_of(again), "certain": is_certain}
+            again["audit-first"] = int(again["audit-first"] and again["round"] == self.plan["round"])
+        return {"reproduce": words_of(again), "deterministic": is_deterministic}
 
     def rounds(self):
         before = sum(leg.round - 1 for leg in self.session.legs[:-1])
@@ -495,15 +496,15 @@ class Told:
         return before + (self.last.round if self.last.is_stuck else self.last.round - 1)
 
     def counts(self):
-        return {name: (max if name == "widest" else sum)(it[name] for it in self.counts_of_legs) for name in self.counts_of_legs[0]}
+        return {name: (max if name == "max_window" else sum)(it[name] for it in self.counts_of_legs) for name in self.counts_of_legs[0]}
 
     def lacks(self):
         counts, letters = self.counts(), {line.split()[1] for leg in self.session.legs for line in leg.events}
         is_slow = 0 < counts["committed"] < counts["transactions"] // 20
         # (one thread alone is said to be one)
-        none_overlap = not any(it["overlapping"] for it in self.counts_of_legs) and self.plan["threads"] > 1
+        none_overlap = not any(it["concurrent"] for it in self.counts_of_legs) and self.plan["threads"] > 1
         so = {"threads": self.plan["threads"] == 1, "overlap": none_overlap, "stores": not letters & {"W", "N"},
-              "commits": counts["committed"] == 0, "aborts": counts["unasked"] == 0, "progress": is_slow or self.last.rejected > 0}
+              "commits": counts["committed"] == 0, "aborts": counts["forced_aborts"] == 0, "progress": is_slow or self.last.rejected > 0}
         return [name for name, it in so.items() if it and not self.is_violated]
 
     def lines(self):
@@ -512,55 +513,56 @@ class Told:
         events = sum(len(leg.events) for leg in all_legs)
         report = {"events": self.events if self.is_violated else events, "verdict": "violated" if self.is_violated else "opaque so far"}
         report |= {"at": self.before + self.at} if self.is_violated else {}
-        rounds = {"foreign": None if self.is_violated else max(leg.foreign for leg in all_legs)}
+        rounds = {"max_interleaved_commits": None if self.is_violated else max(leg.foreign for leg in all_legs)}
         rounds["rounds"] = self.rounds() if self.last.by_steps or not self.is_violated else None
         begins = self.before + self.trace()[1]
-        rounds |= {"from": begins} if begins else {}
-        rounds |= {"lacks": self.lacks()} if self.lacks() else {}
+        rounds |= {"skipped": begins} if begins else {}
+        rounds |= {"untested": self.lacks()} if self.lacks() else {}
         if any(leg.by_steps for leg in all_legs):
-            rounds |= {"rescues": 0, "steps": None if late else sum(leg.steps for leg in all_legs),
-                       "switches": None if late else sum(leg.switches for leg in all_legs)}
+            rounds |= {"stalls": 0, "steps": None if late else sum(leg.steps for leg in all_legs),
+                       "context_switches": None if late else sum(leg.switches for leg in all_legs)}
         return [line_of(it) for it in (report, rounds, self.counts())] + ([line_of(self.again())] if self.fails else [])
 
     def stdout(self):
         if self.fails and not self.is_violated:
-            return ['{"fault":"stuck"}', line_of(self.again())]
+            return ['{"fault":"hang"}' if self.last.is_stuck else '{"fault":"no progress"}', line_of(self.again())]
         return self.lines()
 
     def stderr(self):
         told = []
         if self.plan["legs"]:
-            told += [f"leg {number}: {words_of(leg.plan | {'seconds': 0})}" for number, leg in enumerate(self.session.legs, 1)]
+            told += [f"phase {number}: {words_of(leg.plan | {'seconds': 0})}" for number, leg in enumerate(self.session.legs, 1)]
         if self.last.is_stuck:
-            told += [f"no event for {self.plan['patience']} seconds"]
+            told += [f"hang: no event for {self.plan['timeout']} seconds (--timeout)"]
             told += [self.place_of(thread) for thread in self.last.threads]
         elif self.last.rejected and not self.is_violated:
-            by = "it reads all registers. Is a lock left held, or has a clock wrapped?"
+            of, hint = "read of all registers", ", or did a clock wrap"
             if self.last.rejected_reg is not None:
-                by = f"it writes register {self.last.rejected_reg}. Is a lock left held, or a reader's mark?"
-            alone = f"a transaction of thread {self.last.rejected_thread} that ran alone"
-            told += [f"{alone} was rolled back {self.last.rejected} times: {by}"]
+                of, hint = f"write to register {self.last.rejected_reg}", ""
+            alone = f"no progress: thread {self.last.rejected_thread} ran alone, but its {of}"
+            told += [f"{alone} was rolled back {self.last.rejected} times. Was a lock or a reader flag not released{hint}?"]
         if not self.fails:
             return told + [LACKS[name] for name in self.lacks()]
         again = self.again()
-        line = f"by the same plan, but maybe not the same run: {again['again']}"
-        if again["certain"]:
-            line = f"again: {again['again']}; in gdb, `break tmwatch_break` stops before that round"
+        line = f"to try again with the same options (this run may not come again): {self.program} {again['reproduce']}"
+        if again["deterministic"]:
+            line = f"to reproduce: {self.program} {again['reproduce']}"
             if self.is_violated:
-                line += f", with --event {self.at - self.last.starts[self.last.round_of(self.at)]} before its wrong event"
+                number = self.at - self.last.starts[self.last.round_of(self.at)]
+                line += f"\nto stop in gdb just before the violation: add --event {number}, then 'break tmwatch_breakpoint'"
         if self.is_violated and sum(it["transactions"] for it in self.counts_of_legs) == 1:
-            told += ["the first reading is wrong: does the memory hold plan.start?"]
-        return told + [line] + ([f"its leg: {words_of(self.last.plan)}"] if self.plan["schedule"] == "all" else [])
+            told += ["the very first read is wrong: are the registers initialized to plan.start?"]
+        return told + line.split("\n") + ([f"options of this phase: {words_of(self.last.plan)}"] if self.plan["schedule"] == "all" else [])
 
     def place_of(self, thread):
         if "stays" not in thread.tx:
-            return f"thread {thread.number} waits for the others"
+            return f"thread {thread.number}: waiting for the other threads"
         letter, reg = next(([*line.split(), ""][1:3] for line in reversed(self.last.events) if line[0] == str(thread.number)), ("", ""))
         call = {"R": "read", "W": "write", "N": "add", "T": "commit", "X": "abort"}.get(letter)
         if letter in "RWN" and thread.tx["stays"] not in ("BEGIN", "RUN"):
-            return f"thread {thread.number}: `{call}` of register {reg} has not returned"
+            return f"thread {thread.number}: {call}(register {reg}) has not returned"
         call = "run" if self.session.runs_itself else "begin" if thread.tx["stays"] == "BEGIN" else call
-        return f"thread {thread.number}: `{call}` has not returned"
+        return f"thread {thread.number}: {call} has not returned"
 
     def steps(self):
         """Returns the steps of the round that is wrong, if any are listed."""
@@ -573,7 +575,7 @@ class Told:
 
     def junit(self):
         kind = "failure" if self.is_violated else "error" if self.fails else None
-        case = [kind, "violated" if self.is_violated else "stuck", "\n".join(["", *self.lines(), ""])] if kind else None
+        case = [kind, "violated" if self.is_violated else "hang" if self.last.is_stuck else "no progress", "\n".join(["", *self.lines(), ""])] if kind else None
         suite = ["testsuite", "tmwatch_bench", "1", str(int(kind == "failure")), str(int(kind == "error"))]
         return [*suite, "testcase", "tmwatch_bench", self.program, case]
 
@@ -629,7 +631,7 @@ def compare(name, found, wanted):
 
 def main(words):
     program, replay, fault, given = words[0], words[1], words[2], words[3:]
-    options = [it for it in given if it != "--legs"]
+    options = [it for it in given if it != "--print-phases"]
     with tempfile.TemporaryDirectory() as folder:
         trace = f"{folder}/trace"
         began = time.monotonic()
@@ -637,15 +639,15 @@ def main(words):
                              text=True)
         lines = ran.stdout.splitlines()
         report = json.loads(lines[0])
-        session = Session(fault.removesuffix("-RUNS"), fault.endswith("-RUNS"), read_options(options) | {"legs": "--legs" in given})
+        session = Session(fault.removesuffix("-RUNS"), fault.endswith("-RUNS"), read_options(options) | {"legs": "--print-phases" in given})
         given_up = re.search("rolled back ([0-9]+) times", ran.stderr)
-        if given_up and 0 < session.plan["patience"] <= time.monotonic() - began:
+        if given_up and 0 < session.plan["timeout"] <= time.monotonic() - began:
             session.most_attempts = max(LOOK_ATTEMPTS, int(given_up[1]))
         session.run(report.get("at", 10**9))
         told = Told(session, report, replay, program)
         with open(trace, encoding="ascii") as it:
             traced = it.read().splitlines()
-        with open(f"{trace}.run", encoding="ascii") as it:
+        with open(f"{trace}.report", encoding="ascii") as it:
             run = it.read().splitlines()
         every = told.lines() if told.fails else told.lines() + [line_of(told.again())]
         found = [
@@ -653,7 +655,7 @@ def main(words):
             compare("standard output", masked(lines, told.stdout()), told.stdout()),
             compare("standard error", ran.stderr.splitlines(), told.stderr()),
             compare("trace", traced, told.trace()[0]),
-            compare("FILE.run", masked(run, every), every),
+            compare("FILE.report", masked(run, every), every),
             compare("FILE.steps", read_steps(f"{trace}.steps", program), told.steps()),
         ]
         junit = read_junit(f"{folder}/junit")

@@ -1,11 +1,12 @@
 #!/usr/bin/env bash
-# Runs tests/c/bench_marks.c on the bench in C, and compares all that it writes with what tests/runs.py makes of the same words.
+# Runs tests/c/bench_marks.c on the bench in C, and compares its whole output with the output that tests/runs.py computes from the same
+# options.
 #
 #   tests/runs.sh
 #
-# A line for each row. The last one is 'N passed, M failed', and the exit status is 1 if a row failed. Without a C compiler or python3
-# nothing is tested: a line says so, and the status is 0.
-# Environment: CC (cc), BUILT (tests/common.sh), FLAGS (further flags of the compiler).
+# Prints a line for each test case, and 'N passed, M failed' as the last line. The exit status is 1 if a test case failed. Without a C
+# compiler or python3, nothing is tested: a line says so, and the status is 0.
+# Environment: CC (cc), BUILT (tests/common.sh), FLAGS (additional flags of the compiler).
 set -eu
 # shellcheck source=tests/common.sh
 . "$(dirname "${BASH_SOURCE[0]}")/common.sh"
@@ -32,18 +33,18 @@ made() {
 made READS ''
 made NONE '--schedule steps --rounds 100'
 made LEFT ''
-made MARK '--patience 1'
-made NONE '--legs --schedule steps --rounds 70 --threads 8 --registers 8 --calls 16 --writes 90 --adds 10 --aborts 40 --pause 7 --mixes 20
-    --blinds 30 --attempts 1 --seconds 50 --patience 9 --seed 5'
-made LOST '--threads 1 --calls 1'
+made MARK '--timeout 1'
+made NONE '--print-phases --schedule steps --rounds 70 --threads 8 --registers 8 --accesses 16 --writes 90 --adds 10 --aborts 40 --pause 7 --mixed-rounds 20
+    --blind-writes 30 --attempts 1 --seconds 50 --timeout 9 --seed 5'
+made LOST '--threads 1 --accesses 1'
 made REFUSED '--schedule permits --threads 1 --rounds 500'
 # (where a read is wrong in the round that never ends)
-made BOTH '--patience 1'
-made BOTH '--patience 1 --seed 2'
+made BOTH '--timeout 1'
+made BOTH '--timeout 1 --seed 2'
 for seed in 3 4; do
     made READS "--seed $seed --schedule steps"
     made READS-RUNS "--seed $seed"
-    made LEFT "--seed $seed --patience 9 --seconds 90"
+    made LEFT "--seed $seed --timeout 9 --seconds 90"
     made REFUSED "--schedule steps --rounds 200 --seed $seed"
 done
 made NONE-RUNS '--schedule steps --rounds 100'
@@ -58,36 +59,36 @@ made LEFT '--schedule permits --threads 1'
 made READS '--round 50 --event 3'
 made NONE '--round 1'
 # (a look before that round: a violation is found in it, or in another one)
-made LOST '--seed 3 --round 410 --look'
-made LOST '--schedule steps --round 900 --look'
-made NONE '--round 1070 --look --threads 2'
+made LOST '--seed 3 --round 410 --audit-first'
+made LOST '--schedule steps --round 900 --audit-first'
+made NONE '--round 1070 --audit-first --threads 2'
 for fault in BEGIN COMMIT CANCEL RUN-RUNS CANCEL-RUNS COMMIT-RUNS; do
-    made $fault '--patience 1 --schedule steps'
+    made $fault '--timeout 1 --schedule steps'
 done
 LACKS=add made NONE '--schedule steps --rounds 50 --seed 7'
-made NONE '--schedule steps --rounds 50 --adds 60 --small --seed 8'
-made REFUSED '--schedule rounds --threads 1 --rounds 200 --attempts 2 --registers 8 --writes 100 --small'
+made NONE '--schedule steps --rounds 50 --adds 60 --values small --seed 8'
+made REFUSED '--schedule rounds --threads 1 --rounds 200 --attempts 2 --registers 8 --writes 100 --values small'
 # Runs that show little.
-made NONE '--schedule steps --rounds 20 --writes 0 --adds 0 --blinds 0'
-made NONE '--schedule steps --rounds 20 --threads 2 --registers 8 --calls 1 --aborts 100 --mixes 0'
-made LEFT '--schedule steps --rounds 20 --threads 2 --mixes 0'
-# Several legs, by each schedule; and a run of which not all events are kept.
-made NONE '--rounds 1100 --legs --seed 20'
-made REFUSED '--rounds 1200 --threads 2 --registers 8 --calls 1 --aborts 90 --writes 100'
+made NONE '--schedule steps --rounds 20 --writes 0 --adds 0 --blind-writes 0'
+made NONE '--schedule steps --rounds 20 --threads 2 --registers 8 --accesses 1 --aborts 100 --mixed-rounds 0'
+made LEFT '--schedule steps --rounds 20 --threads 2 --mixed-rounds 0'
+# Several phases, by each schedule; and a run of which not all events are kept.
+made NONE '--rounds 1100 --print-phases --seed 20'
+made REFUSED '--rounds 1200 --threads 2 --registers 8 --accesses 1 --aborts 90 --writes 100'
 # (of just as many events as are kept)
-made NONE '--schedule rounds --rounds 20968 --threads 1 --registers 7 --calls 1 --writes 100 --adds 0 --aborts 0 --mixes 0 --blinds 0'
-# (of this copy of the bench a leg in rounds or by permits has any time, as else on a quiet machine)
+made NONE '--schedule rounds --rounds 20968 --threads 1 --registers 7 --accesses 1 --writes 100 --adds 0 --aborts 0 --mixed-rounds 0 --blind-writes 0'
+# (of this copy of the bench a phase in rounds or by permits has any time, as else on a quiet machine)
 cp -r "$top/bench-c" "$folder"
-sed -i 's/LEG_MICROSECONDS = SECOND \/ 10/LEG_MICROSECONDS = 1000 * SECOND/' "$folder/bench-c/legs.c"
-ends 'legs of any time: planted' 1 cmp -s "$top/bench-c/legs.c" "$folder/bench-c/legs.c"
-ends 'legs of any time compile' 0 "${marks[@]}" -o "$folder/timeless" "$folder/bench-c/tmwatch_bench.c" "$folder/lib/libtmwatch_bench.a" "$built/lib/libtmwatch.a"
-made NONE '--rounds 30050 --threads 1 --calls 1 --registers 1 --legs' "$folder/timeless"
-made NONE '--schedule rounds --threads 1 --calls 16 --mixes 0 --rounds 3000'
+sed -i 's/LEG_MICROSECONDS = SECOND_US \/ 10/LEG_MICROSECONDS = 1000 * SECOND_US/' "$folder/bench-c/legs.c"
+ends 'phases of any time: planted' 1 cmp -s "$top/bench-c/legs.c" "$folder/bench-c/legs.c"
+ends 'phases of any time compile' 0 "${marks[@]}" -o "$folder/timeless" "$folder/bench-c/tmwatch_bench.c" "$folder/lib/libtmwatch_bench.a" "$built/lib/libtmwatch.a"
+made NONE '--rounds 30050 --threads 1 --accesses 1 --registers 1 --print-phases' "$folder/timeless"
+made NONE '--schedule rounds --threads 1 --accesses 16 --mixed-rounds 0 --rounds 3000'
 # Threads that run as they may keep to their rounds, and to their permits.
 ends 'norec compiles' 0 "$cc" "${strict[@]}" -DTMWATCH_PAUSES -o "$folder/norec" "$top/examples/c/norec.c" "${bench[@]}"
 for schedule in rounds permits; do
     ends "norec, $schedule" 0 "$folder/norec" --schedule $schedule --rounds 2000
-    has_told "norec, $schedule: has met" '"overlapping":[1-9]'
+    has_told "norec, $schedule: has met" '"concurrent":[1-9]'
 done
 # A program of any name; and a memory that is a library.
 cp "$folder/marks" "$folder/\"it's\" <1 & 2>"
@@ -108,7 +109,7 @@ ends 'in one stream' 0 in_order
 ends 'the options' 0 "$top/tests/options.py" "$folder/marks"
 # In a debugger a run by these words stops once, when so many events are recorded.
 stops_after() {
-    printf '%s\n' 'set pagination off' 'break tmwatch_break' "run ${*:2}" 'print this_thread->bench->steps.recorded' 'continue' >"$folder/stops"
+    printf '%s\n' 'set pagination off' 'break tmwatch_breakpoint' "run ${*:2}" 'print this_thread->bench->steps.recorded' 'continue' >"$folder/stops"
     timeout 300 gdb -q -batch -x "$folder/stops" "$folder/marks" >"$folder/stopped" 2>&1
     [ "$(sed -n 's/^\$1 = //p' "$folder/stopped")" -eq "$1" ]
     [ "$(grep -c ' hit Breakpoint 1, ' "$folder/stopped")" -eq 1 ]
@@ -118,9 +119,9 @@ stops() {
     local words at event
     export FAULT=READS
     "$folder/marks" --seed "$1" >"$folder/printed" 2>"$folder/words" || [ $? -eq 1 ]
-    read -r -a words < <(sed -n 's/^{"again":"\(.*\)","certain":true}$/\1/p' "$folder/printed")
+    read -r -a words < <(sed -n 's/^{"deterministic":true,"reproduce":"\(.*\)"}$/\1/p' "$folder/printed")
     at=$(sed -n '1s/{"at":\([0-9]*\),.*/\1/p' "$folder/printed")
-    event=$(sed -n 's/.*with --event \([0-9]*\) before its wrong event$/\1/p' "$folder/words")
+    event=$(sed -n 's/.*: add --event \([0-9]*\), then.*/\1/p' "$folder/words")
     stops_after $((at - 1)) "${words[@]}" --event "$event"
     stops_after $((at - event)) "${words[@]}"
 }

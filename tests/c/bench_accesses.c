@@ -9,7 +9,8 @@ values, by newest ones, or by failed swaps. Then how long stores are delayed, an
 enum { THREAD = 5, OLD = 40, NOT_DRAWN = 1 /* after which no draw lets a store out */ };
 static _Alignas(16) unsigned char place[64];
 static char model;
-static tmwatch_step_how how;
+static atomic_bool has_buffers;
+static tmwatch_step_how how = {.has_buffers = &has_buffers};
 static bool is_bench = true, has_model, is_newest, sees_free = true;
 static enum tmwatch_compared compared;
 static unsigned steps;
@@ -33,6 +34,7 @@ bool tmwatch_step_sees_free(void)
 void tmwatch_step_at(const void *caller, unsigned pauses)
 {
     CHECK(caller && pauses == 1);
+    tmwatch_step_drain_of(tmwatch_step_accesses(), pauses);
     steps++;
 }
 
@@ -203,19 +205,19 @@ static void tell_plain(void)
     putchar('\n');
 }
 
-/* A store that is delayed is out once it is drawn, at one step in four; or if it is the oldest of nine; or before one that isn't delayed, the
+/* A store that is delayed is out once it is drawn, at one step in eight; or if it is the oldest of nine; or before one that isn't delayed, the
    strongest fence, a read-modify-write, or an access of 16 bytes. */
 static void check_delayed(void)
 {
     static uint64_t words[9];
-    how = (tmwatch_step_how){.has_buffers = true};
+    how = (tmwatch_step_how){.has_buffers = &has_buffers};
     steps = 0;
     for (uint64_t i = 1; i <= 1000; i++) {
         __tsan_atomic64_store(&words[i % 9], i, __ATOMIC_RELEASE);
         while (words[i % 9] != i)
             __tsan_atomic_thread_fence(__ATOMIC_ACQ_REL);
     }
-    CHECK(steps == 4993);
+    CHECK(steps == 8957);
     for (uint64_t i = 0; i < 9; i++) {
         how.draws = NOT_DRAWN;
         __tsan_atomic64_store(&words[i], 7, __ATOMIC_RELAXED);
@@ -262,7 +264,7 @@ static void check_which(void)
     static uint64_t words[4];
     uint64_t local[1] = {0};
     for (unsigned part = 0; part < 2; part++) {
-        how = (tmwatch_step_how){.has_buffers = true};
+        how = (tmwatch_step_how){.has_buffers = &has_buffers};
         how.own[part] = (uintptr_t)&words[1];
         how.own_end[part] = (uintptr_t)&words[3];
         for (unsigned i = 0; i < 4; i++)
@@ -279,12 +281,35 @@ static void check_which(void)
     is_bench = true;
 }
 
+/* What is delayed comes out before a yield; or once another thread drains it, after which nothing is delayed. */
+static void check_drained(void)
+{
+    static uint64_t word;
+    how = (tmwatch_step_how){.has_buffers = &has_buffers};
+    for (unsigned pauses = 1; pauses < 3; pauses++) {
+        how.draws = NOT_DRAWN;
+        __tsan_atomic64_store(&word, pauses, __ATOMIC_RELAXED);
+        how.draws = NOT_DRAWN;
+        tmwatch_step_drain_of(&how, pauses);
+        CHECK((word == pauses) == (pauses > 1));
+    }
+    CHECK(is_delayed(&word));
+    how.draws = NOT_DRAWN;
+    __tsan_atomic64_store(&word, 7, __ATOMIC_RELAXED);
+    has_buffers = is_bench = false;
+    CHECK(word != 7);
+    tmwatch_step_drain_of(&how, 0);
+    is_bench = true;
+    CHECK(word == 7 && how.buffered == 0 && !is_delayed(&word));
+    has_buffers = true;
+}
+
 /* A load sees its thread's newest store. One of other bytes waits until what overlaps it is out, and a plain access until all is. */
 static void check_forwarded(void)
 {
     static uint64_t words[2];
     uint32_t *halves = (uint32_t *)words;
-    how = (tmwatch_step_how){.has_buffers = true, .draws = NOT_DRAWN};
+    how = (tmwatch_step_how){.has_buffers = &has_buffers, .draws = NOT_DRAWN};
     __tsan_atomic64_store(&words[0], 1, __ATOMIC_RELAXED);
     how.draws = NOT_DRAWN;
     __tsan_atomic32_store(&halves[2], 2, __ATOMIC_RELAXED);
@@ -333,8 +358,10 @@ int main(void)
     tell_plain();
     is_bench = sees_free = true;
     has_model = false;
+    has_buffers = true;
     check_delayed();
     check_which();
+    check_drained();
     check_forwarded();
     return 0;
 }

@@ -70,12 +70,12 @@ static void *run(void *argument)
     struct ran *it = argument;
     const tmwatch_memory memory = {&it->memory, sizeof it->memory.words, begin, load, store, NULL, commit, cancel, NULL};
     tmwatch_plan plan = TMWATCH_PLAN;
-    tmwatch_benched benched;
+    tmwatch_bench_result result;
     plan.rounds = 2500;
     plan.schedule = TMWATCH_STEPS;
     plan.trace = open_memstream(&it->trace, &it->size);
-    CHECK(tmwatch_bench(&memory, &plan, &benched) == TMWATCH_DONE && benched.told.verdict == TMWATCH_OPAQUE_SO_FAR);
-    CHECK(benched.rescues == 0 && fclose(plan.trace) == 0);
+    CHECK(tmwatch_bench(&memory, &plan, &result) == TMWATCH_OK && result.result.verdict == TMWATCH_OPAQUE_SO_FAR);
+    CHECK(result.stalls == 0 && fclose(plan.trace) == 0);
     return NULL;
 }
 

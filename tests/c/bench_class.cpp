@@ -148,10 +148,10 @@ struct Stepped : Tl2 {
 };
 
 struct Looping : Tl2 {
-    bool has_aborted(Tx &tx, tmwatch_attempt *attempt) { return !tmwatch_calls(attempt) || !end(tx); }
+    bool has_aborted(Tx &tx, tmwatch_attempt *attempt) { return !tmwatch_run_body(attempt) || !end(tx); }
     bool run(Tx &tx, tmwatch_attempt *attempt)
     {
-        while (tmwatch_begins(attempt)) {
+        while (tmwatch_begin_attempt(attempt)) {
             start(tx);
             if (!has_aborted(tx, attempt))
                 return true;
@@ -170,16 +170,16 @@ struct Never {
     void abort(Tx &) const {}
 };
 
-/* Whether a bench by a plan, of a memory that is const, tells that all transactions were rolled back unasked, and none can commit. */
+/* Whether a bench by a plan, of a memory that is const, returns forced aborts only, and none can commit. */
 bool has_never_begun()
 {
     const Never never{};
     tmwatch_plan plan = TMWATCH_PLAN;
-    tmwatch_benched benched;
+    tmwatch_bench_result result;
     plan.rounds = 9;
-    if (tmwatch_bench(never, plan, benched) != TMWATCH_NO_PROGRESS || benched.told.verdict != TMWATCH_OPAQUE_SO_FAR)
+    if (tmwatch_bench(never, plan, result) != TMWATCH_NO_PROGRESS || result.result.verdict != TMWATCH_OPAQUE_SO_FAR)
         return false;
-    return benched.rejected > 0 && benched.counts.unasked == benched.rejected;
+    return result.solo_rollbacks > 0 && result.counts.forced_aborts == result.solo_rollbacks;
 }
 
 } // namespace

@@ -1,9 +1,10 @@
 /*
 The little memory of examples/c on the bench, with a fault of the environment's FAULT that comes by chance, as what was drawn has it: once in ODDS
 transactions. By WRONG a read finds what nobody wrote, by ONCE too, but in the first process of PROCESSES alone; by CRASH the process dies; by STUCK
-a call never returns; by LEAVES it ends the process.
+a call never returns; by LEAVES it ends the process. By SLOW the first call of a process takes most of a second.
 JOB: only in the job of this number, if the program has tmwatch_bench_job (-DHOOK). PROCESSES: a file to which each process that runs the memory
-adds its number. BESIDE: before the run THREAD starts a thread, MAP maps bytes that are shared, FILE and SOCKET open such. -DDIRECT calls
+adds its number. BESIDE: before the run THREAD starts a thread, MAP maps bytes that are shared, and WRITES such that can't be read; NAMED maps
+a file whose name looks so; FILE and SOCKET open what is shared. -DDIRECT calls
 tmwatch_bench for two seconds instead of the program by words.
 */
 #define _GNU_SOURCE
@@ -57,6 +58,8 @@ static bool begin(void *unused, void *tx)
 {
     if (transactions == 0)
         note_process();
+    if (transactions == 0 && strcmp(told_fault, "SLOW") == 0)
+        usleep(800000);
     bool is_time = is_due();
     is_wrong = is_time && (strcmp(told_fault, "WRONG") == 0 || (strcmp(told_fault, "ONCE") == 0 && is_first));
     if (is_time && strcmp(told_fault, "CRASH") == 0)
@@ -82,6 +85,20 @@ static void *sleep_long(void *unused)
     return unused;
 }
 
+static bool map(int protection, int flags, int file)
+{
+    return mmap(NULL, 4096, protection, flags, file, 0) != MAP_FAILED;
+}
+
+static bool map_named(void)
+{
+    char name[1024];
+    snprintf(name, sizeof name, "%s rw-s", getenv("PROCESSES"));
+    int file = open(name, O_RDONLY | O_CREAT, 0666);
+    bool is_mapped = map(PROT_READ, MAP_PRIVATE, file);
+    return close(file) == 0 && is_mapped;
+}
+
 static void begin_beside(const char *beside)
 {
     pthread_t thread;
@@ -89,7 +106,11 @@ static void begin_beside(const char *beside)
     if (strcmp(beside, "THREAD") == 0)
         is_begun = pthread_create(&thread, NULL, sleep_long, NULL) == 0;
     else if (strcmp(beside, "MAP") == 0)
-        is_begun = mmap(NULL, 4096, PROT_READ | PROT_WRITE, MAP_SHARED | MAP_ANONYMOUS, -1, 0) != MAP_FAILED;
+        is_begun = map(PROT_READ | PROT_WRITE, MAP_SHARED | MAP_ANONYMOUS, -1);
+    else if (strcmp(beside, "WRITES") == 0)
+        is_begun = map(PROT_WRITE, MAP_SHARED | MAP_ANONYMOUS, -1);
+    else if (strcmp(beside, "NAMED") == 0)
+        is_begun = map_named();
     else if (strcmp(beside, "FILE") == 0)
         is_begun = open(getenv("PROCESSES"), O_WRONLY | O_APPEND | O_CREAT, 0666) >= 0;
     else if (strcmp(beside, "SOCKET") == 0)
@@ -107,11 +128,11 @@ int main(int count, char **words_given)
     odds = getenv("ODDS") ? strtoul(getenv("ODDS"), NULL, 10) : 1000;
     begin_beside(getenv("BESIDE") ? getenv("BESIDE") : "");
 #ifdef DIRECT
-    tmwatch_benched benched;
+    tmwatch_bench_result result;
     tmwatch_plan plan = TMWATCH_PLAN;
     plan.rounds = UINT64_MAX;
     plan.seconds = 2;
-    return tmwatch_bench(&faulty, &plan, &benched) == TMWATCH_DONE ? (int)benched.told.verdict : 4;
+    return tmwatch_bench(&faulty, &plan, &result) == TMWATCH_OK ? (int)result.result.verdict : 4;
 #endif
     return tmwatch_bench_main(&faulty, count, words_given);
 }

@@ -53,10 +53,10 @@ static bool run(void *memory, void *tx, tmwatch_attempt *attempt)
     struct jumping *it = tx;
     (void)memory;
     setjmp(it->beginning);
-    if (!tmwatch_begins(attempt))
+    if (!tmwatch_begin_attempt(attempt))
         return false;
     memory_begin(&it->tx);
-    if (!tmwatch_calls(attempt) || (WRONG == 2 && !tmwatch_calls(attempt))) {
+    if (!tmwatch_run_body(attempt) || (WRONG == 2 && !tmwatch_run_body(attempt))) {
         memory_undo(&it->tx);
         return WRONG == 1;
     }

@@ -2,7 +2,7 @@
 GCC's libitm on the bench, by `run`. Compile it with -fgnu-tm. ITM_DEFAULT_METHOD chooses libitm's method.
 
 libitm begins a transaction again when it has rolled it back. Here such an attempt is cancelled before it reads anything, and `run` begins
-another one. So tmwatch_begins is called before libitm begins, and while it holds nothing.
+another one. So tmwatch_begin_attempt is called before libitm begins, and while it holds nothing.
 */
 #include "tmwatch_bench.h"
 
@@ -48,7 +48,7 @@ static bool add(void *memory, void *tx, unsigned reg, uint64_t addend, uint64_t 
 __attribute__((transaction_pure)) static bool make_calls(struct tx *tx, tmwatch_attempt *attempt)
 {
     tx->begun++;
-    tx->commits = tx->begun == 1 && tmwatch_calls(attempt);
+    tx->commits = tx->begun == 1 && tmwatch_run_body(attempt);
     return tx->commits;
 }
 
@@ -57,7 +57,7 @@ static bool run(void *memory, void *tx, tmwatch_attempt *attempt)
     struct tx *it = tx;
     (void)memory;
     it->commits = false;
-    while (!it->commits && tmwatch_begins(attempt)) {
+    while (!it->commits && tmwatch_begin_attempt(attempt)) {
         it->begun = 0;
         __transaction_atomic
         {

@@ -124,9 +124,9 @@ static bool commit(void *memory, void *tx)
 static bool run(void *memory, void *tx, tmwatch_attempt *attempt)
 {
     stay(RUN, ++runs);
-    while (tmwatch_begins(attempt)) {
+    while (tmwatch_begin_attempt(attempt)) {
         begin(memory, tx);
-        if (tmwatch_calls(attempt)) {
+        if (tmwatch_run_body(attempt)) {
             if (commit(memory, tx))
                 return true;
         } else if (!((struct tx *)tx)->is_over)

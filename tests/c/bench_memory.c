@@ -66,9 +66,9 @@ static uint64_t schedule = TMWATCH_ALL;
 static uint32_t run(void)
 {
     tmwatch_plan plan = TMWATCH_PLAN;
-    tmwatch_benched benched, before;
-    memset(&benched, 7, sizeof benched);
-    memcpy(&before, &benched, sizeof before);
+    tmwatch_bench_result result, before;
+    memset(&result, 7, sizeof result);
+    memcpy(&before, &result, sizeof before);
     plan.schedule = schedule;
     plan.rounds = 20;
     plan.threads = THREADS;
@@ -76,27 +76,27 @@ static uint32_t run(void)
         plan.start[reg] = words[reg];
     calls = 0;
     threads = 0;
-    uint32_t status = tmwatch_bench(&memory, &plan, &benched);
+    uint32_t status = tmwatch_bench(&memory, &plan, &result);
     CHECK(blocks == 0);
-    CHECK(status == TMWATCH_DONE ? benched.told.verdict == TMWATCH_OPAQUE_SO_FAR && (spent > 0 ? benched.rounds < 20 : benched.rounds == 20)
-                                 : status == TMWATCH_MEMORY && memcmp(&before, &benched, sizeof before) == 0);
+    CHECK(status == TMWATCH_OK ? result.result.verdict == TMWATCH_OPAQUE_SO_FAR && (spent > 0 ? result.rounds < 20 : result.rounds == 20)
+                                 : status == TMWATCH_NO_MEMORY && memcmp(&before, &result, sizeof before) == 0);
     return status;
 }
 
 int main(void)
 {
     unsigned long refusals = 0;
-    CHECK(run() == TMWATCH_DONE && calls > THREADS && threads == THREADS);
+    CHECK(run() == TMWATCH_OK && calls > THREADS && threads == THREADS);
     for (refused = 1; refused == 1 || calls >= refused - 1; refused++)
-        refusals += run() == TMWATCH_MEMORY;
+        refusals += run() == TMWATCH_NO_MEMORY;
     CHECK(refusals > THREADS);
     refused = 0;
     for (refused_thread = 1; refused_thread <= THREADS; refused_thread++)
-        CHECK(run() == TMWATCH_MEMORY);
-    CHECK(run() == TMWATCH_DONE && peak < 4 << 20);
+        CHECK(run() == TMWATCH_NO_MEMORY);
+    CHECK(run() == TMWATCH_OK && peak < 4 << 20);
     for (schedule = TMWATCH_ROUNDS; schedule <= TMWATCH_ALL; schedule++) {
         spent = asked + 10;
-        CHECK(run() == TMWATCH_DONE);
+        CHECK(run() == TMWATCH_OK);
     }
     printf("%lu refusals\n", refusals);
     return 0;

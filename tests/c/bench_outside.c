@@ -1,5 +1,5 @@
 /*
-A memory whose lock is elsewhere, as that of a server, so that the bench doesn't see who waits for it. One answer takes longer than a rescue.
+A memory whose lock is elsewhere, as that of a server, so that the bench doesn't see who waits for it. One answer takes longer than a stall.
 FAULT: UNASKED, the bench isn't told that the memory asks and waits; FAILS, a call gets no answer; READS, nothing is locked; CRAWLS, each
 read takes long; CRASHES, it crashes, and then holds what is on its disk; LOSES, that lacks what was committed in the
 second half of the calls before. After a crash those who waited go on without the lock, so that what they share is atomic.
@@ -40,12 +40,12 @@ static void open_it(struct tx *tx)
     tx->is_open = tx->is_open && tx->starts == starts;
     tx->starts = starts;
     if (FAULT != UNASKED)
-        tmwatch_asks();
+        tmwatch_external_call();
     if (tx->is_open || FAULT == READS)
         return;
     if (sem_trywait(&lock) != 0) {
         if (FAULT != UNASKED)
-            tmwatch_waits();
+            tmwatch_external_blocked();
         while (sem_wait(&lock) != 0)
             ;
     }

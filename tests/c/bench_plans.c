@@ -70,7 +70,7 @@ static bool begin_none(void *memory, void *tx, tmwatch_attempt *attempt)
 static bool begin_all(void *memory, void *tx, tmwatch_attempt *attempt)
 {
     (void)memory, (void)tx;
-    while (tmwatch_begins(attempt))
+    while (tmwatch_begin_attempt(attempt))
         calls++;
     return false;
 }
@@ -86,13 +86,13 @@ static bool commit_none(void *memory, void *tx, tmwatch_attempt *attempt)
 static bool call_none(void *memory, void *tx, tmwatch_attempt *attempt)
 {
     (void)memory, (void)tx;
-    return tmwatch_begins(attempt);
+    return tmwatch_begin_attempt(attempt);
 }
 
 /* Tells that it has committed, also where it was told to abort. */
 static bool commit_all(void *memory, void *tx, tmwatch_attempt *attempt)
 {
-    if (tmwatch_begins(attempt) && begin(memory, tx) && !tmwatch_calls(attempt))
+    if (tmwatch_begin_attempt(attempt) && begin(memory, tx) && !tmwatch_run_body(attempt))
         cancel(memory, tx);
     return true;
 }
@@ -100,7 +100,7 @@ static bool commit_all(void *memory, void *tx, tmwatch_attempt *attempt)
 /* Makes the calls of an attempt again. */
 static bool call_twice(void *memory, void *tx, tmwatch_attempt *attempt)
 {
-    return tmwatch_begins(attempt) && begin(memory, tx) && tmwatch_calls(attempt) && tmwatch_calls(attempt);
+    return tmwatch_begin_attempt(attempt) && begin(memory, tx) && tmwatch_run_body(attempt) && tmwatch_run_body(attempt);
 }
 
 static const tmwatch_memory memory = {words, sizeof words, begin, read, write, add, commit, cancel, NULL};
@@ -121,12 +121,12 @@ static tmwatch_plan one_thread(void)
 
 static void refuses(uint32_t status, const tmwatch_memory *it, tmwatch_plan plan)
 {
-    tmwatch_benched benched, before;
-    memset(&benched, 7, sizeof benched);
-    memcpy(&before, &benched, sizeof before);
+    tmwatch_bench_result result, before;
+    memset(&result, 7, sizeof result);
+    memcpy(&before, &result, sizeof before);
     calls = 0;
-    CHECK(tmwatch_bench(it, &plan, &benched) == status);
-    CHECK(memcmp(&before, &benched, sizeof before) == 0 && calls == 0);
+    CHECK(tmwatch_bench(it, &plan, &result) == status);
+    CHECK(memcmp(&before, &result, sizeof before) == 0 && calls == 0);
 }
 
 #define REFUSES(status, field, value)   \
@@ -143,15 +143,15 @@ static void refuse_plans(void)
     REFUSES(TMWATCH_BAD_REGISTERS, registers, 0);
     REFUSES(TMWATCH_BAD_REGISTERS, registers, 9);
     REFUSES(TMWATCH_BAD_START, start[3], 1);
-    REFUSES(TMWATCH_BAD_BOUNDS, calls, 0);
-    REFUSES(TMWATCH_BAD_BOUNDS, calls, 17);
+    REFUSES(TMWATCH_BAD_BOUNDS, accesses, 0);
+    REFUSES(TMWATCH_BAD_BOUNDS, accesses, 17);
     REFUSES(TMWATCH_BAD_BOUNDS, attempts, 3);
     REFUSES(TMWATCH_BAD_BOUNDS, schedule, 4);
     REFUSES(TMWATCH_BAD_BOUNDS, rounds, 0);
-    REFUSES(TMWATCH_BAD_BOUNDS, mixes, 101);
+    REFUSES(TMWATCH_BAD_BOUNDS, mixed_rounds, 101);
     REFUSES(TMWATCH_BAD_BOUNDS, round, 20001);
     REFUSES(TMWATCH_BAD_BOUNDS, event, 1);
-    REFUSES(TMWATCH_BAD_BOUNDS, blinds, 101);
+    REFUSES(TMWATCH_BAD_BOUNDS, blind_writes, 101);
     REFUSES(TMWATCH_BAD_BOUNDS, orders, TMWATCH_X86);
     REFUSES(TMWATCH_BAD_BOUNDS, orders, TMWATCH_CXX);
     REFUSES(TMWATCH_BAD_BOUNDS, orders, TMWATCH_CXX + 1);
@@ -171,15 +171,15 @@ static void refuse_plans(void)
             it.commit = NULL;
         else
             it.abort = NULL;
-        refuses(TMWATCH_MISSING, &it, usual);
+        refuses(TMWATCH_MISSING_FUNCTION, &it, usual);
     }
 }
 
-static tmwatch_benched run(const tmwatch_memory *it, tmwatch_plan plan)
+static tmwatch_bench_result run(const tmwatch_memory *it, tmwatch_plan plan)
 {
-    tmwatch_benched benched;
-    CHECK(tmwatch_bench(it, &plan, &benched) == TMWATCH_DONE);
-    return benched;
+    tmwatch_bench_result result;
+    CHECK(tmwatch_bench(it, &plan, &result) == TMWATCH_OK);
+    return result;
 }
 
 /* A memory for one thread, again and again. A look comes before rounds 0, 64, .. and 300. */
@@ -189,10 +189,10 @@ static void run_one_thread(void)
         tmwatch_plan plan = one_thread();
         plan.seed = seed;
         plan.adds = seed * 5;
-        tmwatch_benched out = run(&memory, plan);
-        CHECK(out.told.verdict == TMWATCH_OPAQUE_SO_FAR && out.rounds == 300 && out.from == 0 && out.foreign == 0);
-        CHECK(out.counts.transactions == 306 && out.counts.widest == 1 && out.counts.overlapping == 0 && !out.counts.none_overlapped);
-        CHECK(out.counts.unasked == 0 && out.counts.aborted > 10 && out.counts.aborted + out.counts.committed == 306);
+        tmwatch_bench_result out = run(&memory, plan);
+        CHECK(out.result.verdict == TMWATCH_OPAQUE_SO_FAR && out.rounds == 300 && out.skipped == 0 && out.max_interleaved_commits == 0);
+        CHECK(out.counts.transactions == 306 && out.counts.max_window == 1 && out.counts.concurrent == 0 && !out.counts.none_overlapped);
+        CHECK(out.counts.forced_aborts == 0 && out.counts.aborted > 10 && out.counts.aborted + out.counts.committed == 306);
     }
 }
 
@@ -201,18 +201,18 @@ static void find_another_start(void)
 {
     tmwatch_plan plan = one_thread();
     plan.start[1]++;
-    tmwatch_benched out = run(&memory, plan);
-    CHECK(out.told.verdict == TMWATCH_VIOLATED && out.told.at == 4);
+    tmwatch_bench_result out = run(&memory, plan);
+    CHECK(out.result.verdict == TMWATCH_VIOLATED && out.result.at == 4);
 }
 
 /* A memory that makes no progress from its first look on: how many attempts that has made. */
 static uint64_t run_in_vain(const tmwatch_memory *it, tmwatch_plan plan)
 {
-    tmwatch_benched out;
+    tmwatch_bench_result out;
     CHECK(tmwatch_bench(it, &plan, &out) == TMWATCH_NO_PROGRESS);
-    CHECK(out.told.verdict == TMWATCH_OPAQUE_SO_FAR && out.counts.committed == 0 && out.counts.unasked == out.counts.transactions);
-    CHECK(out.rejected >= 200 && out.counts.transactions == out.rejected && out.rounds <= 1);
-    return out.rejected;
+    CHECK(out.result.verdict == TMWATCH_OPAQUE_SO_FAR && out.counts.committed == 0 && out.counts.forced_aborts == out.counts.transactions);
+    CHECK(out.solo_rollbacks >= 200 && out.counts.transactions == out.solo_rollbacks && out.rounds <= 1);
+    return out.solo_rollbacks;
 }
 
 /* A memory that never begins, by each schedule; and runs that make no attempt, or many. */
@@ -225,17 +225,17 @@ static void run_idle(void)
         run_in_vain(&it, plan);
     it = memory;
     it.run = begin_none;
-    tmwatch_benched out = run(&it, one_thread());
-    CHECK(out.told.events == 0 && out.rounds == 300);
+    tmwatch_bench_result out = run(&it, one_thread());
+    CHECK(out.result.events == 0 && out.rounds == 300);
     plan.schedule = TMWATCH_PERMITS;
     plan.attempts = 10;
     out = run(&it, plan);
-    CHECK(out.told.events == 0 && out.rounds == 300);
+    CHECK(out.result.events == 0 && out.rounds == 300);
     tmwatch_plan legs = one_thread();
     legs.schedule = TMWATCH_ALL;
     legs.rounds = 1100;
     out = run(&it, legs);
-    CHECK(out.told.events == 0 && out.rounds == 1100);
+    CHECK(out.result.events == 0 && out.rounds == 1100);
     it.run = begin_all;
     calls = 0;
     CHECK(run_in_vain(&it, one_thread()) == calls);
@@ -248,16 +248,16 @@ static void refuse_runs(void)
 {
     tmwatch_memory it = memory;
     tmwatch_plan plan = one_thread();
-    tmwatch_benched benched;
+    tmwatch_bench_result result;
     plan.aborts = 100;
     it.run = commit_none;
-    CHECK(tmwatch_bench(&it, &plan, &benched) == TMWATCH_MISFIT);
+    CHECK(tmwatch_bench(&it, &plan, &result) == TMWATCH_WRONG_ANSWER);
     it.run = call_none;
-    CHECK(tmwatch_bench(&it, &plan, &benched) == TMWATCH_MISFIT);
+    CHECK(tmwatch_bench(&it, &plan, &result) == TMWATCH_WRONG_ANSWER);
     it.run = commit_all;
-    CHECK(tmwatch_bench(&it, &plan, &benched) == TMWATCH_MISFIT);
+    CHECK(tmwatch_bench(&it, &plan, &result) == TMWATCH_WRONG_ANSWER);
     it.run = call_twice;
-    CHECK(tmwatch_bench(&it, &plan, &benched) == TMWATCH_OUT_OF_TURN);
+    CHECK(tmwatch_bench(&it, &plan, &result) == TMWATCH_WRONG_PHASE);
 }
 
 /* One thread by permits: a look comes at first, some time after each 512 attempts, and at the end. */
@@ -265,13 +265,13 @@ static void run_by_permits(void)
 {
     tmwatch_plan plan = one_thread();
     plan.schedule = TMWATCH_PERMITS;
-    tmwatch_benched out = run(&memory, plan);
-    CHECK(out.told.verdict == TMWATCH_OPAQUE_SO_FAR && out.rounds == 300 && out.from == 0);
-    CHECK(out.counts.transactions == 302 && out.counts.widest == 1 && out.counts.overlapping == 0);
+    tmwatch_bench_result out = run(&memory, plan);
+    CHECK(out.result.verdict == TMWATCH_OPAQUE_SO_FAR && out.rounds == 300 && out.skipped == 0);
+    CHECK(out.counts.transactions == 302 && out.counts.max_window == 1 && out.counts.concurrent == 0);
     memcpy(plan.start, words, plan.registers * sizeof *words);
     plan.start[2]++;
     out = run(&memory, plan);
-    CHECK(out.told.verdict == TMWATCH_VIOLATED && out.told.at == 6);
+    CHECK(out.result.verdict == TMWATCH_VIOLATED && out.result.at == 6);
 }
 
 /* Refuses to commit what writes, so that looks commit until one is to write. */
@@ -288,12 +288,12 @@ static void refuse_writes(void)
 {
     tmwatch_memory it = memory;
     tmwatch_plan plan = one_thread();
-    tmwatch_benched out;
+    tmwatch_bench_result out;
     it.commit = commit_reads;
     plan.rounds = 1000;
     for (plan.schedule = TMWATCH_ROUNDS; plan.schedule <= TMWATCH_ALL; plan.schedule++) {
         CHECK(tmwatch_bench(&it, &plan, &out) == TMWATCH_NO_PROGRESS);
-        CHECK(out.told.verdict == TMWATCH_OPAQUE_SO_FAR && out.counts.committed > 0 && out.rejected >= 200);
+        CHECK(out.result.verdict == TMWATCH_OPAQUE_SO_FAR && out.counts.committed > 0 && out.solo_rollbacks >= 200);
     }
 }
 
@@ -326,9 +326,9 @@ static void begin_rarely(void)
     plan.seconds = 1;
     plan.rounds = UINT64_MAX;
     plan.schedule = TMWATCH_PERMITS;
-    tmwatch_benched out = run(&it, plan);
-    CHECK(out.told.verdict == TMWATCH_OPAQUE_SO_FAR && out.rounds > 0 && 3 * out.rounds < out.counts.committed);
-    CHECK(out.foreign >= 5 && out.foreign <= 7);
+    tmwatch_bench_result out = run(&it, plan);
+    CHECK(out.result.verdict == TMWATCH_OPAQUE_SO_FAR && out.rounds > 0 && 3 * out.rounds < out.counts.committed);
+    CHECK(out.max_interleaved_commits >= 5 && out.max_interleaved_commits <= 7);
 }
 
 /* A time ends the rounds, and a pause outside of a bench is none. */
@@ -337,8 +337,8 @@ static void run_for_a_second(void)
     tmwatch_plan plan = one_thread();
     plan.rounds = UINT64_MAX;
     plan.seconds = 1;
-    tmwatch_benched out = run(&memory, plan);
-    CHECK(out.told.verdict == TMWATCH_OPAQUE_SO_FAR && out.rounds > 0);
+    tmwatch_bench_result out = run(&memory, plan);
+    CHECK(out.result.verdict == TMWATCH_OPAQUE_SO_FAR && out.rounds > 0);
     tmwatch_pause();
 }
 
@@ -349,38 +349,38 @@ static void end_a_look(void)
     tmwatch_plan plan = one_thread();
     it.begin = never;
     plan.seconds = 1;
-    plan.patience = 30;
-    CHECK(run(&it, plan).rejected == 0);
+    plan.timeout = 30;
+    CHECK(run(&it, plan).solo_rollbacks == 0);
 }
 
 /* Results of each verdict, of a run that shows nothing, of one in which none has committed, and of steps. */
-static const tmwatch_benched results[] = {
-    {.told = {12, 0, TMWATCH_OPAQUE_SO_FAR, 0}, .counts = {1, 2, 3, 4, 5, 6, 7, 8, 0}, .rounds = 9, .stores = 1},
-    {.told = {12, 11, TMWATCH_VIOLATED, 0}, .counts = {1, 2, 3, 4, 5, 6, 7, 8, 0}, .rounds = 9, .from = 10, .again = TMWATCH_PLAN},
-    {.told = {12, 11, TMWATCH_UNDECIDED, TMWATCH_TRANSACTIONS}, .counts = {1, 2, 3, 4, 5, 6, 7, 8, 0}, .rounds = 9, .again = TMWATCH_PLAN},
-    {.told = {12, 11, TMWATCH_UNDECIDED, TMWATCH_STATES}, .counts = {1, 2, 3, 4, 5, 6, 7, 8, 0}, .rounds = 9, .again = TMWATCH_PLAN},
-    {.told = {12, 11, TMWATCH_MALFORMED, 0}, .counts = {1, 0, 3, 4, 0, 6, 7, 8, 1}, .rounds = 9, .again = TMWATCH_PLAN},
-    {.told = {12, 0, TMWATCH_OPAQUE_SO_FAR, 0}, .counts = {1, 2, 3, 4, 0, 6, 0, 8, 1}, .rounds = 9, .stores = 1, .again = {.threads = 1}},
-    {.told = {0, 0, TMWATCH_OPAQUE_SO_FAR, 0}, .rounds = 9},
-    {.told = {12, 1, TMWATCH_VIOLATED, 0},
+static const tmwatch_bench_result results[] = {
+    {.result = {12, 0, TMWATCH_OPAQUE_SO_FAR, 0}, .counts = {1, 2, 3, 4, 5, 6, 7, 8, 0}, .rounds = 9, .stores = 1},
+    {.result = {12, 11, TMWATCH_VIOLATED, 0}, .counts = {1, 2, 3, 4, 5, 6, 7, 8, 0}, .rounds = 9, .skipped = 10, .reproducer = TMWATCH_PLAN},
+    {.result = {12, 11, TMWATCH_UNDECIDED, TMWATCH_TRANSACTIONS}, .counts = {1, 2, 3, 4, 5, 6, 7, 8, 0}, .rounds = 9, .reproducer = TMWATCH_PLAN},
+    {.result = {12, 11, TMWATCH_UNDECIDED, TMWATCH_STATES}, .counts = {1, 2, 3, 4, 5, 6, 7, 8, 0}, .rounds = 9, .reproducer = TMWATCH_PLAN},
+    {.result = {12, 11, TMWATCH_MALFORMED, 0}, .counts = {1, 0, 3, 4, 0, 6, 7, 8, 1}, .rounds = 9, .reproducer = TMWATCH_PLAN},
+    {.result = {12, 0, TMWATCH_OPAQUE_SO_FAR, 0}, .counts = {1, 2, 3, 4, 0, 6, 0, 8, 1}, .rounds = 9, .stores = 1, .reproducer = {.threads = 1}},
+    {.result = {0, 0, TMWATCH_OPAQUE_SO_FAR, 0}, .rounds = 9},
+    {.result = {12, 1, TMWATCH_VIOLATED, 0},
      .counts = {.transactions = 1},
      .rounds = 3,
-     .foreign = 7,
+     .max_interleaved_commits = 7,
      .steps = 20,
-     .switches = 4,
-     .rescues = 2,
-     .again = {.schedule = TMWATCH_STEPS, .seed = 5, .rounds = 3, .round = 3, .threads = 2, .registers = TMWATCH_DRAWN, .calls = 1,
-               .writes = TMWATCH_DRAWN, .adds = 0, .aborts = TMWATCH_DRAWN, .pause = TMWATCH_DRAWN, .mixes = TMWATCH_DRAWN, .orders = TMWATCH_X86,
-               .patience = 10, .attempts = 2, .blinds = 0}},
-    {.told = {12, 7, TMWATCH_VIOLATED, 0}, .rounds = 3, .steps = 20, .again = TMWATCH_PLAN, .is_certain = true, .event = 5,
-     .leg = {.schedule = TMWATCH_STEPS, .seed = 8, .rounds = 3, .threads = 2, .registers = 3, .calls = 1, .plain = 1}},
-    {.told = {12, 7, TMWATCH_VIOLATED, 0}, .again = {.schedule = TMWATCH_PERMITS, .start = {0, 7}, .seconds = 4}, .is_certain = true},
-    {.told = {12, 0, TMWATCH_OPAQUE_SO_FAR, 0}, .counts = {98, 1, 3, 4, 5, 99, 98, 8, 0}, .stores = 1, .steps = 9, .rescues = 9},
-    {.told = {12, 0, TMWATCH_OPAQUE_SO_FAR, 0}, .counts = {97, 5, 3, 4, 5, 102, 97, 8, 0}, .stores = 1, .steps = 9, .rescues = 10,
-     .unseen = TMWATCH_UNSEEN_WAITS | TMWATCH_UNSEEN_BLOCKS},
-    {.told = {12, 11, TMWATCH_UNDECIDED, TMWATCH_UNSEEN}, .steps = 9, .rescues = 1, .waits = 3, .crashes = 2, .again = TMWATCH_PLAN,
-     .unseen = TMWATCH_UNSEEN_STORES | TMWATCH_UNSEEN_WAITS, .race = "thread 1 loads plainly at here, thread 0 stores plainly"},
-    {.told = {12, 0, TMWATCH_OPAQUE_SO_FAR, 0}, .counts = {1, 2, 3, 4, 5, 6, 7, 8, 0}, .stores = 1, .rejected = 3},
+     .context_switches = 4,
+     .stalls = 2,
+     .reproducer = {.schedule = TMWATCH_STEPS, .seed = 5, .rounds = 3, .round = 3, .threads = 2, .registers = TMWATCH_RANDOM, .accesses = 1,
+               .writes = TMWATCH_RANDOM, .adds = 0, .aborts = TMWATCH_RANDOM, .pause = TMWATCH_RANDOM, .mixed_rounds = TMWATCH_RANDOM, .orders = TMWATCH_X86,
+               .timeout = 10, .attempts = 2, .blind_writes = 0}},
+    {.result = {12, 7, TMWATCH_VIOLATED, 0}, .rounds = 3, .steps = 20, .reproducer = TMWATCH_PLAN, .is_deterministic = true, .event = 5,
+     .phase = {.schedule = TMWATCH_STEPS, .seed = 8, .rounds = 3, .threads = 2, .registers = 3, .accesses = 1, .plain = 1}},
+    {.result = {12, 7, TMWATCH_VIOLATED, 0}, .reproducer = {.schedule = TMWATCH_PERMITS, .start = {0, 7}, .seconds = 4}, .is_deterministic = true},
+    {.result = {12, 0, TMWATCH_OPAQUE_SO_FAR, 0}, .counts = {98, 1, 3, 4, 5, 99, 98, 8, 0}, .stores = 1, .steps = 9, .stalls = 9},
+    {.result = {12, 0, TMWATCH_OPAQUE_SO_FAR, 0}, .counts = {97, 5, 3, 4, 5, 102, 97, 8, 0}, .stores = 1, .steps = 9, .stalls = 10,
+     .untracked = TMWATCH_UNTRACKED_WAITS | TMWATCH_UNTRACKED_BLOCKS},
+    {.result = {12, 11, TMWATCH_UNDECIDED, TMWATCH_UNTRACKED}, .steps = 9, .stalls = 1, .waits = 3, .crashes = 2, .reproducer = TMWATCH_PLAN,
+     .untracked = TMWATCH_UNTRACKED_STORES | TMWATCH_UNTRACKED_WAITS, .race = "thread 1 reads at here, thread 0 writes"},
+    {.result = {12, 0, TMWATCH_OPAQUE_SO_FAR, 0}, .counts = {1, 2, 3, 4, 5, 6, 7, 8, 0}, .stores = 1, .solo_rollbacks = 3},
 };
 
 static void print_results(void)

@@ -47,7 +47,7 @@ int main(void)
 {
     static const tmwatch_memory memory = {NULL, 1, begin, read, write, add, commit, cancel, NULL};
     tmwatch_plan plan = TMWATCH_PLAN;
-    tmwatch_benched benched;
+    tmwatch_bench_result result;
     plan.schedule = TMWATCH_STEPS;
     plan.rounds = 20;
     plan.threads = 1;
@@ -57,6 +57,6 @@ int main(void)
     for (unsigned reg = 0; reg < REGISTERS; reg++)
         words[reg] = plan.start[reg] = 8 * (reg + 1) * apart;
     plan.registers = REGISTERS;
-    CHECK(tmwatch_bench(&memory, &plan, &benched) == TMWATCH_DONE);
+    CHECK(tmwatch_bench(&memory, &plan, &result) == TMWATCH_OK);
     return 0;
 }

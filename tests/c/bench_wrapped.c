@@ -17,7 +17,7 @@ static bool makes, nests;
 
 static char name_of(const volatile void *at)
 {
-    return at == objects[0] ? 'a' : at == objects[1] ? 'b' : '?';
+    return at == objects[0] ? 'a' : at == objects[1] ? 'b' : at == &critical ? 'c' : at == &indivisible ? 'i' : '?';
 }
 
 /* The bench. */
@@ -132,6 +132,27 @@ void __real__ZNSt18condition_variable4waitERSt11unique_lockISt5mutexE(pthread_co
 {
     real("wait", it, *lock == (void *)objects[0]);
 }
+/* OpenMP's, whose tries return more than 0 if they succeed. */
+#define REAL_TEST(name, unused) \
+    int __real_##name(void *it) { int status = real(#name "(try)", it, false); return status == 0 ? THREAD : status == OTHER ? OTHER : 0; }
+#define EACH_TEST(X) X(omp_test_lock, ) X(omp_test_nest_lock, )
+EACH_TEST(REAL_TEST)
+#define REAL_SECTION(name, at, ...) \
+    void __real_##name(__VA_ARGS__) { real(#name, at, false); }
+#define EACH_SECTION(X)                                                                   \
+    X(omp_set_lock, it, void *it)                                                         \
+    X(omp_set_nest_lock, it, void *it)                                                    \
+    X(omp_unset_lock, it, void *it)                                                       \
+    X(omp_unset_nest_lock, it, void *it)                                                  \
+    X(GOMP_critical_name_start, it, void **it)                                            \
+    X(GOMP_critical_name_end, it, void **it)
+EACH_SECTION(REAL_SECTION)
+REAL_SECTION(GOMP_critical_start, &critical, void)
+REAL_SECTION(GOMP_critical_end, &critical, void)
+REAL_SECTION(GOMP_atomic_start, &indivisible, void)
+REAL_SECTION(GOMP_atomic_end, &indivisible, void)
+REAL_SECTION(__kmpc_critical, at == objects[1] && thread == OTHER ? it : NULL, void *at, int thread, void *it)
+REAL_SECTION(__kmpc_end_critical, at == objects[1] && thread == OTHER ? it : NULL, void *at, int thread, void *it)
 void __tsan_atomic8_store(volatile uint8_t *at, uint8_t value, int order)
 {
     printf(" store-%c %d o%d", name_of(at), value, order);
@@ -182,6 +203,18 @@ long __real_syscall(long number, ...)
     return OTHER;
 }
 
+#define EACH_CALL(X)                                                                                                              \
+    X(read) X(readv) X(recv) X(recvfrom) X(recvmsg) X(__read_chk) X(__recv_chk) X(eventfd_read) X(write) X(writev) X(send) X(sendto) \
+    X(sendmsg) X(eventfd_write) X(poll) X(ppoll) X(__poll_chk) X(select) X(pselect) X(epoll_wait)
+#define REAL_CALL(name)                                                                     \
+    long __real_##name(long first, long second, long third, long fourth, long fifth, long sixth) \
+    {                                                                                       \
+        CHECK(first == 1 && second == 2 && third == 3 && fourth == 4 && fifth == 5);        \
+        printf(" " #name);                                                                  \
+        return sixth;                                                                       \
+    }
+EACH_CALL(REAL_CALL)
+
 /* A line of a function, in each mode. */
 #define IN_MODES(name, ...)                                  \
     do {                                                     \
@@ -211,6 +244,19 @@ int main(void)
     TELL_VOID(__cxa_guard_release, (void *)objects[0]);
     CHECK(*find_made(objects[0]) != objects[0]);
     TELL_VOID(__cxa_guard_abort, (void *)objects[0]);
+#define TELL_SECTION(name, ...) TELL_VOID(name, (void *)objects[0]);
+    EACH_SECTION(TELL_SECTION)
+#define TELL_TEST(name, unused) TELL(name, , , , , (void *)objects[0])
+    EACH_TEST(TELL_TEST)
+    IN_MODES(GOMP_critical_start, __wrap_GOMP_critical_start());
+    IN_MODES(GOMP_critical_end, __wrap_GOMP_critical_end());
+    IN_MODES(GOMP_atomic_start, __wrap_GOMP_atomic_start());
+    IN_MODES(GOMP_atomic_end, __wrap_GOMP_atomic_end());
+    TELL_VOID(__kmpc_critical, objects[1], OTHER, objects[0]);
+    CHECK(*find_made(objects[0]) == objects[0]);
+    IN_MODES(__kmpc_critical, objects[0][0] = mode != FREE; __wrap___kmpc_critical(objects[1], OTHER, objects[0]));
+    TELL_VOID(__kmpc_end_critical, objects[1], OTHER, objects[0]);
+    CHECK(*find_made(objects[0]) != objects[0]);
     for (int i = 0; i < 4; i++) {
         makes = i == 1 || i == 2;
         IN_MODES(pthread_once, nests = i == 2; printf(" = %d", __wrap_pthread_once((void *)objects[0], make)));
@@ -225,6 +271,8 @@ int main(void)
     static const long calls[][2] = {{SYS_futex, FUTEX_WAIT}, {SYS_futex, FUTEX_WAIT_BITSET_PRIVATE}, {SYS_futex, FUTEX_WAKE}, {SYS_gettid, FUTEX_WAIT}};
     for (int i = 0; i < 4; i++)
         IN_MODES(syscall, printf(" = %ld", __wrap_syscall(calls[i][0], (long)objects[0], calls[i][1], 3, 4, 5, 6)));
+#define TELL_CALL(name) IN_MODES(name, printf(" = %ld", __wrap_##name(1, 2, 3, 4, 5, OTHER)));
+    EACH_CALL(TELL_CALL)
     IN_MODES(tmwatch_lock_tried, printf(" = %d", tmwatch_lock_tried()));
     IN_MODES(tmwatch_lock_awaited, printf(" = %d", tmwatch_lock_awaited(objects[0])));
     IN_MODES(tmwatch_lock_taken, tmwatch_lock_taken(objects[0]));
