@@ -1,4 +1,4 @@
-"""The packages for Debian: their layout, what says of each what it is, and the archives themselves."""
+"""The packages for Debian: their layout, their control files, and the archives themselves."""
 import hashlib
 import os
 import re

@@ -1,10 +1,11 @@
 #!/usr/bin/env python3
-"""Hands libraries that the kit's gate has built to `rt lib`, which proves a library again unless it has a mark of its files.
+"""Passes libraries that the kit's gate has built to `rt lib`, which would prove a library again unless it has a mark of its files.
 
-    packaging/kit.py FOLDER    marks what the gate has built in this repository
+    packaging/kit.py FOLDER    marks the libraries that the gate has built in this repository
 
-The gate leaves no mark. Which one `rt lib` looks for is known to the kit's own module, rtlib, which no kit promises: nothing else of this
-repository rests on it, and tests/build.sh fails if it has another form. Exit status: 0 all are marked; 1 it has; 2 other words.
+The gate writes no mark. Only the kit's own module, rtlib, knows which mark `rt lib` looks for, and the kit does not guarantee it. Nothing
+else in this repository depends on it, and tests/build.sh fails if its form has changed.
+Exit status: 0 if all are marked, 1 if the form has changed, 2 for other arguments.
 """
 import os
 import shutil

@@ -1,22 +1,22 @@
 #!/usr/bin/env python3
-"""Lays the library for C out in a folder, from its archive. Nothing is proved here: ./build proves the archive, and calls this.
+"""Lays out the library for C in a folder, from its archive. Nothing is proved here: ./build proves the archive, and calls this.
 
     packaging/layout.py ARCHIVE FOLDER
-    packaging/layout.py --bench FOLDER COMPILER..    the bench's two archives alone, compiled by these words
+    packaging/layout.py --bench FOLDER COMPILER..    only the bench's two archives, compiled with this command
 
 The folder gets:
 
     lib/libtmwatch.a              the archive
     lib/libtmwatch.so.VERSION     the same as a shared library, which programs load as libtmwatch.so.0
     lib/libtmwatch.so.0           a link to it
-    lib/libtmwatch.so             a link to that, for -ltmwatch; in this repository both are copies, since the kit's gate refuses links
-    bin/tmwatch-bench             the bench by lines
+    lib/libtmwatch.so             a link to that, for -ltmwatch; in this repository both are copies, because the kit's gate refuses links
+    bin/tmwatch-bench             the bench for stores in any language
     lib/libtmwatch_bench.a        the bench for memories in C, which no proof covers
     lib/libtmwatch_steps.a        its steps for memories that are compiled with -fsanitize=thread
-    lib/pkgconfig, lib/cmake      what pkg-config and CMake read of them (found.py)
+    lib/pkgconfig, lib/cmake      the packages for pkg-config and CMake (found.py)
     include                       the headers, and in tmwatch those of examples
 
-Exit status: 0 all is there; 1 a tool failed; 2 other words.
+Exit status: 0 if all files are there, 1 if a tool failed, 2 for other arguments.
 Environment: CC (cc), which compiles the bench and links the shared library.
 """
 import os

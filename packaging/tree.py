@@ -1,4 +1,4 @@
-"""The files of a package, and how they are packed: the same files and time give the same bytes."""
+"""The files of a package, and how they are packed: the same files and the same time give the same bytes."""
 import gzip
 import io
 import os

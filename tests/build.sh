@@ -1,10 +1,11 @@
 #!/usr/bin/env bash
-# Ends ./build by SIGTERM while it proves, and looks whether a process or a folder is left. Runs the gate beside what a build leaves in the
-# repository, and has `rt lib` take what the gate has built, as ./build does: this fails if the kit's module has another form.
+# Ends ./build with SIGTERM during a proof, and checks that no process and no folder is left. Then runs the gate in a repository that
+# contains the output of a build, and lets `rt lib` use the output of the gate, as ./build does. This fails if the kit's module has changed
+# its form. Before that, it runs ./build, ./tmwatch and ./test without the kit on PATH: each must say that the kit is missing.
 #
 #   tests/build.sh
 #
-# A line for each row. The last one is 'N passed, M failed', and the exit status is 1 if a row failed.
+# Prints a line for each test case, and 'N passed, M failed' as the last line. The exit status is 1 if a test case failed.
 set -eu
 # shellcheck source=tests/common.sh
 . "$(dirname "${BASH_SOURCE[0]}")/common.sh"
@@ -51,7 +52,7 @@ gate_passes() {
     echo 'tmw_streams: itoa arrayvec thiserror' >"$folder/copy/crates.txt"
     mkdir "$folder/copy/.git"
     (cd "$folder/copy" && rt ci)
-    echo 'int tmwatch_next(void); int main(void) { return tmwatch_next(); }' >"$folder/main.c"
+    echo 'int tmwatch_record_next_call(void); int main(void) { return tmwatch_record_next_call(); }' >"$folder/main.c"
     "${CC:-cc}" -o "$folder/main" "$folder/main.c" -L"$folder/copy/built/lib" -ltmwatch -Wl,-rpath,"$folder/copy/built/lib"
     "$folder/main"
 }
@@ -63,6 +64,24 @@ takes_marked() {
     (cd "$folder/copy/crates/tmw_streams" && rt lib)
     stat -c "%i %n" "$folder"/copy/crates/tmw_streams/out/rlib/* | diff "$folder/marked" -
 }
+
+# Runs a command of the copy with a PATH without the folders that have the kit's command.
+kitless=$(tr : '\n' <<<"$PATH" | while read -r at; do [ -x "$at/rt" ] || echo "$at"; done | paste -s -d :)
+without_kit() {
+    PATH=$kitless "$folder/copy/$1" "${@:2}" </dev/null
+}
+
+missing="the Rattle kit is missing (no 'rt' on PATH)"
+ends 'a build without the kit' 1 without_kit build
+has_told 'a build without the kit: the message' "^build: $missing. .*: README.md#install$"
+ends 'judge without the kit' 125 without_kit tmwatch judge
+has_told 'judge without the kit: the message' "^tmwatch: $missing, and the program is not built. .*: README.md#install$"
+ends 'help without the kit' 0 without_kit tmwatch judge --help
+for words in test 'test --quick'; do
+    # shellcheck disable=SC2086
+    ends "$words without the kit" 1 without_kit $words
+    has_told "$words without the kit: the message" "^test: $missing. .*: README.md#install$"
+done
 
 ends 'a build that is ended' 143 ended
 has_told 'a build that is ended: what is told' '^stopped: '
