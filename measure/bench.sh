@@ -1,23 +1,23 @@
 #!/usr/bin/env bash
-# Times `tmwatch bench` on NOrec beside measure/rounds.c, whose threads make the same rounds by barriers while nobody judges: first on the
-# machine as it is, then beside busy loops.
+# Times `tmwatch bench` on NOrec, and measure/rounds.c for comparison, whose threads run the same rounds with barriers and without a judge:
+# first on the machine as it is, then next to busy loops.
 #
 #   measure/bench.sh
 #
-# Three workers carry examples/hunt.json out. One, two and four carry scripts of its kind out, of two transactions over two registers,
-# and eight the eight transactions of the four, one each, so that a round has eight transactions at most. For each number of workers
-# there is a line of each program, `barriers` and `tmwatch`. It has
-# - the rounds and the seconds of one run, the fastest of RUNS. Rounds are doubled, from 100 on, until a run takes LEAST seconds;
-# - its rounds, events, unasked aborts and changes of thread a second. An unasked abort is an `A` that answers another call than `X`,
-#   and a change of thread an event whose thread is another than that of the event before;
-# - unasked aborts a round, and changes of thread an event. Those of `tmwatch` are counted in the traces of RUNS other runs, and what
-#   it makes of either a second is the product of these and of what the fastest run, which writes no trace, makes a second;
-# - of `tmwatch`, its rounds a second over those of `barriers`.
+# Three workers run examples/hunt.json. One, two and four run scripts of the same kind, with two transactions over two registers; eight run
+# the eight transactions of those four, one each, so that a round has at most eight transactions. For each number of workers there is a line
+# for each program, `barriers` and `tmwatch`. It has
+# - the rounds and the seconds of one run, the fastest of RUNS. The rounds are doubled, from 100 on, until a run takes LEAST seconds;
+# - its rounds, events, forced aborts and changes of thread a second. A forced abort is an `A` that answers another call than `X`, and a
+#   change of thread is an event whose thread differs from that of the event before;
+# - forced aborts a round, and changes of thread an event. For `tmwatch`, these are counted in the traces of RUNS other runs. Its figures a
+#   second are these numbers times the figures of the fastest run, which writes no trace;
+# - for `tmwatch`, its rounds a second divided by those of `barriers`.
 #
-# The exit status is 0 if each run of `tmwatch` was opaque so far with all workers done, and `judge` says so of TRACED rounds of
-# measure/rounds.c on each workload, each time; else 1.
-# Environment: RUNS (3), LEAST (1), ROUNDS (1000000, the most rounds of a run), TRACED (20000, the most of one with a trace), BUSY (4, how
-# many busy loops run at once), WORKERS (1 2 3 4 8), CC (cc).
+# The exit status is 0 if each run of `tmwatch` was opaque so far with all workers done, and `judge` always finds TRACED rounds of
+# measure/rounds.c on each workload opaque so far; otherwise 1.
+# Environment: RUNS (3), LEAST (1), ROUNDS (1000000, the most rounds of a run), TRACED (20000, the most of one with a trace), BUSY (4, the
+# number of busy loops), WORKERS (1 2 3 4 8), CC (cc).
 set -eu
 # shellcheck source=tests/common.sh
 . "$(dirname "${BASH_SOURCE[0]}")/../tests/common.sh"
@@ -64,7 +64,7 @@ bench() {
     tail -n 2 "$folder/output" | tr -d '\n' | grep -q '"opaque so far"}{"ends":\["done"\(,"done"\)*\]}$' || fail tmwatch
 }
 
-# A run of a program for so many rounds: its rounds, events and seconds, and of barriers its unasked aborts and changes of thread.
+# A run of a program for so many rounds: its rounds, events and seconds, and of barriers its forced aborts and changes of thread.
 run() {
     local began
     began=$(date +%s.%N)
@@ -94,7 +94,7 @@ trace_runs() {
         END { print rounds, events, aborts + 0, changes + 0 }' "$folder/traces"
 }
 
-# The rounds, events, unasked aborts and changes of thread that tell of a program, whose runs have so many rounds.
+# The rounds, events, forced aborts and changes of thread that tell of a program, whose runs have so many rounds.
 count_events() {
     case $1 in
     barriers) awk '{ print $1, $2, $4, $5 }' "$folder/fastest" ;;

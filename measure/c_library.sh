@@ -1,9 +1,9 @@
 #!/usr/bin/env bash
-# Measures what the C library costs, by measure/c_library.c: a record, an event that is judged, and the heap after many events.
+# Measures the cost of the C library with measure/c_library.c: of recording an event, of judging one, and of the heap after many events.
 #
 #   measure/c_library.sh [EVENTS]
 #
-# EVENTS (100,000,000) is of the last line.
+# EVENTS (100,000,000) applies to the last line.
 # Environment: CC (gcc), BUILT (tests/common.sh).
 set -eu
 # shellcheck source=tests/common.sh

@@ -3,11 +3,12 @@
 #
 #   measure/drive.sh
 #
-# Each script has 1,000 transactions of 13 calls: reads, writes and a commit. The order has 100,000 entries. In it two threads at a time run
-# a transaction each, call by call in turn, over registers of their own, so none aborts and no window has more than two transactions. A line
-# for each of the two runs has: whether the trace was requested, the seconds (the best of RUNS runs), calls a second, the peak memory in
-# KiB, and the report. A last line has the seconds of reading the workload alone, as the run of one whose order is empty. If PEER is set to
-# another program of the same bytes, its seconds stand beside ours. The exit status is 1 if its bytes differ, or a run isn't opaque so far.
+# Each script has 1,000 transactions of 13 calls: reads, writes and a commit. The order has 100,000 entries. In it, two threads at a time
+# run a transaction each, call by call in turn, over registers of their own, so none aborts, and no window has more than two transactions. A
+# line for each of the two runs has: whether the trace was requested, the seconds (the best of RUNS runs), calls a second, the peak memory
+# in KiB, and the report. A last line has the seconds for reading the workload, measured with one whose order is empty. If PEER is set to
+# another program with the same output, its seconds come next to ours. The exit status is 1 if its output differs, or a run is not opaque so
+# far.
 # Environment: PEER, RUNS (5), MEMORY (norec).
 set -eu
 # shellcheck source=tests/common.sh

@@ -1,11 +1,11 @@
 #!/usr/bin/env bash
-# Measures the memory of a watch, whose pump forgets what it has judged: it has to be the same however many events of a running ring are
-# judged.
+# Measures the memory of a watch. It must not depend on the number of judged events, because the watch does not store them.
 #
 #   measure/forgets.sh [EVENTS..]
 #
-# measure/forgets.c judges so many events, by default 1,000,000 and 100,000,000. A line has the events, the seconds in which they were
-# recorded and judged, and the peak memory in KiB. The exit status is 1 if the last number's peak is more than 64 KiB above the first's.
+# measure/forgets.c judges EVENTS events of a running ring, by default 1,000,000 and then 100,000,000. A line has the number of events, the
+# seconds in which they were recorded and judged, and the peak memory in KiB. The exit status is 1 if the peak for the last number is more
+# than 64 KiB above that for the first.
 # Environment: CC (cc), BUILT (tests/common.sh).
 set -eu
 # shellcheck source=tests/common.sh

@@ -1,14 +1,14 @@
 #!/usr/bin/env python3
-"""Runs the gate and tells what its parts take: processor minutes by kind, seconds by crate, and the longest chain of proofs.
+"""Runs the gate and reports where its time goes: processor minutes by kind, seconds by crate, and the longest chain of proofs.
 
     measure/gate.py [FOLDER]
 
-It runs `rt ci`, from nothing, in FOLDER, a clone of the repository (without words: here), and samples its processes twice a second. Output: a
-line for each crate with the seconds of its proof, its tests, the checks that its wrong bodies begin with, and these, by their
-number; the wrong bodies that took over 20 seconds; then the minutes of each kind. Last, of the proofs that ./build makes: the longest
-chain, in which each crate waits for the one before it, and the minutes by the clock of all on four quiet processors. These are simulated,
-from the seconds above and crates.txt: one processor a proof, the longest chain first. The gate's own output goes to FOLDER/gate.log.
-The exit status is the gate's. Processor time is what the system counts: other work on the machine makes it longer.
+Runs `rt ci` from nothing in FOLDER, a clone of the repository (by default here), and samples its processes twice a second. Prints a line
+for each crate with the seconds of its proof, its tests, the checks with which its mutants begin, and the mutants by their numbers; then the
+mutants that took over 20 seconds; then the minutes of each kind. Finally, for the proofs that ./build makes: the longest chain, in which
+each crate waits for the previous one, and the minutes by the clock of all proofs on four idle processors. These are simulated from the
+seconds above and crates.txt: one processor for each proof, the longest chain first. The gate's own output goes to FOLDER/gate.log. The exit
+status is the gate's. Processor time is measured by the system, so other work on the machine increases it.
 """
 import functools
 import os
@@ -17,24 +17,24 @@ import sys
 import time
 from collections import Counter
 
-KINDS = ["proof", "tests", "begin", "edits", "rest"]
+KINDS = ["proof", "tests", "begin", "mutants", "rest"]
 PROCESSORS = 4
 TICK = os.sysconf("SC_CLK_TCK")
 
 
 def part_of(words, folder):
-    """Returns the crate and the kind of a check by its words and the folder that it runs in."""
+    """Returns the crate and the kind of a check from its arguments and its folder."""
     crate = words[words.index("--crate-name") + 1]
     if "--incremental" in words:
         kept = words[words.index("--incremental") + 1]
-        return crate, "begin" if os.path.basename(kept) == "seed" else "edits"
+        return crate, "begin" if os.path.basename(kept) == "seed" else "mutants"
     if "/rt-edit-" in folder:
-        return crate, "edits"
+        return crate, "mutants"
     return crate, "tests" if "--test" in words else "proof"
 
 
 def sample(found, below):
-    """Notes what each process of the gate has taken so far."""
+    """Stores the processor time of each process of the gate so far."""
     for number in os.listdir("/proc"):
         if not number.isdigit():
             continue
@@ -55,29 +55,29 @@ def sample(found, below):
             is_check = head.endswith("(rattle") and "--crate-name" in words
             found[key] = part_of(words, folder) if is_check else ("", "rest"), seconds
         elif key in found:
-            # (it has ended, and has no words any more)
+            # (the process has ended, so its arguments are gone)
             found[key] = found[key][0], seconds
 
 
 def tell(found):
-    """Writes the table."""
+    """Prints the table."""
     sums, slow = {}, []
     for part, seconds in found.values():
         total, count = sums.get(part, (0.0, 0))
         sums[part] = total + seconds, count + 1
-        if part[1] == "edits" and seconds > 20:
+        if part[1] == "mutants" and seconds > 20:
             slow.append((seconds, part[0]))
     for crate in sorted({it for it, _ in sums if it}):
         parts = [(kind, *sums[crate, kind]) for kind in KINDS if (crate, kind) in sums]
         print(f"{crate:20}", ", ".join(f"{kind} {seconds:.0f} ({count})" for kind, seconds, count in parts))
-    print("over 20 seconds:", ", ".join(f"{crate} {seconds:.0f}" for seconds, crate in sorted(slow, reverse=True)) or "none")
+    print("mutants over 20 seconds:", ", ".join(f"{crate} {seconds:.0f}" for seconds, crate in sorted(slow, reverse=True)) or "none")
     minutes = {kind: sum(seconds for (_, it), (seconds, _) in sums.items() if it == kind) / 60 for kind in KINDS}
     print("minutes of processor time:", ", ".join(f"{kind} {it:.0f}" for kind, it in minutes.items()), f"in all {sum(minutes.values()):.0f}")
     tell_chain(Counter({crate: seconds for (crate, kind), (seconds, _) in sums.items() if kind == "proof"}))
 
 
 def tell_chain(seconds):
-    """Writes the longest chain of the proofs that ./build makes, and the minutes that all take side by side."""
+    """Prints the longest chain of the proofs that ./build makes, and the minutes of all proofs in parallel."""
     with open("crates.txt", encoding="utf-8") as it:
         lines = [line.partition("#")[0].split() for line in it]
     words_of = {words[0].rstrip(":"): words[1:] for words in lines if words}
@@ -105,7 +105,7 @@ def tell_chain(seconds):
 
 def main():
     os.chdir(sys.argv[1] if len(sys.argv) > 1 else os.path.dirname(os.path.dirname(os.path.abspath(__file__))))
-    # (a gate that keeps what it has passed has this word, by which it proves all anew)
+    # (a gate that stores its proofs has this option, which makes it prove everything again)
     help = subprocess.run(["rt", "ci", "--help"], capture_output=True, text=True, errors="replace")
     anew = ["--anew"] if "--anew" in help.stdout + help.stderr else []
     began, found = time.monotonic(), {}

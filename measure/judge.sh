@@ -1,15 +1,15 @@
 #!/usr/bin/env bash
-# Times `tmwatch judge` on seven kinds of run, by opacity, by strict serializability, by both, with --first and with --summary, beside `cat`
-# and `wc -l` of the same trace.
+# Times `tmwatch judge` on seven kinds of run, under opacity, strict serializability and both, with --first and with --summary, and `cat`
+# and `wc -l` on the same trace for comparison.
 #
 #   measure/judge.sh [EVENTS]
 #
-# measure/traces.c makes the traces. A line a profile and words has: its events, the seconds of each program (the best of RUNS runs), our
-# events a second, the ratio of our seconds to those of each, and the peak memory in KiB. If PEER is set to another program of the same bytes, it
-# runs too, and the line says whether its lines and status are ours. It has no --first and no --summary. The exit status is 1 if they differ, or
-# if a run isn't opaque so far: a line says which.
-# Environment: PEER, PROFILES, WORDS (opacity strict both first summary), SEED (1), RUNS (3), CC (cc), TRACES (a program that is called as
-# measure/traces.c says, in its place).
+# measure/traces.c makes the traces. A line for each kind of run and each set of options has: the number of events, the seconds of each
+# program (the best of RUNS runs), our events a second, the ratio of our seconds to those of each other program, and the peak memory in KiB.
+# If PEER is set to another program with the same output, it runs too, and the line says whether its lines and status equal ours. It does
+# not run with --first and --summary. The exit status is 1 if they differ, or if a run is not opaque so far: a line says which.
+# Environment: PEER, PROFILES, WORDS (opacity strict both first summary), SEED (1), RUNS (3), CC (cc), TRACES (a program with the usage of
+# measure/traces.c, which is used instead).
 set -eu
 # shellcheck source=tests/common.sh
 . "$(dirname "${BASH_SOURCE[0]}")/../tests/common.sh"

@@ -1,10 +1,10 @@
 #!/usr/bin/env python3
-"""Counts the lines of the crates' .rt and .antt files, and of these the ones that say something: no blank line, comment, import or `mod`.
+"""Counts the lines in the .rt and .antt files of the crates, and those among them that are not blank, a comment, an import or `mod`.
 
     measure/lines.py [CRATE..]
 
-Without words it counts all crates. Output: for each folder of a crate how many lines there are in all crates, and how many say something; then
-the sums. With words, a line for each of these crates too. Exit status: 0; 2 if a crate isn't there.
+Without arguments, it counts all crates. Prints for each folder of a crate both numbers over all crates, and then the sums. With arguments,
+also a line for each of these crates. Exit status: 0; 2 if a crate does not exist.
 """
 import re
 import sys

@@ -1,14 +1,14 @@
 #!/usr/bin/env bash
-# Sets `tmwatch judge` beside another program of the same words and bytes: instructions an event, and processor time.
+# Compares `tmwatch judge` with another program that has the same options and output: instructions for each event, and processor time.
 #
 #   measure/peer.sh PEER [EVENTS]
 #
-# A line for each kind of run of measure/traces.c, and for each that `PEER gen PROFILE SEED EVENTS` makes (gen:PROFILE), and each criterion has,
-# of the program and of the peer, and as the quotient of both:
-# - instructions an event by valgrind's callgrind, of the first 120,000 events less the first 20,000;
-# - nanoseconds an event of user and system time, of EVENTS (5,000,000) events: each the best of RUNS runs, which take turns.
-# The load of the machine comes first and last: time counts only on a quiet one. The exit status is 1 if a run is not opaque so far, or a line
-# of the peer is not ours; 2 without the peer.
+# A line for each criterion and each kind of run of measure/traces.c, and of those that `PEER gen PROFILE SEED EVENTS` makes (gen:PROFILE),
+# has, for the program, for the peer, and as the ratio of both:
+# - instructions for each event, counted by valgrind's callgrind, of the first 120,000 events minus the first 20,000;
+# - nanoseconds for each event of user and system time, of EVENTS (5,000,000) events: each the best of RUNS runs, which alternate.
+# The load of the machine comes first and last, because times count only on an idle one. The exit status is 1 if a run is not opaque so far,
+# or a line of the peer differs from ours; 2 without the peer.
 # Environment: RUNS (9), KINDS, CRITERIA (opacity strict both), SEED (1), PROGRAM (the built one), CC (cc).
 set -eu
 # shellcheck source=tests/common.sh

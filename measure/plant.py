@@ -1,28 +1,28 @@
 #!/usr/bin/env python3
-"""Plants mistakes into source files, one at a time, and tells which of them a command doesn't notice.
+"""Mutates source files, one mutation at a time, and reports the mutants that a command does not kill.
 
     measure/plant.py [OPTION VALUE].. FILE.. -- COMMAND..
     measure/plant.py [OPTION VALUE].. --edits FOLDER FILE..
 
-An operator, a constant or a condition is turned, a statement dropped, or two arguments swapped, in a copy of the repository, where the
-COMMAND then runs. It notices a mistake if it writes `: FAILED`, fails, or is late: not done in time. The FILEs are .c, .h, .rs, .rt, .py or
-.sh. With --edits nothing runs: as many mistakes as --number says, of all FILEs together, in no clause of a .rt, are written as edits into
-FOLDER/CRATE, of which tests/long/refusals.py tells what the prover refuses.
+A mutation changes an operator, a constant or a condition, drops a statement, or swaps two arguments, in a copy of the repository, where the
+COMMAND then runs. It kills a mutant if it writes `: FAILED`, fails, or exceeds its time limit. The FILEs are .c, .h, .rs, .rt, .py or .sh.
+With --edits nothing runs. Instead, --number mutants of all FILEs together, of no clause in a .rt, are written as edits into FOLDER/CRATE;
+tests/long/refusals.py reports why the prover refuses them.
 
-    --seed N          by which mistakes are drawn (1)
-    --number N        how many of each FILE (30); 0: all
-    --lines M-N       only those in these lines
-    --limit SECONDS   of each run (four times what the command takes without a mistake, and ten)
-    --build COMMAND   runs first, by sh: a mistake by which it fails doesn't compile. If it writes the file $OBJECT, a mistake that leaves
-                      these bytes as they are changes nothing.
-    --then COMMAND    runs, by sh, if the COMMAND has not noticed a mistake, and may notice it
-    --jobs N          so many at once, each in a copy of its own (1)
+    --seed N          chooses the mutations (1)
+    --number N        mutants of each FILE (30); 0: all
+    --lines M-N       only mutations in these lines
+    --limit SECONDS   of each run (four times the command's time without a mutation, and ten)
+    --build COMMAND   runs first, in sh: if it fails, the mutant does not compile. If it writes the file $OBJECT, a mutation that leaves the
+                      bytes of that file unchanged changes nothing.
+    --then COMMAND    runs in sh if the COMMAND has not killed a mutant, and may kill it
+    --jobs N          runs N at a time, each in a copy of its own (1)
 
-plant.txt lists mistakes that nobody can observe, with the reasons. They don't count; nor do those that change nothing.
-Standard output has each that survived or was late, which load may do to a survivor, with its line as it was and as it is, and then a table.
-Nothing is left of the copies, nor a process.
-Exit status: 0 in each FILE at most one in ten of those that count survives; 1 more do; 2 wrong words, an interrupt, or the command fails
-without a mistake.
+plant.txt lists equivalent mutants, with reasons. They do not count, nor do mutations that change nothing. Standard output has each mutant
+that survived or was late (a survivor may also be late because of load), with the original line and the mutated one, and then a table. No
+copy and no process is left behind.
+Exit status: 0 if in each FILE at most one in ten of the mutants that count survives; 1 if more do; 2 for wrong arguments, an interrupt, or
+if the command fails without a mutation.
 """
 import argparse
 import collections

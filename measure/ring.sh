@@ -1,12 +1,12 @@
 #!/usr/bin/env bash
-# Times the running ring: so many writers in threads of their own record events, and one thread takes them all.
+# Times the running ring: M writers in threads of their own record events, and one thread receives them all.
 #
 #   measure/ring.sh [EVENTS]
 #
 # A line for each number of cells N and of writers M has the seconds of the whole program (the best and the slowest of RUNS runs), and
-# events a second in the best. If PEER is set, `PEER ring N M EVENTS` prints the events a second of four plain Rust programs, which stand
-# beside them: the same ring with every step sequentially consistent, the same with acquire and release, a channel of std's and a queue
-# under a lock. The ratio is that of the first of them to ours.
+# events a second in the best. If PEER is set, `PEER ring N M EVENTS` prints the events a second of four plain Rust programs, which come
+# next to ours: the same ring with every step sequentially consistent, the same with acquire and release, a channel of std, and a queue with
+# a lock. The ratio is that of the first of them to ours.
 # Environment: PEER, RUNS (3), CELLS (16 256 4096), WRITERS (1 3 7).
 set -eu
 # shellcheck source=tests/common.sh

@@ -1,12 +1,12 @@
 #!/usr/bin/env bash
-# Measures the bench in C by 1, 2 and 4 jobs: how many rounds a second right memories make, and how many seconds it takes to find each of ten
-# faults.
+# Measures the bench in C with 1, 2 and 4 jobs: how many rounds a second correct memories make, and how many seconds it takes to find each
+# of ten faults.
 #
 #   measure/rounds.sh
 #
-# A line for each memory has a column for each number of jobs: the rounds a second of a run of EACH seconds, or the seconds until the fault is
-# found, by SEEDS seeds together. `all` has the sums, and each number of jobs over one job. The load of the machine comes first. The exit
-# status is 1 if a right memory isn't opaque so far, or a fault isn't found within LIMIT seconds; else 0.
+# A line for each memory has a column for each number of jobs: the rounds a second of a run of EACH seconds, or the seconds until the fault
+# is found, over SEEDS seeds. `all` has the sums, and the ratio of each number of jobs to one job. The load of the machine comes first. The
+# exit status is 1 if a correct memory is not opaque so far, or a fault is not found within LIMIT seconds; otherwise 0.
 # Environment: EACH (5), SEEDS (3), LIMIT (300), JOBS (1 2 4), FAULTS, CC (cc), BUILT (tests/common.sh).
 set -eu
 # shellcheck source=tests/common.sh

@@ -1,13 +1,13 @@
 #!/usr/bin/env python3
-"""Looks for the window that costs `tmwatch judge` the most, by climbing from random ones, and writes its trace to a file.
+"""Searches for the window that takes `tmwatch judge` longest, by hill climbing from random ones, and writes its trace to a file.
 
     measure/slowest.py SECONDS FILE [SEED]
 
-A window has eight transactions that overlap, over eight registers. Each writes some of them, may read some first, and is
-committed, aborted, left commit-pending or left live at the end, or reads at the end what nobody has written. Before it come windows
-of blind writers, after which the history has 64 outcomes. What is measured is the program's processor time, the least of three runs.
-Only runs in which nothing is wrong before the window's last event count; or, with OPAQUE set, at no event. Each one that is the worst
-so far is written and told.
+A window has eight transactions that overlap, over eight registers. Each writes some of them, may read some first, and at the end is
+committed, aborted, commit-pending or open, or reads a value that no transaction wrote. Windows of blind writers come before it, so that the
+history has 64 outcomes. The measure is the program's processor time, the minimum of three runs. Only runs count in which nothing is wrong
+before the window's last event; with OPAQUE set, in which nothing is wrong at all. Each run that is the slowest so far is written and
+reported.
 Environment: PROGRAM, OPAQUE.
 """
 import json

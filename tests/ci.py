@@ -1,10 +1,11 @@
 #!/usr/bin/env python3
-"""Has examples/ci/bench.sh run programs that print a line and end with a status, in all pairs, and compares all that it writes.
+"""Runs examples/ci/bench.sh on programs that print a line and end with a status, in all pairs, and compares its whole output.
 
     tests/ci.py BENCH
 
-BENCH is bench.sh. It runs in this folder, with programs in the place of `timeout` and of tmwatch. Prints what differs, and at last how many
-tests there were. Exit status: 0 nothing differs; 1 something does.
+BENCH is bench.sh. It runs in this folder, with stand-ins for `timeout` and tmwatch. Prints each difference, and finally the number of
+tests.
+Exit status: 0 if nothing differs, 1 otherwise.
 """
 import os
 import subprocess
@@ -14,15 +15,15 @@ import xml.etree.ElementTree as tree
 
 STATUSES = [0, 1, 2, 3, 4, 124, 137, 139]
 LINES = {
-    "opaque": '{"events":9,"verdict":"opaque so far"}', "little": '{"events":9,"verdict":"opaque so far"} {"lacks":["overlap","aborts"]}',
-    "locked": '{"events":9,"verdict":"opaque so far"} {"lacks":["aborts"]}',
-    "violated": '{"at":5,"events":9,"verdict":"violated"} {"from":7,"rounds":3} {"again":"--seed 1 --round 3","certain":true}',
+    "opaque": '{"events":9,"verdict":"opaque so far"}', "little": '{"events":9,"verdict":"opaque so far"} {"untested":["overlap","aborts"]}',
+    "locked": '{"events":9,"verdict":"opaque so far"} {"untested":["aborts"]}',
+    "violated": '{"at":5,"events":9,"verdict":"violated"} {"rounds":3,"skipped":7} {"deterministic":true,"reproduce":"--seed 1 --round 3"}',
     "undecided": '{"at":1,"events":1,"verdict":"undecided","why":"states"}', "malformed": '{"at":1,"events":1,"verdict":"malformed"}',
-    "stuck": '{"fault":"stuck"} {"again":"--seed \\"<&>\\"","certain":false}', "nothing": "",
-    "raced": '{"events":9,"verdict":"opaque so far"} {"race":"thread 0 loads plainly at x.c:1 (read)","rounds":9}',
+    "stuck": '{"fault":"hang"} {"deterministic":false,"reproduce":"--seed \\"<&>\\""}', "nothing": "",
+    "raced": '{"events":9,"verdict":"opaque so far"} {"race":"thread 0 reads at x.c:1 (read)","rounds":9}',
 }  # fmt: skip
-RACE = "a race on plain data: see race"
-VERDICTS = {(0, "opaque"): None, (0, "locked"): None, (0, "little"): "nothing is wrong, but the run shows little: see lacks", (1, "violated"): "violated",
+RACE = "a data race: see race"
+VERDICTS = {(0, "opaque"): None, (0, "locked"): None, (0, "little"): "nothing is wrong, but the run tests little: see untested", (1, "violated"): "violated",
             (0, "raced"): RACE, (1, "raced"): RACE, (2, "undecided"): "undecided", (3, "malformed"): "malformed: the record fits no run"}
 OUT, USAGE = "out & more", "usage: bench.sh OUT PROGRAM..\n"
 WORDS = ["--seed", "5", "--seconds", "3"]
@@ -93,7 +94,7 @@ class Check:
         lines = [f"1..{len(self.programs)}"]
         for number, (name, why, printed) in enumerate(self.programs, 1):
             lines.append(f"{'not ok' if why else 'ok'} {number} - {name} {' '.join(WORDS)}")
-            again = [line for line in printed.split("\n") if '"again"' in line] or [f"see {number}.log"]
+            again = [line for line in printed.split("\n") if '"reproduce"' in line] or [f"see {number}.log"]
             lines += [f"# {why}", f"# {again[0]}"] if why else []
         return "\n".join([*lines, ""])
 
@@ -131,9 +132,9 @@ def look_at_files(check):
     for number, (name, _, printed) in enumerate(check.programs, 1):
         check.expect(f"{number}.json", read(f"{OUT}/{number}.json").strip(), printed)
         if name not in ("./endless", "./deaf", "./none"):
-            check.expect(f"{number}.log", read(f"{OUT}/{number}.log"), f"{' '.join(WORDS)} --smaller --quiet --trace {OUT}/{number}.trace\n")
+            check.expect(f"{number}.log", read(f"{OUT}/{number}.log"), f"{' '.join(WORDS)} --shrink --quiet --trace {OUT}/{number}.trace\n")
         check.expect(f"{number}.html", os.path.exists(f"{OUT}/{number}.html"), number in wrong)
-    check.expect("pages", read("pages"), "".join("show --page --why --from 7 trace --seconds\n" for _ in wrong))
+    check.expect("pages", read("pages"), "".join("show --page --why --skipped 7 trace --seconds\n" for _ in wrong))
     check.expect("a page", [read(f"{OUT}/{number}.html") for number in wrong], ["page\n" for _ in wrong])
     check.expect("limits", read("limits"), "-k 10 123\n" * len(check.programs))
     for number in wrong:
@@ -155,14 +156,14 @@ def look_at_defaults(check, bench):
     check.run(bench, ["./opaque-0"], 0, EACH="", SEED="")
     days.add(time.strftime("%Y%m%d", time.gmtime()))
     check.expect("the limit by default", read("limits"), "-k 10 180\n")
-    words = {f"--seed {day} --seconds 60 --smaller --quiet --trace {OUT}/1.trace\n" for day in days}
+    words = {f"--seed {day} --seconds 60 --shrink --quiet --trace {OUT}/1.trace\n" for day in days}
     check.expect("the words by default", read(f"{OUT}/1.log") in words, True)
 
 
 def look_at_again(check, bench):
     with open("again", "w", encoding="utf-8") as it:
         it.write("# all\n\n./opaque-0 --seed 9 --round 4   # mended\n  \n./violated-1 --round 2\n")
-    printed = check.run(bench, ["./opaque-0"], 1, AGAIN="again")
+    printed = check.run(bench, ["./opaque-0"], 1, REPRODUCERS="again")
     tests = [line for line in printed.split("\n") if " - " in line]
     again = ["ok 1 - ./opaque-0 --seed 9 --round 4", "not ok 2 - ./violated-1 --round 2", "ok 3 - ./opaque-0 --seed 5 --seconds 3"]
     check.expect("what was found once", tests, again)

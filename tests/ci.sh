@@ -1,11 +1,11 @@
 #!/usr/bin/env bash
-# Runs memories by examples/ci/bench.sh, right and wrong ones, and programs that end in all other ways (ci.py); then the shell of
-# packaging/action.yml, and a command of docs/CI.md for traces.
+# Runs correct and wrong memories with examples/ci/bench.sh, and programs that end in all other ways (ci.py). Then runs the shell commands
+# of packaging/action.yml, and a command of docs/CI.md for traces.
 #
 #   tests/ci.sh
 #
-# The last line is 'N passed, M failed', and the exit status is 1 if a row failed. Without a C compiler nothing is tested: a line says so,
-# and the status is 0.
+# The last line is 'N passed, M failed', and the exit status is 1 if a test case failed. Without a C compiler, nothing is tested: a line
+# says so, and the status is 0.
 # Environment: CC (cc), BUILT (tests/common.sh).
 set -eu
 # shellcheck source=tests/common.sh
@@ -56,10 +56,10 @@ ends 'its reason as a page' 0 grep -q 'left there\|calls make it' out/2.html
 at=$(sed -n 's/^{"at":\([0-9]*\),.*/\1/p' out/2.json)
 ends 'its event, counted in the run' 0 grep -q "\"mark\":$at," out/2.html
 ends 'its trace' 1 "$program" judge <out/2.trace
-ends 'what its run was' 0 grep -q '"again"' out/2.trace.run
-again=$(sed -n 's/.*"again":"\([^"]*\)".*/\1/p' out/2.json)
+ends 'what its run was' 0 grep -q '"reproduce"' out/2.trace.report
+again=$(sed -n 's/.*"reproduce":"\([^"]*\)".*/\1/p' out/2.json)
 printf '%s\n' '# what was found once' "./norec-READS $again" '' "./norec-NONE $again # mended" >again
-AGAIN=again tested 'what was found once' 1 "not ok 1 - ./norec-READS $again
+REPRODUCERS=again tested 'what was found once' 1 "not ok 1 - ./norec-READS $again
 ok 2 - ./norec-NONE $again
 ok 3 - ./norec-NONE --seed 7 --seconds 1" ./norec-NONE
 if has python3 'other ends'; then
@@ -71,7 +71,7 @@ fi
 # The steps of packaging/action.yml, as a runner of GitHub runs their shell: its inputs are variables here.
 # shellcheck disable=SC2034 # (inputs are read by their names)
 act() {
-    local packages=debs build="cp norec-$1 norec" programs='./norec ./norec-NONE' each=1 again='' variable input command
+    local packages=debs build="cp norec-$1 norec" programs='./norec ./norec-NONE' each=1 reproducers='' variable input command
     mkdir -p bin
     printf '%s\n' '#!/bin/sh' 'echo "$@" >installed' >bin/sudo && chmod +x bin/sudo
     rm -rf out norec && mkdir -p debs && touch debs/one.deb debs/two.deb
@@ -91,7 +91,7 @@ ends 'the action, a wrong memory' 1 act READS
 # As docs/CI.md judges a trace that has to show enough.
 shows() {
     set -o pipefail
-    "$program" judge --summary <"$1" | tee report && ! grep -q lacks report
+    "$program" judge --summary <"$1" | tee report && ! grep -q untested report
 }
 ends 'a run that overlaps' 0 shows "$top/examples/two_writers.trace"
 ends 'a run that is violated' 1 shows "$top/examples/zombie_read.trace"

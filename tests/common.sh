@@ -1,9 +1,9 @@
 # shellcheck shell=bash disable=SC2034,SC2154
-# What the scripts of tests/, tests/long/ and measure/ share. They read this file first.
+# Functions that the scripts of tests/, tests/long/ and measure/ share. They source this file first.
 #
-# It sets top, the repository's folder; folder, one of the script's own, which is removed when the script ends; program, the built
-# program; version, the program's version; and passed and failed, how many of the script's rows did. `end_rows` prints both as the last
-# line. Its exit status is 1 if a row has failed.
+# It sets these variables: top, the repository's folder; folder, a temporary folder of the script, which is removed when the script ends;
+# program, the built program; version, the program's version; passed and failed, the numbers of test cases of the script that passed and
+# failed. `end_rows` prints both numbers as the last line. Its exit status is 1 if a test case failed.
 # Environment: BUILT, a folder that ./tmwatch-c has filled, for scripts that need the library for C. Without it, they fill one.
 top=$(cd "$(dirname "${BASH_SOURCE[0]}")/.." && pwd)
 folder=$(mktemp -d)
@@ -96,6 +96,13 @@ has_transactions() {
     return 1
 }
 
+# Whether a compiler of C has ThreadSanitizer, and its programs run here. If not, a line says what is skipped, and why.
+has_thread_sanitizer() {
+    echo 'int main(void) { return 0; }' | "$1" -fsanitize=thread -x c -o "$folder/try" - 2>"$folder/told" && "$folder/try" 2>"$folder/told" && return
+    echo "$2: skipped, since $1 has no ThreadSanitizer: $(tail -n 1 "$folder/told")"
+    return 1
+}
+
 # Compiles examples/libitm by the words in `compile`: $folder/libitm, and for each fault the little memory in its place. These words link
 # them.
 build_libitm() {
@@ -118,6 +125,17 @@ entries() {
 # The processors that this script may use, as taskset lists them.
 processors() {
     taskset -cp $$ | sed 's/.*: //'
+}
+
+# Waits until a process catches SIGINT and SIGTERM, as a bench does that runs: half a minute at most.
+catches_signals() {
+    local _ caught
+    for _ in {1..600}; do
+        caught=$(sed -n 's/^SigCgt:[[:space:]]*/0x/p' "/proc/$1/status")
+        [ $((caught & 0x4002)) -ne $((0x4002)) ] || return 0
+        sleep 0.05
+    done
+    return 1
 }
 
 # The seconds since a time of $EPOCHREALTIME.

@@ -1,14 +1,18 @@
 #!/usr/bin/env python3
-"""Compares verdicts on random histories, turned into traces by examples/import, and those of whole.py, with those of all orders and
-completions; and the transaction that whole.py names, with the event that tests/long/whole.py finds in the trace. Keys and values are of
-either sign, and blanks, commas and further words stand as Jepsen may write them. Lines in which one word is spoiled are refused.
+"""Compares verdicts on random histories, which examples/import converts to traces, and those of whole.py, with the verdicts that all serial
+orders and completions give; and the transaction that whole.py names with the event that tests/long/whole.py finds in the trace. Keys and
+values may be negative, and blanks, commas and additional words are placed as Jepsen may write them. Lines with one invalid word must be
+refused.
 
     tests/import.py PROGRAM HISTORIES
     tests/import.py FOLDER
 
-PROGRAM is the built tmwatch. Each history goes through intervals.py and through jepsen.py. The last line counts the histories and those
-that were violated. Exit status: 0 all agree; 1 one does not, which is printed.
-In each folder of FOLDER are the words of a command of examples/import, a line each, and its input. It gets output, errors and status.
+PROGRAM is the built tmwatch. Each history passes through intervals.py and through jepsen.py. The last line has the number of histories, and
+of those that were violated.
+Exit status: 0 if all agree; 1 if one does not, which is printed.
+
+The folders in FOLDER contain the arguments of a command of examples/import, a line each, and its input. Each folder receives the output,
+the errors and the status.
 """
 import importlib.util
 import json

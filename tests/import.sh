@@ -1,13 +1,13 @@
 #!/usr/bin/env bash
-# Turns small histories into traces by examples/import, and judges these by strict serializability; decides them by whole.py; and gives broken
-# ones to both, which have to refuse them. Each history is made for its row. Then verdicts on random histories are those of all orders
-# (import.py).
+# Converts small histories to traces with examples/import, and judges these under strict serializability; checks them as a whole with
+# whole.py; and gives invalid ones to both, which must refuse them. Each history was written for its test case. Then compares the verdicts
+# on random histories with those that all serial orders give (import.py).
 #
 #   tests/import.sh
 #
-# The last line is 'N passed, M failed', and the exit status is 1 if a row failed. Without python3 nothing is tested: a line says so, and
-# the status is 0.
-# Environment: HISTORIES (300), how many are random.
+# The last line is 'N passed, M failed', and the exit status is 1 if a test case failed. Without python3, nothing is tested: a line says so,
+# and the status is 0.
+# Environment: HISTORIES (300), the number of random ones.
 set -eu
 # shellcheck source=tests/common.sh
 . "$(dirname "${BASH_SOURCE[0]}")/common.sh"

@@ -1,9 +1,11 @@
 #!/usr/bin/env python3
-"""Follows each link between files that the pages of a folder have, also to a heading. Links into the network are not followed.
+"""Follows each link from the pages of a folder to a file or a heading. Links to the internet are not followed.
 
     tests/links.py [FOLDER]
 
-The folder is the repository's, if none is named. A page is a *.md, unless it was built. Each link that leads nowhere is told. Exit status: 0 all lead somewhere, 1 one does not.
+Without FOLDER, it checks the repository. A page is a *.md file, unless it is in a folder of build output. Each link that leads nowhere is
+printed.
+Exit status: 0 if all links lead somewhere, 1 otherwise.
 """
 import os
 import re

@@ -1,12 +1,12 @@
 #!/usr/bin/env bash
-# Shows that the calls of the ring can't wait for a `Mutex`: it is locked through a value that may wait, and these calls have none. (A loop
-# over `try_lock` has a last turn, and waits no longer.) Nothing is proved.
+# Shows that the calls of the ring cannot wait for a `Mutex`: to lock one, a function needs a value that permits waiting, and these calls
+# have none. (A loop over `try_lock` has a bound, so it does not wait forever.) Nothing is proved.
 #
 #   tests/locks.sh
 #
-# In a copy of the crates, the bodies of `record`, `take`, `meet`, `meet_writers` and `settle` begin with a lock. The compiler has to refuse
-# each of them, and in its words the lock. A line for each row. The last one is 'N passed, M failed', and the exit status is 1 if a row
-# failed.
+# In a copy of the crates, the bodies of `record`, `take`, `meet`, `meet_writers` and `settle` begin with a lock. The compiler must refuse
+# each of them, and its message must name the lock. Prints a line for each test case, and 'N passed, M failed' as the last line. The exit
+# status is 1 if a test case failed.
 set -eu
 # shellcheck source=tests/common.sh
 . "$(dirname "${BASH_SOURCE[0]}")/common.sh"

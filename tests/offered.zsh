@@ -1,6 +1,6 @@
-# Prints what zsh offers to complete a line with, a word per line: zsh -f tests/offered.zsh FOLDER LINE
+# Prints the completions that zsh offers for a line, one on each line: zsh -f tests/offered.zsh FOLDER LINE
 #
-# The folder has completions. The line is typed into a zsh of its own, whose `compadd` writes down what it is given.
+# FOLDER has the completions. LINE is typed into another zsh, whose `compadd` writes its arguments to a file.
 zmodload zsh/zpty || exit 1
 offered=$(mktemp -d) || exit 1
 trap 'rm -rf $offered' EXIT

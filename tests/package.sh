@@ -1,13 +1,13 @@
 #!/usr/bin/env bash
-# Makes the packages, installs them into folders, and uses there what was installed: the program, the library for C, the man pages and the
-# completions. Man pages and completions have the words of the program's help, and the functions and statuses of the library. Then
-# packaging/Dockerfile is followed in a root like that of a slim image (slim.py), of this machine's own files and without the kit: there the
-# commands of pages run as they are written (shown.py).
+# Makes the packages, installs them into folders, and uses what was installed: the program, the library for C, the man pages and the
+# completions. Man pages and completions must have the options of the program's help, and the functions and statuses of the library. Then
+# follows packaging/Dockerfile in a root like that of a slim image (slim.py), which consists of this machine's own files and has no kit.
+# There the commands of the pages run as they are written (shown.py).
 #
 #   tests/package.sh
 #
-# A line for each row. The last one is 'N passed, M failed', and the exit status is 1 if a row failed. What needs a missing tool is skipped,
-# and a line says so. Without a C compiler that is all, and the status is 0.
+# Prints a line for each test case, and 'N passed, M failed' as the last line. The exit status is 1 if a test case failed. Parts that need a
+# missing tool are skipped, and a line says so. Without a C compiler, all are, and the status is 0.
 # Environment: CC (cc), BUILT (tests/common.sh; without it the program is built too), ROUNDS (500, of the examples).
 # shellcheck disable=SC2016 # (what stands in single quotes is for awk and other shells)
 set -eu
@@ -79,6 +79,10 @@ fi
 if has dpkg-deb 'what dpkg-deb says'; then
     ends 'dpkg-deb reads each' 0 sh -c 'for it; do dpkg-deb -I "$it" && dpkg-deb -c "$it" || exit; done' sh "$folder"/once/*.deb
     tells 'the library that headers need' "libtmwatch0 (= $version)" 0 dpkg-deb -f "$folder/once/libtmwatch-dev_${version}_amd64.deb" Depends
+    for package in tmwatch libtmwatch0; do
+        tells "the C library that $package needs, by README.md" "$(sed -n 's/.* need \(libc6\) \([0-9.]*\) or newer.*/\1 (>= \2)/p' "$top/README.md")" 0 \
+            dpkg-deb -f "$folder/once/${package}_${version}_amd64.deb" Depends
+    done
 fi
 library=$root/usr/lib/x86_64-linux-gnu pages=$root/usr/share/tmwatch
 # What a package has, but for copyrights and the like.
@@ -124,14 +128,14 @@ tells show '{"at":6,"events":6,"verdict":"violated"}
     state  1
     event  thread 0       thread 1
         5                 T1 R 0
-        6                    V 0    violated, by opacity' 1 "$installed" show <"$examples/stale_read.trace"
+        6                    V 0    violates opacity' 1 "$installed" show <"$examples/stale_read.trace"
 tells 'judge, by tar' '{"at":4,"events":8,"verdict":"violated"}' 1 "$prefix/bin/tmwatch" judge <"$examples/dirty_read.trace"
 
 # The bench by lines.
 ends 'the bench by lines that was built' 0 cmp "$built/bin/tmwatch-bench" "$root/usr/bin/tmwatch-bench"
 if has python3 'the bench by lines'; then
-    ends 'the bench by lines' 0 "$root/usr/bin/tmwatch-bench" --one --schedule steps --rounds 50 -- python3 "$examples/python/memory.py"
-    ends 'the bench by lines, a wrong memory' 1 "$prefix/bin/tmwatch-bench" --one -- python3 "$examples/python/memory.py" reads
+    ends 'the bench by lines' 0 "$root/usr/bin/tmwatch-bench" --single-process --schedule steps --rounds 50 -- python3 "$examples/python/memory.py"
+    ends 'the bench by lines, a wrong memory' 1 "$prefix/bin/tmwatch-bench" --trace "$folder/left" --single-process -- python3 "$examples/python/memory.py" reads
 fi
 
 # The library: its names and links, and programs in C that are linked against it.
@@ -219,7 +223,7 @@ if has cmake 'projects of CMake'; then
         ends "CMake, ${at##*/}: a watch" 0 "$folder/cmake/audit" "$rounds"
         ends "CMake, ${at##*/}: a bench" 0 "$folder/cmake/norec" --rounds "$rounds"
         ends "CMake, ${at##*/}: steps" 0 "$folder/cmake/marked" --schedule steps --rounds "$rounds"
-        has_told "CMake, ${at##*/}: steps are seen" '"rescues":0,.*"switches":[1-9]'
+        has_told "CMake, ${at##*/}: steps are seen" '"context_switches":[1-9].*"stalls":0,'
         tells "CMake, ${at##*/}: what is wrapped" "$wrapped" 0 sh -c 'grep -o -e "--wrap=[^, ]*" "$1" | cut -d= -f2 | LC_ALL=C sort' \
             sh "$folder/cmake/CMakeFiles/marked.dir/link.txt"
     done
@@ -377,8 +381,9 @@ benched() {
 listed=$(grep -oE -- '^--[a-z-]+|--version' "$folder/benched" | in_line)
 tells 'bash: options of tmwatch-bench' "$(in_line <<<"-- $listed")" 0 benched --
 tells 'bash: schedules' 'all permits rounds steps' 0 benched --schedule ''
+tells 'bash: values' 'small wide' 0 benched --values ''
 tells 'bash: a command for tmwatch-bench' '' 0 benched --setup ''
-tells 'bash: a program' '' 0 benched --one -- --
+tells 'bash: a program' '' 0 benched --single-process -- --
 if has zsh 'completion of tmwatch-bench by zsh'; then
     by_zsh_benched() {
         PATH="$root/usr/bin:$PATH" by_zsh tmwatch-bench --
@@ -429,8 +434,6 @@ if has_slim; then
     ends 'a slim image leaves out' 2 in_slim ls /usr/share/doc/tmwatch/changelog.gz /usr/share/man/man1/tmwatch.1.gz
     ends 'a slim image has no kit' 127 in_slim sh -c 'rt version'
     ends "a module on Python's path" 0 in_slim sh -c 'cd / && python3 -c "import tmwatch_store"'
-    # (the README says in words how its memory is compiled)
-    ends "the README's memory" 0 in_slim sh -c "cd $home && $(grep -o 'cc .*-DFAULT=READS .*' "$slim/$home/docs/C-BENCH.md")"
     # What pages take as yours: packages and a folder, a run and its recorder, a history.
     cp "$folder"/once/* "$slim/$home" && mkdir "$slim/$home/PREFIX"
     cp "$pages/examples/two_writers.trace" "$slim/$home/run.trace"

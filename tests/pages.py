@@ -1,13 +1,13 @@
 #!/usr/bin/env python3
-"""Checks the blocks of a page: what is code in it is run, compiled, or found in what is proved or tested.
+"""Checks the blocks of a page: code in it is run, compiled, or found in the sources or tests.
 
     tests/pages.py PAGE
 
-A block is lines that begin with four blanks. What it begins with says what it is, and by that what is done with it (READERS). Commands
-after `$ ` are not run here: tests/package.sh runs those of all pages. A block of columns or arrows is a table or a drawing. Any other one
-that nobody reads here is a fault.
-Exit status: 0 all hold; 1 one does not, which is printed.
-Environment: CC (cc); BENCH, the built tmwatch-bench, without which a program for it is not run.
+A block is a sequence of lines that begin with four blanks. Its beginning determines its kind, and therefore how it is checked (READERS).
+Commands after `$ ` are not run here; tests/package.sh runs those of all pages. A block of columns or arrows is a table or a drawing. Any
+other block that no reader accepts is an error.
+Exit status: 0 if all blocks are right; 1 if one is not, which is printed.
+Environment: CC (cc); BENCH, the built tmwatch-bench, without which programs for it are not run.
 """
 import glob
 import json
@@ -22,7 +22,7 @@ COMMENT = re.compile(r"(?<=\S)   +\S.*|\s*//.*")
 # What the sample of docs/C.md takes from its program.
 CONTEXT = """#include <tmwatch.h>
 static uint64_t value, judged;
-static tmwatch_told told;
+static tmwatch_result result;
 static tmwatch_counts counts;
 """
 
@@ -105,7 +105,7 @@ def in_shell(lines):
                 it.write(text)
             os.chmod(f"{folder}/{name}", 0o755)
         path = {**os.environ, "PATH": f"{os.path.dirname(bench)}:{os.environ['PATH']}"}
-        return run(["./script", "--one", "--schedule", "steps", "--rounds", "20"], cwd=folder, env=path)
+        return run(["./script", "--single-process", "--schedule", "steps", "--rounds", "20"], cwd=folder, env=path)
 
 
 def in_yaml(lines):
@@ -167,7 +167,7 @@ def in_traces(lines):
 
 def in_outputs(lines):
     """What a program prints stands in its source or in a test, part by part, whatever the numbers, the quotes and the version."""
-    text = text_of("crates/*/src/**/*.rt", "bench-lines/*.c", "tests/*.sh", "tests/rows/*")
+    text = text_of("crates/*/src/**/*.rt", "bench-c/*.c", "bench-lines/*.c", "tests/*.sh", "tests/rows/*")
     number = re.compile(r"\d+(\.\d+)*|VERSION")
     parts = [part for line in lines for part in re.split(r'"[^"]*"|[:;] ', number.sub("#", line))]
     return missing(parts, number.sub("#", text))
@@ -192,7 +192,7 @@ READERS = (
     (r"event  thread", in_traces),
     (r"ring-steps ", in_steps),
     (r"\w+ [^=<]*=( |$)|pub record|EndsBy", in_specs),
-    (r"error: |thread \d, |tmwatch |\d+ \w+, |  (violated|undecided)", in_outputs),
+    (r"error: |thread \d, |tmwatch |\d+ \w+, |no second run |  (violates|undecided)", in_outputs),
     (r"", are_columns),
 )
 

@@ -1,12 +1,12 @@
 #!/usr/bin/env bash
-# Runs the tests, and the rows that are quick, on a program and a library for C that are built unproved. Nothing is proved, and no program
-# is left.
+# Runs the tests, and the quick test cases, with a program and a library for C that are built unproved. Nothing is proved, and no program is
+# left behind.
 #
 #   tests/quick.sh
 #
-# Each failed row is printed, and for each part how many passed and failed, and its seconds. The last lines are 'N passed, M failed', and
-# that nothing was proved. The exit status is 1 if one failed.
-# Environment: SECONDS_EACH (300, that a test may take).
+# Prints each test case that fails, and for each part how many passed and failed, and its seconds. The last lines are 'N passed, M failed',
+# and that nothing was proved. The exit status is 1 if one failed.
+# Environment: SECONDS_EACH (300), the time limit of a test.
 set -eu
 # shellcheck source=tests/common.sh
 . "$(dirname "${BASH_SOURCE[0]}")/common.sh"

@@ -1,19 +1,20 @@
 #!/usr/bin/env bash
-# Checks what files of the repository say of each other. Nothing is built.
+# Checks that the files of the repository are consistent with each other. Nothing is built.
 #
 #   tests/repository.sh
 #   tests/repository.sh FILE
 #
-# - crates.txt, from top to bottom: a crate stands on crates above it. Crates of the kit have no line there.
-# - Each link of a page leads to a file and a heading that are there (tests/links.py).
-# - CONTRIBUTING.md says in its table what each entry of the top folder is.
-# - The version of the program's specification, which builds and tests read, is that of the program's source, of the package in Rust and
-#   of the newest heading in CHANGELOG.md. No other file has it.
-# - What a wrong body of edits/ or must-fail/ replaces is there.
-# - Sources in C and C++ are laid out as .clang-format says. (Only version 14 of clang-format is asked: others lay some lines out otherwise.)
-# FILE is another crates.txt, which alone is checked.
+# - crates.txt, from top to bottom: a crate depends only on crates above it. Crates of the kit have no line there.
+# - Each link of a page leads to an existing file and heading (tests/links.py).
+# - The table in CONTRIBUTING.md explains each entry of the top folder.
+# - The version in the program's specification, which builds and tests read, is also that of the program's source, of the Rust package and
+#   of the newest heading in CHANGELOG.md. No other file contains it.
+# - The lines that the mutants of edits/ and must-fail/ replace exist.
+# - Sources in C and C++ are laid out as in .clang-format. (Only version 14 of clang-format is used, because others lay some lines out
+#   differently.)
+# FILE is another crates.txt, and then only that is checked.
 #
-# A row prints what is wrong. The last line is 'N passed, M failed', and the exit status is 1 if a row has failed.
+# A test case prints the problem. The last line is 'N passed, M failed', and the exit status is 1 if a test case failed.
 set -eu
 # shellcheck source=tests/common.sh
 . "$(dirname "${BASH_SOURCE[0]}")/common.sh"
@@ -51,7 +52,7 @@ unexplained() {
     done
 }
 
-# Prints each wrong body with a line to be replaced that its file doesn't have.
+# Prints each mutant that replaces a line which its file does not have.
 unfit_edits() {
     local edit crate file line
     for edit in "$top"/edits/*/*.edit "$top"/crates/*/must-fail/*.edit; do
@@ -85,7 +86,7 @@ ends 'edges of crates.txt' 0 edges_go_down "${1:-$top/crates.txt}"
 if [ $# -eq 0 ]; then
     ends 'links of pages' 0 python3 "$top/tests/links.py"
     ends 'entries of the top folder' 0 diff - <(unexplained) </dev/null
-    ends 'what wrong bodies replace' 0 diff - <(unfit_edits) </dev/null
+    ends 'lines that mutants replace' 0 diff - <(unfit_edits) </dev/null
     if has clang-format 'the style of C'; then
         case $(clang-format --version) in
         *' version 14.'*) ends 'the style of C' 0 xargs clang-format --dry-run --Werror < <(sources_in_c) ;;

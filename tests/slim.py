@@ -1,10 +1,11 @@
 #!/usr/bin/env python3
-"""Makes the root of a slim image of Debian from this machine's own files: its essential packages, some others, and what these depend on.
+"""Makes the root of a slim image of Debian from this machine's own files: its essential packages, some others, and their dependencies.
 
     tests/slim.py FOLDER PACKAGE..
 
-What slim images leave out is left out, and dpkg leaves it out there too. No package is configured: there are /etc/alternatives, and root.
-Exit status: 0 all is there; 1 a package is missing here, which a line names.
+The files that slim images leave out are left out, and dpkg leaves them out there too. No package is configured; only /etc/alternatives and
+root exist.
+Exit status: 0 if all files are there; 1 if a package is missing on this machine, which a line names.
 """
 import fnmatch
 import os

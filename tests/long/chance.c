@@ -1,6 +1,6 @@
 /*
-Refuses growths of memory by chance, for tests/long/stops.sh, which loads it with a program (LD_PRELOAD): one in ONE_IN, drawn from SEED.
-A program that Rattle builds takes all of its memory by malloc and realloc of the C library.
+Makes allocations fail at random, for tests/long/stops.sh, which loads it with a program (LD_PRELOAD): one in ONE_IN, chosen by SEED. A
+program that Rattle builds allocates all of its memory with malloc and realloc of the C library.
 */
 #include <errno.h>
 #include <stdatomic.h>

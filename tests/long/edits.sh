@@ -1,13 +1,13 @@
 #!/usr/bin/env bash
-# Tries the wrong bodies of edits/: the prover must refuse each. Run it before a release, and when a contract changes. The gate tries those
-# of crates/*/must-fail.
+# Tries the mutants of edits/: the prover must refuse each. Run it before a release, and when a contract changes. The gate tries those of
+# crates/*/must-fail.
 #
 #   tests/long/edits.sh [CRATE..]
 #
-# Without words it tries those of all crates: some four hours of processor time. The gate, `rt ci`, proves the crates in a copy, with those
-# that they stand on, where these edits take the place of its own. An edit has a line if it is not refused, or refused only because a name
-# is gone or the prover's limit is met. What the prover said of each is in edits/log. The last line is 'N refused, M by a name or limit
-# alone, K not refused'. The exit status is 1 if K is above 0.
+# Without arguments it tries those of all crates, which takes some four hours of processor time. The gate, `rt ci`, proves the crates in a
+# copy, with the crates that they depend on, where these mutants replace its own. A mutant has a line if it is not refused, or is refused
+# only because a name is gone or the prover's limit is exceeded. The prover's output for each is in edits/log. The last line is 'N refused,
+# M by a name or limit alone, K not refused'. The exit status is 1 if K is above 0.
 set -eu
 # shellcheck source=tests/common.sh
 . "$(dirname "${BASH_SOURCE[0]}")/../common.sh"

@@ -1,18 +1,20 @@
 #!/usr/bin/env bash
-# Puts the systems of examples/field on the bench by lines, and prints the table of docs/FIELD.md. Servers are started in folders of their own,
+# Runs the systems of examples/field with tmwatch-bench, and prints the table of docs/FIELD.md. Servers are started in folders of their own,
 # on sockets, and ended.
 #
 #   tests/long/field.sh [NAME..]
 #
-# NAME is a folder of examples/field. Without one, all are run. A row has up to three registers or more, as drawn, or one if it says (1): in
-# which round a run by default was violated, or after how many it was opaque so far, and its seconds; whether the words that repeat it for
-# certain gave the same trace, or `-` if there are none; by which criteria the plain definitions (whole.py) find another run violated, by steps,
-# which goes on after a violation; of a hundred transactions of that, how many overlapped another thread's and how many were rolled back
-# unasked. A row fails if other runs are violated than is wanted, if no transactions overlapped, or if the bench has a fault. A system is skipped if a package of Debian is missing: a line names it.
+# NAME is a folder of examples/field. Without one, all are run. Up to three registers are used, or more if the seed chooses so, or one if
+# the test case says (1). A test case prints the round in which a run with default options was violated, or after how many it was opaque so
+# far, and its seconds; whether the options of a deterministic reproducer gave the same trace, or `-` if there is none; under which criteria
+# the plain definitions (whole.py) find another run violated, which uses --schedule steps and continues after a violation; and, of a hundred
+# transactions of that run, how many overlapped one of another thread and how many were forced to abort. It fails if not exactly the
+# expected runs are violated, if no transactions overlapped, or if the bench has a fault. A system is skipped if a package of Debian is
+# missing: a line names it.
 #
-# The last line is 'N passed, M failed'. The exit status is 1 if a row failed, and 2 for another name.
-# Environment: ROUNDS (1000), of a run; SECONDS_EACH (120), at most; BUILT (tests/common.sh), TMWATCH_BENCH, the bench (built/bin/tmwatch-bench);
-# DRAWN, a folder for the trace of each row that is violated.
+# The last line is 'N passed, M failed'. The exit status is 1 if a test case failed, and 2 for another name.
+# Environment: ROUNDS (1000), of a run; SECONDS_EACH (120), at most; BUILT (tests/common.sh), TMWATCH_BENCH, the bench
+# (built/bin/tmwatch-bench); DRAWN, a folder for the trace of each test case that is violated.
 set -eu
 # shellcheck source=tests/common.sh
 . "$(dirname "${BASH_SOURCE[0]}")/../common.sh"
@@ -48,7 +50,7 @@ number() {
 bench() {
     local began=$EPOCHREALTIME
     status=0
-    timeout $((seconds + 60)) "${command[@]}" --seconds "$seconds" --patience 30 "$@" >"$folder/printed" 2>"$folder/said" || status=$?
+    timeout $((seconds + 60)) "${command[@]}" --seconds "$seconds" --timeout 30 "$@" >"$folder/printed" 2>"$folder/said" || status=$?
     took=$(since "$began")
     tail -n 5 "$folder/said" >>"$folder/ends"
 }
@@ -62,10 +64,10 @@ told() {
     esac
 }
 
-# Whether the words that repeat the run for certain give the same trace.
+# Whether the options that reproduce the run give the same trace.
 repeats() {
     local words
-    words=$(sed -n 's/.*"again":"\(.*\)","certain":true}$/\1/p' "$folder/printed")
+    words=$(sed -n 's/.*"reproduce":"\(.*\)"}$/\1/p' "$folder/printed")
     [ -n "$words" ] || { echo - && return; }
     # shellcheck disable=SC2086
     bench $words --trace "$folder/again"
@@ -94,23 +96,23 @@ record() {
     by_default=$(told)
     [ $status -ne 1 ] || [ -z "${DRAWN:-}" ] || cp "$folder/trace" "$DRAWN/$(tr -cs '[:alnum:].\n' - <<<"$system $level").trace"
     again=$(repeats)
-    bench --schedule steps --rounds $((rounds / 10)) --whole "$folder/whole"
+    bench --schedule steps --rounds $((rounds / 10)) --full-trace "$folder/whole"
     all=$(number transactions)
     found=$(violated_by)
     case $wanted:$by_default in all:\** | none:[0-9]* | any:[0-9*]*) ;; *) passes=FAILED ;; esac
     case ,$criteria, in *",$found,"* | *,any,*) ;; *) passes=FAILED ;; esac
-    [ "$(number overlapping)" -gt 0 ] || passes=FAILED
+    [ "$(number concurrent)" -gt 0 ] || passes=FAILED
     # (words, and no names of files)
     set -f
     # shellcheck disable=SC2086
     row '%-20s %-34s %6s %6s %5s %-15s %3d %3d %s' "$system" "$level" $by_default "$again" "$found" \
-        $((100 * $(number overlapping) / (all + !all))) $((100 * $(number unasked) / (all + !all))) $passes
+        $((100 * $(number concurrent) / (all + !all))) $((100 * $(number forced_aborts) / (all + !all))) $passes
     set +f
     [ $passes = passed ] || cat "$folder/ends"
 }
 
 printf '%-20s %-34s %13s %5s %-15s\n' '' '' 'by default' '' 'whole run'
-printf '%-20s %-34s %6s %6s %5s %-15s %3s %3s\n' system level round sec again 'violated by' met back
+printf '%-20s %-34s %6s %6s %5s %-15s %3s %3s\n' system level round sec same 'violated by' met back
 one=(--registers 1)
 if system ghc 'GHC STM' "$(version_of ghc)"; then
     record atomically all opacity "$field/ghc/run"

@@ -1,12 +1,12 @@
 #!/usr/bin/env bash
-# Has the bench in C find faults by four jobs, and make what it finds smaller: each certain find repeats byte for byte by its words alone, in
-# one process: the trace, its steps and its event.
+# Lets four jobs of the bench in C find violations, and shrinks these. The options of each deterministic reproducer must reproduce it byte
+# for byte in one process: the trace, its steps and its event.
 #
 #   tests/long/finds.sh
 #
-# A row for each way says how many finds there were, how many were certain, and how many of these didn't repeat; and the median length of
-# their traces. The last line is 'N passed, M failed', and the exit status is 1 if a row failed.
-# Environment: SEEDS (10, of each fault by each way), LIMIT (60, the seconds of a hunt), FAULTS, CC (cc), BUILT (tests/common.sh).
+# A test case for each way says how many violations there were, how many of them were deterministic, and how many of these were not
+# reproduced; and the median length of their traces. The last line is 'N passed, M failed', and the exit status is 1 if a test case failed.
+# Environment: SEEDS (10, of each fault in each way), LIMIT (60, the seconds of a search), FAULTS, CC (cc), BUILT (tests/common.sh).
 set -eu
 # shellcheck source=tests/common.sh
 . "$(dirname "${BASH_SOURCE[0]}")/../common.sh"
@@ -21,12 +21,12 @@ for fault in "${faults[@]}"; do
 done
 
 event() {
-    sed -n 's/.*with --event \([0-9]*\) before.*/\1/p' "$1"
+    sed -n 's/.*: add --event \([0-9]*\), then.*/\1/p' "$1"
 }
-# Whether a find of $folder/one comes again, in $folder/two.
+# Whether the violation of $folder/one is reproduced, in $folder/two.
 repeats() {
     local words
-    read -r -a words < <(sed -n 's/^{"again":"\(.*\)","certain":true}$/\1/p' "$folder/one.told")
+    read -r -a words < <(sed -n 's/^{"deterministic":true,"reproduce":"\(.*\)"}$/\1/p' "$folder/one.told")
     rm -f "$folder/two.steps"
     ! "$folder/$1" "${words[@]}" --trace "$folder/two" >"$folder/two.told" 2>&1 || return 1
     cmp -s "$folder/one" "$folder/two" && cmp -s "$folder/one.steps" "$folder/two.steps" && [ "$(event "$folder/one.told")" = "$(event "$folder/two.told")" ]
@@ -43,11 +43,11 @@ finds() {
             rm -f "$folder/one.steps"
             ! "$folder/$fault" --seed "$seed" --seconds "${LIMIT:-60}" --trace "$folder/one" "${@:2}" >"$folder/one.told" 2>&1 || continue
             found=$((found + 1))
-            grep -q '"certain":true' "$folder/one.told" || continue
+            grep -q '"deterministic":true' "$folder/one.told" || continue
             certain=$((certain + 1))
             ! grep -q -- '--seed [1-9]0000' "$folder/one.told" || others=$((others + 1))
             wc -l <"$folder/one" >>"$folder/events"
-            repeats "$fault" || { wrong=$((wrong + 1)) && echo "$fault, seed $seed: another run by $(grep '"again"' "$folder/one.told")"; }
+            repeats "$fault" || { wrong=$((wrong + 1)) && echo "$fault, seed $seed: another run by $(grep '"reproduce"' "$folder/one.told")"; }
         done
     done
     local passes=passed
@@ -56,5 +56,5 @@ finds() {
         "$(median "$folder/events")" $passes
 }
 finds jobs --jobs 4
-finds smaller --jobs 4 --smaller
+finds smaller --jobs 4 --shrink
 end_rows

@@ -1,11 +1,11 @@
 #!/usr/bin/env bash
-# Hunts for violations: `tmwatch bench` runs examples/hunt.json on each of the three memories.
+# Searches for violations: `tmwatch bench` runs examples/hunt.json on each of the three memories.
 #
 #   tests/long/hunt.sh
 #
-# A line for each memory says how many of its runs were violated, opaque so far, or anything else; the least and the most events up to a
-# violation; and the seconds of all runs. The exit status is 0 if each run of `torn` was violated, and each of `norec` and `lock` opaque so
-# far; else 1.
+# A line for each memory says how many of its runs were violated, opaque so far, or anything else; the least and the greatest number of
+# events up to a violation; and the seconds of all runs. The exit status is 0 if each run of `torn` was violated, and each of `norec` and
+# `lock` opaque so far; otherwise 1.
 # Environment: RUNS (20), ROUNDS (100000, of a run), WORKLOAD (examples/hunt.json).
 set -eu
 # shellcheck source=tests/common.sh

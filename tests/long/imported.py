@@ -1,12 +1,12 @@
 #!/usr/bin/env python3
-"""Makes histories of clients that run freely on a store of registers, and compares what examples/import/whole.py says of them.
+"""Makes histories of clients that run freely on a store of registers, and checks the result of examples/import/whole.py.
 
-    imported.py judge PROGRAM NUMBER    with the verdict of PROGRAM, where that decides it, and the transaction that ends at its event
-    imported.py stale LENGTH            with eleven stale reads, each planted alone into a right history of so many transactions
-    imported.py jepsen LENGTH           writes a right history of ten clients, as Jepsen does
+    imported.py judge PROGRAM NUMBER    compares it with the verdict of PROGRAM, if that decides, and the transaction that ends at its event
+    imported.py stale LENGTH            adds eleven stale reads, one at a time, to a correct history of LENGTH transactions
+    imported.py jepsen LENGTH           writes a correct history of ten clients in the format of Jepsen
     imported.py intervals LENGTH        the same as intervals
 
-Exit status: 0 all is as it has to be; 1 it is not, and the history is written.
+Exit status: 0 if all results are right; 1 if one is not, and then the history is written.
 """
 import heapq
 import json

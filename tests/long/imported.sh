@@ -1,11 +1,13 @@
 #!/usr/bin/env bash
-# Compares examples/import/whole.py with the plain definitions on many small histories, with `judge --criterion strict` wherever that decides
-# histories of clients that run freely, and plants stale reads (imported.py).
+# Compares examples/import/whole.py with the plain definitions on many small histories, and with `judge --criterion strict` if that decides
+# histories of clients that run freely; and tests that it finds stale reads (imported.py).
 #
 #   tests/long/imported.sh
 #
-# Each row's last line says what was compared. The last line is 'N passed, M failed', and the exit status is 1 if a row failed.
-# Environment: HISTORIES (20000), how many are small; JUDGED (600), how many are for judge; TRANSACTIONS (100000), of the longest ones.
+# The last line of each test case says what was compared. The last line of all is 'N passed, M failed', and the exit status is 1 if a test
+# case failed.
+# Environment: HISTORIES (20000), the number of small ones; JUDGED (600), the number of those for judge; TRANSACTIONS (100000), of the
+# longest ones.
 set -eu
 # shellcheck source=tests/common.sh
 . "$(dirname "${BASH_SOURCE[0]}")/../common.sh"

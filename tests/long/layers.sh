@@ -1,13 +1,13 @@
 #!/usr/bin/env bash
-# Compares what the search finds of 40,000 random windows with what their layers tell.
+# Compares the search's results for 40,000 random windows with those of their layers.
 #
 #   tests/long/layers.sh
 #
-# tests/long/layers.txt, a program in Rattle that is not proved, makes windows of at most eight transactions over three registers. Of each,
-# `layer` walks all sets of transactions and all states, as the definition does. `possible` and `outcomes` have to find the same.
+# tests/long/layers.txt, a program in Rattle that is not proved, makes windows of at most eight transactions over three registers. For each,
+# `layer` visits all sets of transactions and all states, as the definition does. `possible` and `outcomes` must have the same results.
 #
-# If one differs, the windows that do are printed, and the counts. The last line is 'N passed, M failed'. The exit status is 1 if one
-# differed, or if none was without an order.
+# If a window differs, all that differ are printed, and the counts. The last line is 'N passed, M failed'. The exit status is 1 if one
+# differed, or if no window was without a serial order.
 set -eu
 # shellcheck source=tests/common.sh
 . "$(dirname "${BASH_SOURCE[0]}")/../common.sh"

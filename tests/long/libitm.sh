@@ -1,12 +1,12 @@
 #!/usr/bin/env bash
-# Builds examples/libitm and judges its runs: transactions of GCC's libitm by each of its methods, and the same transactions over a
-# little memory in its place, whole and with a part left out.
+# Builds examples/libitm and judges its runs: transactions of GCC's libitm with each of its methods, and the same transactions on a small
+# memory instead, complete and with a part left out.
 #
 #   tests/long/libitm.sh
 #
-# Rows as of tests/long/recorders.sh, and after each method's how many attempts were rolled back. The last line is 'N passed, M failed'. The
-# exit status is 1 if a row failed, and 2 if gcc builds no transactions.
-# Environment: RUNS (5), ROUNDS (1000), CC (gcc). The little memory needs x86-64.
+# The test cases are like those of tests/long/recorders.sh; after each method they say how many attempts were rolled back. The last line is
+# 'N passed, M failed'. The exit status is 1 if a test case failed, and 2 if gcc cannot compile transactions.
+# Environment: RUNS (5), ROUNDS (1000), CC (gcc). The small memory needs x86-64.
 set -eu
 # shellcheck source=tests/common.sh
 . "$(dirname "${BASH_SOURCE[0]}")/../common.sh"

@@ -1,12 +1,12 @@
 #!/usr/bin/env bash
-# Watches transactions of GCC's libitm in their own process, by the recorder of examples/c: its methods, and the little memory in its place,
-# whole and with a part left out.
+# Watches transactions of GCC's libitm in their own process, with include/tmwatch/watched.h: its methods, and a small memory instead,
+# complete and with a part left out.
 #
 #   tests/long/libitm_watched.sh
 #
-# A row says how often each verdict and exit status came, of RUNS runs. The last line is 'N passed, M failed'. The exit status is 1 if a row
-# had others than it has to have, and 2 if gcc builds no transactions.
-# Environment: RUNS (5), ROUNDS (1000), CC (gcc), BUILT (tests/common.sh). The little memory needs x86-64.
+# A test case says how often each verdict and exit status occurred in RUNS runs. The last line is 'N passed, M failed'. The exit status is 1
+# if a test case had others than it must have, and 2 if gcc cannot compile transactions.
+# Environment: RUNS (5), ROUNDS (1000), CC (gcc), BUILT (tests/common.sh). The small memory needs x86-64.
 set -eu
 # shellcheck source=tests/common.sh
 . "$(dirname "${BASH_SOURCE[0]}")/../common.sh"

@@ -1,18 +1,18 @@
 #!/usr/bin/env bash
-# Runs transactional memories on the bench for memories in C, by each schedule and by all in turn: right ones, and ones with a known fault.
+# Runs transactional memories on the bench in C with each schedule, including `all`: correct ones, and ones with a known fault.
 #
 #   tests/long/memories.sh
 #
-# A row for each memory and schedule says how many seeds came out opaque so far, violated, undecided, malformed, stuck and other; the median
-# of the rounds of the violated ones; how many rounds a second were run; and the seconds of all. A run is stuck if the bench says so within
-# ten seconds. It is other if it ends without a verdict otherwise, if it takes 300 seconds, or if it is opaque so far and shows little: not all
-# rounds were run, no two transactions overlapped, or a thread that the bench should see waited unseen (a rescue).
-# A right memory passes if all its seeds are opaque so far, and one that loses progress if all are stuck. A broken one has 20 seconds, and
-# passes by all if all seeds are violated; by a single schedule its row only tells. Standard error has a line for each seed that came out
-# otherwise.
-# What can't be built here is skipped, and a line says so. The last line is 'N passed, M failed', and the exit status is 1 if one failed.
-# Environment: BUILT (tests/common.sh), SEEDS (10), SECONDS_OF_BROKEN (20), RIGHT_ROUNDS (20000; libitm: a tenth), ONLY (a pattern: the rows
-# whose kind and name have it), SCHEDULES (all steps rounds permits), CC (cc), CXX (c++), CARGO (cargo).
+# A test case for each memory and schedule says how many seeds were opaque so far, violated, undecided, malformed, stuck and other; the
+# median number of rounds of the violated ones; the rounds a second; and the seconds of all. A run is stuck if the bench reports that within
+# ten seconds. It is other if it ends without a verdict in another way, if it takes 300 seconds, or if it is opaque so far but shows little:
+# not all rounds were run, no two transactions overlapped, or a thread that the bench should see waited unseen (a stall). A correct memory
+# passes if all its seeds are opaque so far, and one that makes no progress if all are stuck. A broken one has 20 seconds. With `all`, it
+# passes if all seeds are violated; with a single schedule, its line is only for information. Standard error has a line for each seed with
+# another result. Memories that cannot be built here are skipped, and a line says so. The last line is 'N passed, M failed', and the exit
+# status is 1 if one failed.
+# Environment: BUILT (tests/common.sh), SEEDS (10), SECONDS_OF_BROKEN (20), RIGHT_ROUNDS (20000; libitm: a tenth), ONLY (a pattern: the test
+# cases whose kind and name match it), SCHEDULES (all steps rounds permits), CC (cc), CXX (c++), CARGO (cargo).
 set -eu
 # shellcheck source=tests/common.sh
 . "$(dirname "${BASH_SOURCE[0]}")/../common.sh"
@@ -65,13 +65,13 @@ outcome() {
     case "$1 $line" in
     '0 {'*'"verdict":"opaque so far"}')
         [ -z "$seconds" ] || { echo 0 && return; }
-        grep -q "\"rounds\":${rounds}[,}]" "$folder/output" && grep -q '"overlapping":[1-9]' "$folder/output" &&
-            { [ -n "$waits_unseen" ] || ! grep -q '"rescues":[1-9]' "$folder/output"; } && echo 0 || echo 5
+        grep -q "\"rounds\":${rounds}[,}]" "$folder/output" && grep -q '"concurrent":[1-9]' "$folder/output" &&
+            { [ -n "$waits_unseen" ] || ! grep -q '"stalls":[1-9]' "$folder/output"; } && echo 0 || echo 5
         ;;
     '1 {"at":'*'"verdict":"violated"}') echo 1 ;;
     '2 {"at":'*'"verdict":"undecided"'*) echo 2 ;;
     '3 {"at":'*'"verdict":"malformed"}') echo 3 ;;
-    '4 {"fault":"stuck"}') awk "BEGIN { print $2 < 10 ? 4 : 5 }" ;;
+    '4 {"fault":"hang"}') awk "BEGIN { print $2 < 10 ? 4 : 5 }" ;;
     *) echo 5 ;;
     esac
 }

@@ -1,12 +1,12 @@
 #!/usr/bin/env bash
-# Plants mistakes into the bench for memories in C, and runs right memories on it: so the bench itself is tested.
+# Mutates the bench for memories in C, and runs correct memories on it, in order to test the bench itself.
 #
 #   tests/long/mistakes.sh
 #
-# A row for each mistake and memory says how many of its seeds came out opaque so far, violated, undecided or malformed, or were refused by
-# the library or not done within 120 seconds. It says whether the mistake shows: at most one seed in ten is opaque so far. Without a mistake
-# each seed has to be opaque so far. Each mistake has to show with one memory at least. The last line is 'N passed, M failed'. The exit
-# status is 1 if one failed.
+# A test case for each mutant and memory says how many of its seeds were opaque so far, violated, undecided or malformed, or were refused by
+# the library, or not done within 120 seconds; and whether the mutant is killed, which means that at most one seed in ten is opaque so far.
+# Without a mutation, each seed must be opaque so far. Each mutant must be killed with at least one memory. The last line is 'N passed, M
+# failed'. The exit status is 1 if one failed.
 # Environment: BUILT (tests/common.sh), SEEDS (10), ROUNDS (20000), CC (cc), CXX (c++).
 set -eu
 # shellcheck source=tests/common.sh
@@ -59,6 +59,6 @@ mistake 'C is recorded before the commit' \
 mistake 'T is left out' '/has_asked = a->now.calls/{n;s/note_call(a);/if (a->has_asked) note_call(a);/}'
 mistake 'no barrier' 's/b->round == round; turns++/turns == 0; turns++/'
 mistake 'begins before the first call' \
-    's/if (!tmwatch_begins(a))$/if (!m->begin(m->memory, a->tx) || (pause_sometimes(a, 0), !tmwatch_begins(a)))/
+    's/if (!tmwatch_begin_attempt(a))$/if (!m->begin(m->memory, a->tx) || (pause_sometimes(a, 0), !tmwatch_begin_attempt(a)))/
     s/if (!m->begin(m->memory, a->tx))$/if (false)/'
 end_rows

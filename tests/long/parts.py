@@ -1,9 +1,9 @@
 #!/usr/bin/env python3
-"""Checks `tmwatch show --why` by the plain definitions, for tests/long/parts.sh, which says what is compared and what comes out.
+"""Checks `tmwatch show --why` against the plain definitions, for tests/long/parts.sh, whose head describes the checks and the output.
 
     tests/long/parts.py PROGRAM HISTORIES SEED
 
-Orders are sought in each permutation with each completion. A part is defined by its events, which keep their numbers.
+Serial orders are searched in each permutation with each completion. A counterexample is defined by its events, which keep their numbers.
 """
 import json
 import random
@@ -16,7 +16,7 @@ from itertools import permutations
 from histories import calls, ends, first_unlike, has_order, last_left, left_by, operation, random_history, trace_of, transactions, words
 from sentences import NOBODY, read_reason
 
-VERDICTS = {"opacity": ("opaque so far", "violated, by opacity"), "strict": ("strict so far", "violated, by strict serializability")}
+VERDICTS = {"opacity": ("opaque so far", "violates opacity"), "strict": ("strict so far", "violates strict serializability")}
 BROKEN = {
     "reads": "a write may go though its value is read",
     "pending": "a commit-pending transaction may go though its value is read",

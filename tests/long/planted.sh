@@ -1,14 +1,13 @@
 #!/usr/bin/env bash
-# Plants mistakes by measure/plant.py into what no proof covers, each of which the quickest test of the file has to notice: so these tests
-# are tested.
+# Mutates the unproved code with measure/plant.py. The quickest test of a file must kill its mutants, so this tests the tests.
 #
 #   tests/long/planted.sh [GROUP]..
 #
-# The GROUPs are bench, jobs, steps, model, rust, ci, import, recorder, recorders, lines and stores, or all. A row fails if more than one
-# mistake in ten survives in a file; survivors and tables stand before it. The last line is 'N passed, M failed', and the exit status is 1
-# if a row failed.
-# Environment: BUILT (tests/common.sh), NUMBER (20, mistakes of each file), SEED (1), JOBS (2), THEN (a command for mistakes in the bench in
-# C that are not noticed else, as tests/c_steps.sh).
+# The GROUPs are bench, jobs, steps, model, rust, ci, import, recorder, recorders, lines and stores; by default all. A test case fails if
+# more than one mutant in ten of a file survives; the survivors and tables precede it. The last line is 'N passed, M failed', and the exit
+# status is 1 if a test case failed.
+# Environment: BUILT (tests/common.sh), NUMBER (20, mutants of each file), SEED (1), JOBS (2), THEN (a command for mutants of the bench in C
+# that would survive otherwise, for example tests/c_steps.sh).
 set -eu
 # shellcheck source=tests/common.sh
 . "$(dirname "${BASH_SOURCE[0]}")/../common.sh"

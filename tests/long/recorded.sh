@@ -1,6 +1,6 @@
 # shellcheck shell=bash disable=SC2154
-# What tests/long/recorders.sh and tests/long/libitm.sh have in common: rows of recorded runs that are judged. They read it, and set top, the
-# repository's folder, and runs and rounds, how many runs a row has and how many rounds a run.
+# Functions that tests/long/recorders.sh and tests/long/libitm.sh share: test cases with recorded runs that are judged. The scripts source
+# this file, and set top, the repository's folder, and runs and rounds, the number of runs of a test case and the number of rounds of a run.
 
 [ -x "$program" ] || "$top/build"
 judge=$program

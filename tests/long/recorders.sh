@@ -1,13 +1,13 @@
 #!/usr/bin/env bash
-# Compiles the recorders of examples/recorders and runs them on little memories: right ones, ones without a part, and with events recorded
-# in wrong places.
+# Compiles the recorders of examples/recorders and runs them on small memories: correct ones, ones without a part, and with events that are
+# recorded at wrong moments.
 #
 #   tests/long/recorders.sh
 #
-# A row says how many of its runs were opaque so far, violated, undecided and malformed, then the same by strict serializability; the least
-# and the most events up to the verdict; all events; the seconds of the runs and of judging them. It passes if each run has the wanted
-# verdict by opacity and, if there is one, by strict serializability. Then comes what recording an event costs, which nothing judges. The
-# last line is 'N passed, M failed'. The exit status is 1 if a row failed.
+# A test case prints how many of its runs were opaque so far, violated, undecided and malformed, then the same under strict serializability;
+# the least and the greatest number of events up to the verdict; all events; the seconds of the runs and of judging them. It passes if each
+# run has the expected verdict under opacity and, if one is given, under strict serializability. The cost of recording an event follows, for
+# which there is no limit. The last line is 'N passed, M failed'. The exit status is 1 if a test case failed.
 # Environment: RUNS (10), ROUNDS (5000), CC (gcc), RUSTC (rustc).
 set -eu
 # shellcheck source=tests/common.sh

@@ -1,10 +1,10 @@
 #!/usr/bin/env bash
-# Soaks `tmwatch bench`: many runs of short workloads in small rings, from as many cells as there are scripts to 8.
+# Soaks `tmwatch bench`: many runs of short workloads in small rings, of as many cells as there are scripts, up to 8.
 #
 #   tests/long/soak.sh [RUNS]
 #
-# Each of RUNS (10000) has to end within LIMIT seconds, without a fault and not malformed. Its trace has to be judged as its report says. If
-# a thread's end is "done", the trace has to have its whole script: as many calls that begin a transaction as the script has transactions,
+# Each of RUNS (10000) must end within LIMIT seconds, without a fault and not malformed. Its trace must be judged as its report says. If a
+# thread's end is "done", the trace must contain its whole script: as many calls that begin a transaction as the script has transactions,
 # and as many answers as calls. The last line is 'N passed, M failed'. The exit status is 1 if a run failed.
 # Environment: LIMIT (20).
 set -eu

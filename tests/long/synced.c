@@ -1,4 +1,4 @@
-/* Keeps a copy of each file as it was when it was synced last, under its name and .synced: what a loss of power leaves. For LD_PRELOAD. */
+/* Stores a copy of each file as it was at its last sync, under its name and .synced: the state that a loss of power leaves. For LD_PRELOAD. */
 #define _GNU_SOURCE
 #include <fcntl.h>
 #include <limits.h>
