@@ -84,11 +84,12 @@ ends 'phases of any time: planted' 1 cmp -s "$top/bench-c/legs.c" "$folder/bench
 ends 'phases of any time compile' 0 "${marks[@]}" -o "$folder/timeless" "$folder/bench-c/tmwatch_bench.c" "$folder/lib/libtmwatch_bench.a" "$built/lib/libtmwatch.a"
 made NONE '--rounds 30050 --threads 1 --accesses 1 --registers 1 --print-phases' "$folder/timeless"
 made NONE '--schedule rounds --threads 1 --accesses 16 --mixed-rounds 0 --rounds 3000'
-# Threads that run as they may keep to their rounds, and to their permits.
+# Threads that run as they may keep to their rounds, and to their permits, and the memory itself is right by any of them.
 ends 'norec compiles' 0 "$cc" "${strict[@]}" -DTMWATCH_PAUSES -o "$folder/norec" "$top/examples/c/norec.c" "${bench[@]}"
 for schedule in rounds permits; do
     ends "norec, $schedule" 0 "$folder/norec" --schedule $schedule --rounds 2000
     has_told "norec, $schedule: has met" '"concurrent":[1-9]'
+    ends "the memory, $schedule" 0 "$folder/marks" --schedule $schedule --rounds 5000
 done
 # A program of any name; and a memory that is a library.
 cp "$folder/marks" "$folder/\"it's\" <1 & 2>"

@@ -72,15 +72,14 @@ static bool mark(struct tx *tx, unsigned reg)
     TMWATCH_PAUSE();
     unsigned long number = ++marked;
     stay(fault == BOTH ? BOTH : MARK, number);
-    if (marks[reg] == tx->self)
+    unsigned long owner = 0;
+    if (atomic_compare_exchange_strong(&marks[reg], &owner, tx->self)) {
+        tx->before[reg] = words[reg];
         return true;
-    if (marks[reg] != 0) {
-        cancel(NULL, tx);
-        return false;
     }
-    marks[reg] = tx->self;
-    tx->before[reg] = words[reg];
-    return true;
+    if (owner != tx->self)
+        cancel(NULL, tx);
+    return owner == tx->self;
 }
 
 static bool read(void *memory, void *tx, unsigned reg, uint64_t *value)
