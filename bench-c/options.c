@@ -43,7 +43,7 @@ static const struct option options[] = {
     {"Transactions (with --schedule all, random after the first 1000 rounds):", "", HEADING, ""},
     {"--threads", "1-8", TO(threads), "threads (4)"},
     {"--registers", "1-8", TO(registers), "registers (3)"},
-    {"--accesses", "1-16", TO(accesses), "registers that a transaction accesses (3)"},
+    {"--accesses", "1-16", TO(accesses), "accesses of a transaction, each to a random register (3)"},
     {"--writes", "0-100", TO(writes), "percent of reads followed by a write (50)"},
     {"--adds", "0-100", TO(adds), "percent of accesses that are adds (20)"},
     {"--aborts", "0-100", TO(aborts), "percent of transactions that abort on purpose (12)"},

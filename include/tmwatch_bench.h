@@ -1,12 +1,12 @@
 /*
 tmwatch_bench: tests a transactional memory that is written in C or C++. It runs rounds of random transactions in threads and records them,
-while a watch (tmwatch.h) judges the record.
+while a watch (tmwatch.h), which is an online judge, checks the record.
 
     static const tmwatch_memory memory = {&words, sizeof(struct my_tx), my_begin, my_read, my_write, NULL, my_commit, my_abort, NULL};
 
     TMWATCH_BENCH_MAIN(memory)
 
-This is a complete program. Or call the bench from a program of your own:
+With these functions defined, this is a complete program. Or call the bench from a program of your own:
 
     tmwatch_plan plan = TMWATCH_PLAN;
     tmwatch_bench_result result;
@@ -18,8 +18,8 @@ the bench; the verdict is the watch's.
 
 ROUNDS. In each round, every thread runs its share of transactions, and then all threads wait for one another. A transaction that is rolled
 back is retried, but a round has at most eight attempts, because a watch decides a run only if at most eight transactions lie between two
-quiescent points. In an even round, each thread runs one transaction. In a mixed round, one thread runs one long transaction, and others run
-several short ones.
+quiescent points. In an ordinary round, each thread runs one transaction. In a mixed round, one thread runs one long transaction, and others
+run several short ones.
 
 SCHEDULES. With TMWATCH_ROUNDS, the threads of a round run in parallel.
 
@@ -36,7 +36,7 @@ slept for fifty milliseconds, it lets another thread run as well. After two stal
 sends requests to another process has to report that (tmwatch_external_call).
 
 With TMWATCH_PERMITS, the threads run freely. Each attempt takes one of eight permits (tmwatch_permits.h), and a transaction is retried until
-it ends.
+it commits or reaches its abort request, or until plan.attempts is used up.
 
 With TMWATCH_ALL, phases of up to 1000 rounds follow one another. The first twenty use TMWATCH_STEPS. Of each twenty after that, one uses
 TMWATCH_ROUNDS, one TMWATCH_PERMITS, and the others TMWATCH_STEPS; but if the memory has no steps of its own, three of each four use
@@ -47,33 +47,32 @@ If the memory sends requests to another process (tmwatch_external_call), 1000 ro
 instead. At the beginning, phases with TMWATCH_STEPS follow one another until one has run for five seconds. Later ones end after one second,
 and those with TMWATCH_ROUNDS or TMWATCH_PERMITS take twice as long as the last one with TMWATCH_STEPS.
 
-STEPS WITHOUT PAUSES. You need not place TMWATCH_PAUSE if you compile the memory with -fsanitize=thread, and link without that option but
-with libtmwatch_steps.a first. Then each atomic access is a step, and with plan.plain every other access too. plan.orders chooses the memory
-model. With TMWATCH_X86, an atomic store that is not sequentially consistent may be delayed, as in the store buffers of x86, at the latest
-until its thread yields or sleeps. With TMWATCH_CXX, an atomic load may return any value that C++20 allows; the seed chooses it. TMWATCH_ALL
-uses each of these two in one of four phases with steps. Stores to a thread's own bytes (its stack and `tx`) are never delayed. Stores to a
-block of the heap are delayed only if the program is linked with the options of tmwatch_steps, because the bench has to see when the block
-is freed. The bench does not see the accesses of inline assembly, or of code that was compiled without -fsanitize=thread.
+STEPS WITHOUT PAUSES. You need not place TMWATCH_PAUSE if you compile the memory with -fsanitize=thread, and link without that option but with
+libtmwatch_steps.a first. Then each atomic access is a step, and with plan.plain every other access too. plan.orders chooses the memory model.
+With TMWATCH_X86, an atomic store that is not sequentially consistent may be delayed, as in the store buffers of x86, at most until the answer
+of its call is recorded, or its thread yields, sleeps or waits. With TMWATCH_CXX, an atomic load may return any value that C++20 allows; the
+seed chooses it. TMWATCH_ALL uses each of these two in one of four phases with steps. Stores to a thread's own bytes (its stack and `tx`) are
+never delayed. Stores to a block of the heap are delayed only if the program is linked with the options of tmwatch_steps, because the bench has
+to see when the block is freed. The bench does not see the accesses of inline assembly, or of code that was compiled without -fsanitize=thread.
 
 RECORDING. The bench records a call before it calls the memory, and the answer after the memory has returned. The first call of a
 transaction is recorded before the memory begins the transaction. All events are recorded with tmwatch_record_next_call and
 tmwatch_record_answer, so no record is malformed. No two writes have the same value, and values use all 64 bits. A register is read before
 it is written, except in blind transactions, which only write. An addend is any number below 2^64 - 1.
 
-AUDITS. An audit is a transaction that reads all registers while no other thread runs one. The bench makes one at the beginning, after each
-64th round and at the end; with TMWATCH_PERMITS, some time after each 512 attempts and at the end. If attempts to write a register were
-rolled back since the last audit, and none committed, the bench first writes that register, in a transaction that runs by itself too. If
-such a transaction is rolled back, it is retried for plan.timeout seconds, up to tens of thousands of times. Then the
-status is TMWATCH_NO_PROGRESS.
+AUDITS. An audit is a transaction that reads all registers while no other thread runs one. The bench makes one at the beginning and end of each
+phase, and after each 64th round; with TMWATCH_PERMITS, some time after each 512 attempts instead. If attempts to write a register were rolled
+back since the last audit, and none committed, the bench first writes that register, in a transaction that runs by itself too. If such a
+transaction is rolled back, it is retried for plan.timeout seconds, up to tens of thousands of times. Then the status is TMWATCH_NO_PROGRESS.
 
 The program has the following duties, in addition to those of tmwatch.h. The bench checks none of them:
 
-1. The memory has registers of 64 bits (with plan.small, fewer suffice) with the initial values plan.start, and nothing else uses it while
-   the bench runs.
+1. The memory has eight registers of 64 bits with the initial values plan.start, and nothing else uses it while the bench runs. Fewer
+   registers suffice if plan.registers is their number, and fewer bits with plan.small.
 2. All threads may call its functions at the same time, each with its own `tx`.
-3. Each of its functions returns, unless it calls tmwatch_bench_fail, and throws no exception. The only other functions of the bench that it
-   calls are tmwatch_begin_attempt, tmwatch_run_body, tmwatch_thread, tmwatch_pause, tmwatch_external_call, tmwatch_external_blocked and
-   tmwatch_bench_crash.
+3. Each of its functions returns, unless it calls tmwatch_bench_fail, or jumps from `read`, `write` or `add` back into `run` with longjmp. None
+   throws an exception to the bench. The only other functions of the bench that they call are tmwatch_begin_attempt, tmwatch_run_body,
+   tmwatch_thread, tmwatch_pause, tmwatch_external_call, tmwatch_external_blocked and tmwatch_bench_crash.
 4. With TMWATCH_PERMITS, tmwatch_begin_attempt may wait until attempts of other threads have ended. So when `run` calls it, the thread holds
    no lock that these may wait for.
 */
@@ -100,7 +99,8 @@ no other function is called for it. `abort` rolls back.
 A memory that retries a transaction itself, with longjmp or in a loop, has `run` instead of `begin`, `commit` and `abort`. `run` calls
 tmwatch_begin_attempt(attempt) before the memory begins an attempt, and after a rollback again, before the next one. If that returns false,
 `run` begins no attempt, and returns false. Within the attempt, it calls tmwatch_run_body(attempt) once, which calls `read`, `write` and
-`add`. If that returns true, `run` commits; otherwise it aborts. `run` returns whether the transaction committed.
+`add`. If that returns true, `run` commits. If it returns false, because `read`, `write` or `add` returned false or because the transaction
+requests an abort, `run` rolls back, unless that has already been done. `run` returns whether the transaction committed.
 */
 typedef struct tmwatch_memory {
     void *memory; /* passed to each function as `memory` */
@@ -119,7 +119,7 @@ enum tmwatch_schedule {
     TMWATCH_ROUNDS = 0,  /* in rounds, each thread with its share of at most eight attempts */
     TMWATCH_PERMITS = 1, /* freely, each attempt with one of eight permits */
     TMWATCH_STEPS = 2,   /* in rounds, one thread at a time, which the seed chooses at each step */
-    TMWATCH_ALL = 3      /* in phases, most of them with TMWATCH_STEPS, the others with each of these */
+    TMWATCH_ALL = 3      /* in phases, most of them with TMWATCH_STEPS, the others with TMWATCH_ROUNDS or TMWATCH_PERMITS */
 };
 
 /* The memory model for atomic accesses, if the memory is compiled for libtmwatch_steps.a. */
@@ -138,15 +138,15 @@ typedef struct tmwatch_plan {
     uint64_t seed;         /* of the random transactions, pauses and steps */
     uint64_t threads;      /* ** (4) 1 to 8 */
     uint64_t registers;    /* ** (3) 1 to 8 */
-    uint64_t accesses;     /* ** (3) number of registers that a transaction accesses: it reads each, reads and writes it, or adds to it; 1 to
-                              16 */
+    uint64_t accesses;     /* ** (3) number of accesses of a transaction, each to a random register, which may repeat: a read, a read and then
+                              a write, or an add; 1 to 16 */
     uint64_t attempts;     /* maximum number of attempts of each transaction, where threads * attempts is at most 8; 0: as many as that
                               allows. With TMWATCH_PERMITS: any number; 0: no maximum */
     uint64_t writes;       /* ** (50) percentage of the registers read that are written afterwards */
     uint64_t adds;         /* ** (20) percentage of accesses that add instead, if the memory has `add` */
     uint64_t aborts;       /* ** (12) percentage of transactions that request an abort at their end */
-    uint64_t pause;        /* ** (100) before and after a call, one time in two, a thread waits for a random number of iterations of a loop,
-                              which is below this; at most 2^20; 0: never */
+    uint64_t pause;        /* ** (100) without TMWATCH_STEPS: before and after a call, with a chance of one half, a thread spins for a random
+                              number of iterations below this; at most 2^20; 0: never */
     uint64_t seconds;      /* no round, or with TMWATCH_PERMITS no attempt, begins after this many seconds; 0: no limit of time */
     uint64_t schedule;     /* a tmwatch_schedule */
     uint64_t start[8];     /* initial values of the registers */
@@ -158,15 +158,15 @@ typedef struct tmwatch_plan {
     uint64_t orders;       /* ** (0) a tmwatch_orders; others than TMWATCH_SEQUENTIAL need TMWATCH_STEPS, or apply to such phases of
                               TMWATCH_ALL */
     uint64_t plain;        /* 1: plain accesses are steps too (libtmwatch_steps.a); or 0 */
-    uint64_t timeout;      /* the run is given up after this many seconds without an event (more under load), or of an audit that is rolled
-                              back; 0: never */
+    uint64_t timeout;      /* the run ends after this many seconds without an event (more under load), or if a transaction of an audit has
+                              been rolled back for that long; 0: never */
     FILE *progress;        /* or null: a line of progress is written here twice a second */
     uint64_t blind_writes; /* ** (10) percentage of transactions that only write, unless `writes` is 0 */
     uint64_t event;        /* with `round`: tmwatch_breakpoint is called before this event of the round instead; 0: before the round */
     FILE *phases_file;     /* or null: the options of each phase are written here, a line each */
-    FILE *steps_file;      /* or null: the steps of the wrong round are listed here: the number of its events before the step, the thread,
-                              and the address in its program or library, with the library's name. If a delayed load would violate the run
-                              (result->delayed), that trace is written instead */
+    FILE *steps_file;      /* or null: a line for each step of the wrong round is written here: how many events of the round precede it, the
+                              thread, the address of the step in the program or library, and the library's name. If result->delayed is
+                              not empty, the trace with the delayed load is written instead */
     uint64_t races;        /* 1: a data race is wrong, like a violation; or 0 */
     uint64_t small;        /* 1: values are small, and addends below 2^16, for registers of fewer than 64 bits; or 0 */
     uint64_t keep_going;   /* 1: a phase continues after a violation, for a caller that records the whole run; or 0 */
@@ -187,9 +187,10 @@ enum { TMWATCH_MAX_STALE_LOADS = 4096, TMWATCH_MAX_RACE = 1024 };
 
 /* Bits: synchronization that the bench cannot observe. */
 enum tmwatch_untracked {
-    TMWATCH_UNTRACKED_STORES = 1, /* unmarked code, or a thread that isn't the bench's, stores to what marked code loads */
-    TMWATCH_UNTRACKED_LOCKS = 2,  /* a lock or a wait of unmarked code, whose instructions leave no orders but sequential ones; or one that
-                                     the linker would have to wrap */
+    TMWATCH_UNTRACKED_STORES = 1, /* code compiled without -fsanitize=thread, or a thread that isn't the bench's, stores to locations that the
+                                     memory's own code loads */
+    TMWATCH_UNTRACKED_LOCKS = 2,  /* the linker did not wrap a lock; or the memory's functions contain an instruction that locks or is a fence,
+                                     so all phases are sequentially consistent */
     TMWATCH_UNTRACKED_WAITS = 4,  /* a thread was blocked: result->stalls */
     TMWATCH_UNTRACKED_BLOCKS = 8  /* stores to blocks of the heap weren't delayed, since nothing shows when these are freed */
 };
@@ -205,16 +206,17 @@ typedef struct tmwatch_bench_result {
     uint64_t rounds;       /* number of rounds that were run, with TMWATCH_STEPS up to the wrong one; with TMWATCH_PERMITS, the least number of
                               transactions that a thread began */
     uint64_t skipped;      /* number of events before the trace, if one was written */
-    uint64_t max_interleaved_commits; /* the most commits of other threads during one attempt, at least */
+    uint64_t max_interleaved_commits; /* a lower bound of the largest number of commits of other threads during one attempt */
     uint64_t stores;                  /* number of recorded writes and adds */
-    uint64_t steps;                   /* with TMWATCH_STEPS: number of steps, at which the scheduler could switch, */
-    uint64_t context_switches;        /* of context switches, */
-    uint64_t stalls;                  /* and of stalls: a thread was blocked, so another one ran too, or its delayed stores were made. If
-                                         there are any, the run may not be reproducible */
-    uint64_t waits;                   /* number of waits in tmwatch_external_blocked: if there are any, likewise */
-    uint64_t crashes;                 /* number of crashes of the memory: if there are any, likewise */
-    tmwatch_plan reproducer;          /* a plan that reproduces the end of the run; */
-    bool is_deterministic;            /* it is deterministic, unless the memory's behaviour depends on time, addresses or chance */
+    uint64_t steps;                   /* with TMWATCH_STEPS: number of steps, at which the scheduler could switch */
+    uint64_t context_switches;        /* with TMWATCH_STEPS: number of context switches */
+    uint64_t stalls;                  /* with TMWATCH_STEPS: number of stalls: a thread was blocked, so another one ran too, or its delayed
+                                         stores were made. If above 0, the run may not be reproducible */
+    uint64_t waits;                   /* number of waits in tmwatch_external_blocked. If above 0, the run may not be reproducible */
+    uint64_t crashes;                 /* number of crashes of the memory. If above 0, the run may not be reproducible */
+    tmwatch_plan reproducer;          /* a plan that reproduces the end of the run */
+    bool is_deterministic;            /* the reproducer gives the same run each time, unless the memory's behaviour depends on time, addresses
+                                         or chance */
     uint64_t event;                   /* with TMWATCH_STEPS: number of the wrong event within its round, from 1 */
     uint64_t solo_rollbacks;          /* if the memory makes no progress: how many times a transaction that ran by itself was rolled back;
                                          or 0 */
@@ -250,16 +252,17 @@ It returns the first of these statuses that applies:
 - TMWATCH_WRONG_PHASE: `run` called tmwatch_run_body twice in one attempt.
 - TMWATCH_HANG: no event was recorded for plan.timeout seconds. Standard error then reports where each thread is. The threads keep running,
   so neither they nor the memory that they use is freed.
-- TMWATCH_FAILED: the same, after tmwatch_bench_fail.
-- TMWATCH_INTERRUPTED: the same, because no event was recorded for half a second that ended after tmwatch_bench_stop. This says nothing about
-  the memory's progress: *result is as after TMWATCH_OK, and result->stale_loads says where each thread is.
+- TMWATCH_FAILED: the memory called tmwatch_bench_fail. Standard error has its `why`. The threads keep running, as after TMWATCH_HANG.
+- TMWATCH_INTERRUPTED: tmwatch_bench_stop was called, but no event was recorded for half a second. The threads keep running, as after
+  TMWATCH_HANG. Because this is no evidence about the memory's progress, *result is as after TMWATCH_OK; result->stale_loads names the function
+  that each thread is in.
 - TMWATCH_NO_PROGRESS: nothing was wrong, but a transaction of an audit was rolled back again and again. Standard error reports which one.
 - TMWATCH_OK, or any other status that the watch returned.
 
-*result is changed only by TMWATCH_OK, TMWATCH_HANG, TMWATCH_FAILED, TMWATCH_INTERRUPTED and TMWATCH_NO_PROGRESS.
+*result is changed only if the function returns TMWATCH_OK, TMWATCH_HANG, TMWATCH_FAILED, TMWATCH_INTERRUPTED or TMWATCH_NO_PROGRESS.
 
-The trace ends with the event at length `at`; if nothing is wrong, with the last event, or with the first attempts of the transaction that was
-rolled back again and again. If something is wrong, it begins after the last audit before that, whose values are its initial state. Otherwise
+The trace ends with event number `at`; if nothing is wrong, with the last event, or with the first attempts of the transaction that was rolled
+back again and again. If something is wrong, it begins after the last audit before that event, whose values are its initial state. Otherwise
 it begins with the phase, or with the earliest audit among the last 131,072 events. Its own `at` is that of the run minus result->skipped.
 
 Allocates some 3 MiB and the memory of a watch, and frees them before it returns. With TMWATCH_CXX it forks a child process before the run, and
@@ -267,7 +270,7 @@ waits for it after the run; delayed loads are searched for there.
 */
 TMWATCH_NODISCARD uint32_t tmwatch_bench(const tmwatch_memory *memory, const tmwatch_plan *plan, tmwatch_bench_result *result);
 
-/* Called by `run`, as tmwatch_memory says. */
+/* Called by `run`, as described at tmwatch_memory. */
 TMWATCH_PURE bool tmwatch_begin_attempt(tmwatch_attempt *attempt);
 TMWATCH_PURE bool tmwatch_run_body(tmwatch_attempt *attempt);
 
@@ -276,8 +279,9 @@ Prints lines of JSON to `file` (docs/FORMATS.md): the report, as `tmwatch judge`
 --summary` prints them; and, if something is wrong, the options that reproduce it. These are marked as deterministic only if the plan has no
 initial values of its own.
 
-Then prints to standard error, if something is wrong, the options again and those of the phase, and whether the very first transaction is
-wrong, which points to other initial values; if nothing is wrong, why the run cannot show much; and untracked synchronization.
+Then prints to standard error: if something is wrong, the options again, those of the phase, and a hint if the first transaction is wrong,
+because then the registers probably have other initial values; if nothing is wrong, which conditions the run did not test; and in both cases
+untracked synchronization.
 */
 void tmwatch_bench_print(FILE *file, const tmwatch_bench_result *result);
 
@@ -287,19 +291,20 @@ void tmwatch_bench_print_options(FILE *file, const tmwatch_plan *plan);
 /* Prints the options of tmwatch_bench_main, a line each, under headings. The first heading, "What to run:", is left to the caller. */
 void tmwatch_bench_print_help(FILE *file);
 
-/* Pauses a thread of a bench as before and after a call. With TMWATCH_STEPS, the scheduler may switch to another thread here. In any other
-   thread it does nothing. */
+/* Pauses a thread of a bench as before and after a call. With TMWATCH_STEPS, the scheduler may switch to another thread here. Does nothing in a
+   thread that is not a bench's. */
 TMWATCH_PURE void tmwatch_pause(void);
 
 /*
-For a memory that sends requests to another process. Its functions report with these calls where their thread is, until the thread's next
-step, which follows when the function has returned. With such a memory, threads sleep while they wait for one another between rounds.
+For a memory that sends requests to another process. With these calls, its functions report that their thread waits for that process. The
+report holds until the thread's next step, after the function returned. With such a memory, threads sleep while they wait for one another
+between rounds.
 
 tmwatch_external_call: the thread sends a request, so the scheduler does not stall, however long that takes. Returns whether TMWATCH_STEPS
 schedules this thread among others (not so during an audit).
 
-tmwatch_external_blocked: another thread's transaction blocks the request. The other threads continue, and no random choice is made for this
-one. Does nothing in a thread for which tmwatch_external_call returns false.
+tmwatch_external_blocked: another thread's transaction blocks the request. The other threads continue, and the scheduler does not pick this one
+until its next step. Does nothing in a thread for which tmwatch_external_call returns false.
 */
 TMWATCH_PURE bool tmwatch_external_call(void);
 TMWATCH_PURE void tmwatch_external_blocked(void);
@@ -324,8 +329,8 @@ void tmwatch_bench_crash(void (*restart)(void *memory));
    stop there. The first audit belongs to round 1. */
 void tmwatch_breakpoint(void);
 
-/* A step. Put it into the memory wherever other threads may run between two of its steps, if that is under test. It compiles to nothing unless
-   TMWATCH_PAUSES is defined before this header, for example with the compiler's -DTMWATCH_PAUSES. */
+/* A step. Put it into the memory between two accesses of shared data if other threads may run in between, and into loops that wait. It compiles
+   to nothing unless TMWATCH_PAUSES is defined before this header, for example with the compiler's -DTMWATCH_PAUSES. */
 #ifdef TMWATCH_PAUSES
 #define TMWATCH_PAUSE() tmwatch_pause()
 #else
@@ -334,8 +339,9 @@ void tmwatch_breakpoint(void);
 
 /*
 Runs the bench with the options of a command line, and prints the result. Returns the exit status of `tmwatch judge`: the number of the
-verdict, or 4 if an option is wrong, an allocation failed, the memory failed, hung or made no progress, or a file cannot be written. Standard
-error then gives the reason. --help and --version, if given by themselves, print their text and return 0. The memory's registers are 0 at first.
+verdict (with --races fail, 1 also for a data race), or 4 if an option is wrong, an allocation failed, the memory failed, hung or made no
+progress, or a file cannot be written. Standard error then gives the reason. --help and --version, if given by themselves, print their text
+and return 0. The memory's registers must be 0 at first.
 
 A file with .report after the name of the trace receives the printed result and the options; one with .steps, the steps of the wrong round; one
 with .delayed, the trace with a delayed load.
@@ -352,18 +358,20 @@ int tmwatch_bench_main(const tmwatch_memory *memory, int count, char **words);
 bool tmwatch_bench_open_standard(void);
 
 /*
+A program defines this function if it creates a new memory in each process. It is called before the run in each process that runs the memory,
+with the number of the job. If it returns false, that process ends.
+
 With several jobs, or to shrink a run, tmwatch_bench_main runs the memory in child processes. They are forked from this one, so that its own
-memory is unchanged. It does not fork if there are other threads, a debugger, or shared bytes, files or sockets that may be written. A program
-that creates a new memory in each process defines this function; shared bytes and files do not matter then. It is called before the run in
-each process that runs the memory, with the number of the job. If it returns false, that process ends.
+memory is unchanged. It does not fork if there are other threads, a debugger, or, unless the program defines this function, shared bytes,
+files or sockets that may be written.
 */
 bool tmwatch_bench_job(unsigned job, const tmwatch_plan *plan);
 
 /*
 A program whose memory is in another process defines this function, too. It returns whether that process computes or waits for a disk now.
-Only a tenth of such time counts for plan.timeout. A violation is then deterministic only if a second run, in a process of its own, has
-reproduced it. The trace of any other violation is written to tmwatch-bench.trace, or if that file exists, to one with the next number, unless
-another file gets it.
+Only a tenth of such time counts for plan.timeout. A violation is then reported as deterministic only if a second run, in a process of its own,
+has reproduced it. The trace of any other violation is written to tmwatch-bench.trace, or if that file exists, to one with the next number,
+unless --trace names a file.
 */
 bool tmwatch_bench_computes(void);
 
