@@ -166,6 +166,8 @@ static bool start_jobs(tmwatch_plan *plan, unsigned count, bool makes_smaller)
     if (shared == MAP_FAILED)
         return true;
     jobs = shared;
+    if (alone.is_interrupted) /* (a signal came before) */
+        jobs->is_interrupted = true;
     jobs->count = count;
     jobs->began = microseconds_of(CLOCK_MONOTONIC);
     jobs->makes_smaller = makes_smaller;
@@ -219,10 +221,12 @@ static struct job *find_ended(void)
 static struct job *await_teller(FILE *progress)
 {
     struct job *found;
-    for (unsigned looks = 1; !(found = find_ended()); looks++) {
-        if (progress && jobs->teller == 0 && looks % (SHOWN_EACH / LOOK_AFTER) == 0)
-            show_progress(progress);
-        nap(LOOK_AFTER);
+    uint64_t shown = microseconds_of(CLOCK_MONOTONIC);
+    for (; !(found = find_ended()); nap(LOOK_AFTER)) {
+        if (!progress || jobs->teller > 0 || microseconds_of(CLOCK_MONOTONIC) - shown < SHOWN_EACH)
+            continue;
+        show_progress(progress);
+        shown = microseconds_of(CLOCK_MONOTONIC);
     }
     for (unsigned i = 0; i < jobs->count; i++)
         if (&jobs->job[i] != found)
