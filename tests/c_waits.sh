@@ -27,16 +27,11 @@ marked() {
     ends "$1 is linked" 0 "$3" -pthread -o "$folder/$1" "$folder/memory.o" "${wraps[@]}" "${bench[@]}"
 }
 
-# The locks that the bench sees. A program takes one by its name in LOCK. If that waits for a thread of the memory's own, as with BARRIER, one
-# run of three has to be right, because a busy machine may have that thread wait for longer than the watchdog allows.
-is_right() {
-    LOCK=$1 "$folder/$2" --rounds "$rounds" --seed 3 "${@:3}" >"$folder/printed" && grep -q '"rescues":0,' "$folder/printed" &&
-        ! grep '"race"\|"unseen"' "$folder/printed"
-}
+# The locks that the bench sees. A program takes one by its name in LOCK.
 stays_right() {
-    local lock=$1 program=$2 orders try is_done
+    local orders
     for orders in '' 'x86' 'c++'; do
-        LOCK=$lock "$folder/$program" --rounds "$rounds" --seed 3 ${orders:+--schedule steps --orders "$orders"} >"$folder/printed"
+        LOCK=$1 no_stall "$folder/$2" --rounds "$rounds" --seed 3 ${orders:+--schedule steps --orders "$orders"} >"$folder/printed"
         grep -q '"stalls":0,' "$folder/printed"
         if grep '"race"\|"untracked"' "$folder/printed"; then
             return 1
@@ -67,8 +62,11 @@ done
 # Right memories whose threads wait for each other by no lock: twenty seeds of each order make all rounds, with so many stalls. (A server may
 # sleep for as long as a busy machine has it wait.)
 most=$((rounds < 150 ? 20 * rounds : 3000))
+export folder
+export -f no_stall
 twenty_seeds() {
-    seq 20 | xargs -P 4 -I {} "$folder/$1" --schedule steps --orders "$2" --threads 2 --rounds "$most" --seed {} >"$folder/printed" 2>&1 || true
+    seq 20 | xargs -P 4 -I {} bash -c 'folder=$(mktemp -d -p "$folder") && no_stall "$@"' no_stall "$folder/$1" --schedule steps --orders "$2" \
+        --threads 2 --rounds "$most" --seed {} >"$folder/printed" 2>&1 || true
     [ "$(grep -c "\"rounds\":${most},\"stalls\":$3," "$folder/printed")" -eq 20 ] || { cat "$folder/printed" && return 1; }
     [ "$(grep -c '"verdict":"opaque so far"' "$folder/printed")" -eq 20 ] || { cat "$folder/printed" && return 1; }
 }
@@ -97,7 +95,7 @@ stays_opaque() {
     local program=$1 seeds=$2 unseen=$3 orders seed
     for orders in sequential x86 c++; do
         for ((seed = 1; seed <= seeds; seed++)); do
-            "$folder/$program" --schedule steps --orders "$orders" --rounds 3000 --seed "$seed" >"$folder/printed" 2>"$folder/said"
+            no_stall "$folder/$program" --schedule steps --orders "$orders" --rounds 3000 --seed "$seed" >"$folder/printed"
             grep -q '"stalls":0,' "$folder/printed"
             [ "$orders" != sequential ] || unseen=
             [ "$(grep -o '"untracked".*' "$folder/printed")" = "$unseen" ]

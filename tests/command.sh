@@ -477,9 +477,9 @@ expect_large 'an order of 100,001' '[[]]' "$(list_of 100001 0)" 4 '{"fault":"sha
 # a bad line is answered though nothing behind it has been told
 mkfifo "$folder/open"
 for text in 'opacity-trace 1 1\n0 R 01\n:{"fault":"bad line","line":2}' '~\n:{"fault":"bad header"}'; do
-    { printf %b "${text%%:*}" && sleep 5; } >"$folder/open" &
+    { printf %b "${text%%:*}" && exec sleep 600; } >"$folder/open" &
     status=0
-    timeout 4 "$program" judge <"$folder/open" >"$folder/output" || status=$?
+    timeout 300 "$program" judge <"$folder/open" >"$folder/output" || status=$?
     count "judge of an open '${text%%:*}'" "4 ${text#*:}" "$status $(cat "$folder/output")"
     kill $! 2>/dev/null || true
 done

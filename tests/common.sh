@@ -27,6 +27,30 @@ check() {
     fi
 }
 
+# Runs a program of the bench, at most five times until no thread was stalled: a busy machine may stop a thread for longer than the bench waits.
+no_stall() {
+    local status _
+    for _ in 1 2 3 4 5; do
+        status=0
+        "$@" >"$folder/unstalled" 2>&1 || status=$?
+        grep -q '"stalls":[1-9]' "$folder/unstalled" || break
+    done
+    cat "$folder/unstalled"
+    return $status
+}
+
+# The same, until no second has passed without an event, which --timeout 1 reports as a hang.
+no_hang() {
+    local status _
+    for _ in 1 2 3; do
+        status=0
+        "$@" >"$folder/unhung" 2>&1 || status=$?
+        grep -q '^hang: no event for 1 seconds' "$folder/unhung" || break
+    done
+    cat "$folder/unhung"
+    return $status
+}
+
 # Counts a row by its name, what is wanted and what came, which it prints if they differ.
 count() {
     check [ "$2" = "$3" ] || printf '%s: %s, and not %s\n' "$1" "$3" "$2"

@@ -131,7 +131,7 @@ ends 'what is found soon has the seed that was given' 0 grep -q '"reproduce":"--
 
 # How a run ends by what one job does: nothing but that is told.
 export JOB=2
-hooked=("$folder/hooked" --jobs 3 --seconds 50 --seed 4 --timeout 1)
+hooked=("$folder/hooked" --jobs 3 --seconds 50 --seed 4)
 FAULT=CRASH
 ends 'a job that dies' 139 processes '[23]' env ASAN_OPTIONS=handle_segv=0 "${hooked[@]}"
 has_told 'a job that dies: its seed' -x 'the job of --seed 2000004 was ended by signal 11 (Segmentation fault)'
@@ -165,7 +165,7 @@ signalled() {
     kill "-$signal" $!
     wait $! || status=$?
     cat "$folder/told"
-    for _ in {1..40}; do
+    for _ in {1..600}; do
         ! have_run "$(sort -u "$PROCESSES" | wc -l)" >/dev/null || return $status
         sleep 0.05
     done

@@ -25,7 +25,7 @@ registers that begin with 7; or what goes wrong at call WHEN (environment; 26), 
 #include <time.h>
 #include <unistd.h>
 
-enum { THREADS = 8, REGISTERS = 8, LATER = 12000 /* microseconds */ };
+enum { THREADS = 8, REGISTERS = 8 };
 
 struct transaction {
     bool has_seen[REGISTERS], has_kept[REGISTERS];
@@ -181,8 +181,8 @@ static void go_wrong(const char *call, const char *answer)
     let_compute();
     const char *text = text_of_wrong(call, answer);
     say(text ? text : answer);
-    if (is_wrong("more"))
-        usleep(LATER), say(answer);
+    if (is_wrong("more")) /* (once another thread has made a call) */
+        poll(&(struct pollfd){0, POLLIN, 0}, 1, -1), say(answer);
 }
 
 /* Stays when it is asked to end, with a child in a session of its own that stays too. */
