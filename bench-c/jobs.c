@@ -120,12 +120,6 @@ static bool shares_files(void)
     return shares;
 }
 
-/* Whether a process that is split off would have a memory of its own. */
-static bool can_split(void)
-{
-    return !has_tie("/proc/self/status") && !has_tie("/proc/self/maps") && (tmwatch_bench_job || !shares_files());
-}
-
 /* How many jobs run a plan: as many as are said, or, by TMWATCH_RANDOM, one for each processor by a time alone, and else one, which repeats. */
 static unsigned count_jobs(const tmwatch_plan *plan, uint64_t said)
 {
@@ -166,8 +160,7 @@ static bool start_jobs(tmwatch_plan *plan, unsigned count, bool makes_smaller)
     if (shared == MAP_FAILED)
         return true;
     jobs = shared;
-    if (alone.is_interrupted) /* (a signal came before) */
-        jobs->is_interrupted = true;
+    jobs->is_interrupted |= alone.is_interrupted; /* (a signal came before) */
     jobs->count = count;
     jobs->began = microseconds_of(CLOCK_MONOTONIC);
     jobs->makes_smaller = makes_smaller;
@@ -222,12 +215,11 @@ static struct job *await_teller(FILE *progress)
 {
     struct job *found;
     uint64_t shown = microseconds_of(CLOCK_MONOTONIC);
-    for (; !(found = find_ended()); nap(LOOK_AFTER)) {
-        if (!progress || jobs->teller > 0 || microseconds_of(CLOCK_MONOTONIC) - shown < SHOWN_EACH)
-            continue;
-        show_progress(progress);
-        shown = microseconds_of(CLOCK_MONOTONIC);
-    }
+    for (; !(found = find_ended()); nap(LOOK_AFTER))
+        if (progress && jobs->teller == 0 && microseconds_of(CLOCK_MONOTONIC) - shown >= SHOWN_EACH) {
+            show_progress(progress);
+            shown = microseconds_of(CLOCK_MONOTONIC);
+        }
     for (unsigned i = 0; i < jobs->count; i++)
         if (&jobs->job[i] != found)
             kill_job(&jobs->job[i]);

@@ -215,7 +215,9 @@ static int look_after(const tmwatch_memory *memory, struct given *given, const c
 static int run_given(const tmwatch_memory *memory, struct given *given, const char *program)
 {
     unsigned count = count_jobs(&given->plan, given->jobs);
-    bool splits = (count > 1 || given->shrink || tmwatch_bench_computes) && can_split();
+    /* (a process that is split off needs a memory of its own) */
+    bool splits = (count > 1 || given->shrink || tmwatch_bench_computes) && !has_tie("/proc/self/status") && !has_tie("/proc/self/maps") &&
+                  (tmwatch_bench_job || !shares_files());
     if (given->shrink && !splits)
         fputs("warning: --shrink has no effect in a debugger, or with other threads, shared memory or shared files\n", stderr);
     if (given->trace && !(given->plan.trace = fopen(given->trace, "w")))

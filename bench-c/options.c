@@ -108,10 +108,7 @@ static int read_words(struct given *given, char **words)
         has_rounds = has_rounds || option->to == TO(rounds);
         words += status != 0 || !option->takes[0] ? 1 : 2;
     }
-    if (plan->seconds > 0 && !has_rounds)
-        plan->rounds = UINT64_MAX;
-    if (plan->round > 0)
-        plan->rounds = plan->round;
+    plan->rounds = plan->round > 0 ? plan->round : plan->seconds > 0 && !has_rounds ? UINT64_MAX : plan->rounds;
     return status;
 }
 

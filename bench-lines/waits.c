@@ -19,12 +19,6 @@ enum { TIMES = 3, QUIET_LOOKS = 3, FORGOTTEN = 64, MOST_FILES = 64 /* of which o
 /* What answers have taken of late. */
 static atomic_uint_least64_t slow = 5 * MILLISECOND;
 
-static uint64_t longest_answer(void)
-{
-    uint64_t wait = LEAST + TIMES * slow;
-    return options.blocked_after > 0 ? options.blocked_after * MILLISECOND : wait < MOST ? wait : MOST;
-}
-
 /* Whether this thread of a process has a processor, or is to get one, or waits for a disk. */
 static bool has_processor(const char *task)
 {
@@ -102,7 +96,8 @@ bool tmwatch_bench_computes(void)
 /* Whether the answer comes before the call is taken for one that waits. */
 static bool is_answered_soon(unsigned thread, uint64_t began)
 {
-    bool is_there = is_answered(thread, began + longest_answer());
+    uint64_t longest = LEAST + TIMES * slow < MOST ? LEAST + TIMES * slow : MOST;
+    bool is_there = is_answered(thread, began + (options.blocked_after > 0 ? options.blocked_after * MILLISECOND : longest));
     for (int quiet = 0; !is_there && options.blocked_after == 0 && quiet < QUIET_LOOKS && now() - began < LONGEST;
          quiet = is_any(shared->supervisor, has_processor) ? 0 : quiet + 1)
         is_there = is_answered(thread, now() + EACH_LOOK);
