@@ -52,7 +52,7 @@ right() {
     for way in "${ways[@]}"; do
         seq -f "$way %.0f" "$seeds"
     done | xargs -P "$jobs" -L 1 bash -c 'run "$@"' run "$folder/memory" "${options[@]}" >"$folder/others"
-    sed "s/^/$name by /" "$folder/others" >&2
+    sed "s|^|$name by |" "$folder/others" >&2
     for way in "${ways[@]}"; do
         counts+=("$(printf '%10d' "$(grep -c "^$way " "$folder/others")")")
     done
