@@ -93,6 +93,8 @@ for backoff in YIELD PAUSE CPU NONE; do
 done
 # (on a busy machine a client may wait longer for the server than the watchdog allows)
 wrong='"(race|delayed)"' right 'a server' tests/c/bench_server.c -- -DBELL
+# (threads that wait for OpenMP's locks would use up the processors)
+export GOMP_SPINCOUNT=0
 for lock in SET TEST CRITICAL; do
     right "a lock of OpenMP, $lock" tests/c/bench_other_locks.c -- -fopenmp -DLOCK=$lock
 done
