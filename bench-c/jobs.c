@@ -21,7 +21,7 @@ static struct jobs {
         uint64_t seed;
         atomic_bool is_done;             /* it has nothing to tell, and `result` says what it has counted */
         atomic_uint_least64_t counts[3]; /* so far: rounds, events, unasked aborts */
-        uint64_t digest;                 /* of its trace */
+        atomic_uint_least64_t digest;    /* of its trace; benches in several threads of a process all write it */
         tmwatch_bench_result result;
     } job[MOST_JOBS];
 } alone, *jobs = &alone;
